@@ -4,10 +4,7 @@
 _pp6600_value() {
     local word=${COMP_WORDS[COMP_CWORD]}
     case ${COMP_WORDS[COMP_CWORD - 1]} in
-        --central) mapfile -t COMPREPLY < <(compgen -W '32 64 128' -- "$word") ;;
-        --reader | --printer) mapfile -t COMPREPLY < <(compgen -W '0 1 2 3 4 5 6 7 10 11 12 13' -- "$word") ;;
-        --processor | --symbols | --source) mapfile -t COMPREPLY < <(compgen -W '0 1 2 3 4 5 6 7 10 11' -- "$word") ;;
-        --history | --last | --turn | --turns | --around | --from | --to | --count) COMPREPLY=() ;;
+        # the values of options
         --deck | --panel | --program | --other-deck | --other-panel | --save) mapfile -t COMPREPLY < <(compgen -f -- "$word") ;;
         *) [[ ${COMP_WORDS[COMP_CWORD - 2]:-} == --s@(ymbols|ource) ]] || return 1
             mapfile -t COMPREPLY < <(compgen -f -- "$word") ;;

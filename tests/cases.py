@@ -1,7 +1,7 @@
-"""The stored cases of the program, which are those of tests/cases.txt and the folders of examples/.
+"""Stored cases of programs: those of files such as tests/cases.txt, and the folders of examples/.
 
-A case of tests/cases.txt begins with == and its name. Its other lines:
-  $ pp6600 WORD ..   the program's words
+A case of a file begins with == and its name. Its other lines:
+  $ PROGRAM WORD ..  the program's words, as a shell reads them
   NAME| TEXT         a line of a file that is in the folder where the program runs
   by WAY WORD ..     how it runs, if not in the plain way: a function of tests/ways.py, and its words
   > TEXT             a line of standard input
@@ -17,12 +17,13 @@ A folder of examples/ has these parts as files: args, with a word in each line, 
 import collections
 import os
 import re
+import shlex
 from typing import Dict, List, NamedTuple, Sequence, Tuple
 
 TOP = os.path.dirname(os.path.dirname(os.path.abspath(__file__)))
 EXAMPLES = os.path.join(TOP, "examples")
 PARTS = ("args", "stdin", "stdout", "stderr", "status", "how")
-OWN_LINE = re.compile(r"(== |\$ pp6600 |by |> ?|! |\? |[a-z]+\| ?|)(.*)")
+OWN_LINE = re.compile(r"(== |\$ |by |> ?|! |\? |[a-z]+\| ?|)(.*)")
 ESCAPE = re.compile(r"\{(.*?)\*([0-9]+)\}|\\x([0-9a-f]{2})|\\([rn])", re.S)
 
 
@@ -52,8 +53,12 @@ def text_of(line: str) -> str:
     """Returns the text of a line with its line feed."""
     def replaced(mark: "re.Match[str]") -> str:
         repeated, count, byte, end = mark.groups()
-        return text_of(f"{repeated}\\") * int(count) if count else chr(int(byte, 16)) if byte else {"r": "\r", "n": "\n"}[end]
+        return text_of(f"{repeated}\\") * int(count) if count else bytes.fromhex(byte).decode("utf-8", "surrogateescape") if byte else {"r": "\r", "n": "\n"}[end]
     return ESCAPE.sub(replaced, line[:-1]) if line.endswith("\\") else f"{ESCAPE.sub(replaced, line)}\n"
+
+
+def encoded(text: str) -> bytes:
+    return text.encode("utf-8", "surrogateescape")
 
 
 def stored_case(lines: Sequence[str]) -> Stored:
@@ -62,14 +67,14 @@ def stored_case(lines: Sequence[str]) -> Stored:
     for line in lines:
         mark, text = OWN_LINE.findall(line)[0]
         parts[mark.rstrip()] += text_of(text)
-    script, out, err = (parts[mark].encode("latin-1") for mark in (">", "", "!"))
-    files = {mark[:-1]: text.encode("latin-1") for mark, text in parts.items() if mark.endswith("|")}
-    return Stored(parts["=="].strip(), parts["$ pp6600"].split(), script, out, err, int(parts["?"] or "0"), parts["by"].split(), files)
+    script, out, err = (encoded(parts[mark]) for mark in (">", "", "!"))
+    files = {mark[:-1]: encoded(text) for mark, text in parts.items() if mark.endswith("|")}
+    return Stored(parts["=="].strip(), shlex.split(parts["$"])[1:], script, out, err, int(parts["?"] or "0"), parts["by"].split(), files)
 
 
-def stored() -> List[Stored]:
-    """Returns the cases of tests/cases.txt."""
-    _, *cases = re.split("^(?==)", part(os.path.join(TOP, "tests"), "cases.txt").decode(), flags=re.M)
+def stored(name: str = "cases.txt") -> List[Stored]:
+    """Returns the cases of a file of tests/, else those of the program."""
+    _, *cases = re.split("^(?==)", part(os.path.join(TOP, "tests"), name).decode(), flags=re.M)
     return [stored_case([line for line in case.split("\n") if line and line[0] != "#"]) for case in cases]
 
 

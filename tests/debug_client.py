@@ -1,19 +1,26 @@
 """A client of the debug adapter for tests: requests over pipes, and what comes back; and a test case whose messages are checked."""
 
+import contextlib
+import functools
 import glob
+import io
 import json
 import os
 import queue
 import shutil
 import subprocess
+import sys
 import tempfile
 import threading
 
 from tests.fixtures import DECK
-from tests.support import PATIENCE, PYTHON, TOP, Case, program, read, write
+from tests.support import PATIENCE, PYTHON, TOP, Case, lasting_room, program, read, write
+
+from pp6600.failure import Failure
+from pp6600.front.debug.adapter import Adapter
+from pp6600.front.debug.protocol import Wire
 
 ADAPTER = os.path.join(TOP, "tools", "debug-adapter")
-
 
 LOADER = [line for line in read("examples", "overwritten-loader", "script").splitlines() if not line.startswith("*")][:4]
 SCOPES = {name: number << 8 for number, name in enumerate(("registers", "channels", "devices", "watches", "history", "calls"), 1)}
@@ -46,19 +53,61 @@ class Refusal(Exception):
     """A request that was refused, with its message."""
 
 
+class Here:
+    """An adapter in a thread of this process, with what a client needs of a process. The folder is that of the whole process."""
+
+    def __init__(self, log, folder):
+        os.environ["PP6600"] = program()
+        self.before, self.returncode, self.stderr = os.getcwd(), None, io.BytesIO()
+        os.chdir(folder)
+        streams, ends = (sys.stdin, sys.stdout), (*os.pipe(), *os.pipe())
+        sys.stdin, self.stdin, self.stdout, sys.stdout = (os.fdopen(end, mode) for end, mode in zip(ends, ("rb", "wb", "rb", "wb")))
+        own = sys.stdin, sys.stdout
+        self.wire = Wire(log)
+        sys.stdin, sys.stdout = streams
+        for stream in own:  # the adapter has copies
+            stream.close()
+        self.thread = threading.Thread(target=self.serve, daemon=True)
+        self.thread.start()
+
+    def serve(self):
+        try:
+            with contextlib.closing(Adapter(self.wire)) as adapter:
+                adapter.serve()
+            status = 0
+        except Failure as failure:
+            self.stderr, status = io.BytesIO(f"debug-adapter: {failure}\n".encode()), 2
+        os.close(self.wire.output)
+        for stream in filter(None, (self.wire.input, self.wire.log)):
+            stream.close()
+        self.returncode = status
+
+    def poll(self):
+        return self.returncode
+
+    def wait(self, timeout):
+        self.thread.join(timeout)
+        os.chdir(self.before)
+        return self.returncode
+
+
 class Client:
     """An adapter at the other end of pipes."""
 
     def __init__(self, *words, environment=None, before=(), folder=TOP):
         """Starts an adapter; other words may come before its name."""
-        self.process = subprocess.Popen([*PYTHON, *before, ADAPTER, *words], stdin=subprocess.PIPE, cwd=folder,
-                                        stdout=subprocess.PIPE, stderr=subprocess.PIPE,
-                                        env={**os.environ, "PP6600": program(), **(environment or {})})
+        self.begin(subprocess.Popen([*PYTHON, *before, ADAPTER, *words], stdin=subprocess.PIPE, cwd=folder,
+                                    stdout=subprocess.PIPE, stderr=subprocess.PIPE,
+                                    env={**os.environ, "PP6600": program(), **(environment or {})}))
+
+    def begin(self, process):
+        self.process, self.held = process, b""
         self.seq = 0
         self.ended = None
         self.messages, self.events = queue.Queue(), []
         self.shown = []  # to the user, so far
-        threading.Thread(target=self.listen, daemon=True).start()
+        self.listener = threading.Thread(target=self.listen, daemon=True)
+        self.listener.start()
 
     def listen(self):
         while header := self.process.stdout.readline():
@@ -75,15 +124,18 @@ class Client:
             self.shown += [message["body"]["output"]] if message["event"] == "output" else []
         return message
 
-    def send(self, command, **arguments):
-        """Sends a request, and returns its number."""
+    def send(self, command, is_held=False, **arguments):
+        """Sends a request, and returns its number. One that is held is sent at once with the next one."""
         self.seq += 1
-        self.write(json.dumps({"seq": self.seq, "type": "request", "command": command, "arguments": arguments}).encode())
+        self.write(json.dumps({"seq": self.seq, "type": "request", "command": command, "arguments": arguments}).encode(), is_held)
         return self.seq
 
-    def write(self, data):
-        self.process.stdin.write(b"Content-Length: %d\r\n\r\n%s" % (len(data), data))
-        self.process.stdin.flush()
+    def write(self, data, is_held=False):
+        self.held += b"Content-Length: %d\r\n\r\n%s" % (len(data), data)
+        if not is_held:
+            self.process.stdin.write(self.held)
+            self.process.stdin.flush()
+            self.held = b""
 
     def answer(self, number):
         """Returns the body of the answer to a request."""
@@ -141,11 +193,19 @@ class Client:
             except (BrokenPipeError, ValueError):  # it has ended, or its input is closed
                 pass
         status = self.process.wait(PATIENCE)
+        self.listener.join(PATIENCE)
         said = self.said()
         for stream in (self.process.stdin, self.process.stdout, self.process.stderr):
             stream.close()
         self.ended = status, said
         return self.ended
+
+
+class OwnClient(Client):
+    """An adapter in this process."""
+
+    def __init__(self, log=None, folder=TOP):
+        self.begin(Here(log, folder))
 
 
 class DebugCase(Case):
@@ -166,7 +226,12 @@ class DebugCase(Case):
             check_by_go(text, len(messages))
 
     def client(self, *words, **how):
-        client = Client("--log", self.logs.pop(0), *words, **how)
+        return self.ending(Client("--log", self.logs.pop(0), *words, **how))
+
+    def own_client(self, folder=TOP):
+        return self.ending(OwnClient(self.logs.pop(0), folder))
+
+    def ending(self, client):
         self.addCleanup(client.end)
         return client
 
@@ -190,11 +255,16 @@ class DebugCase(Case):
         return next(int(one["value"], 8) for one in found if one["name"] == "turns")
 
 
+@functools.lru_cache(maxsize=None)
+def checker():
+    """Returns a program with which go-dap decodes each message, unknown fields refused."""
+    room = lasting_room()
+    path, made = write(os.path.join(room, "check.go"), CHECKER), os.path.join(room, "check")
+    env = {**os.environ, "GO111MODULE": "off", "GOPATH": "/usr/share/gocode", "GOCACHE": os.path.join(room, "cache"), "GOFLAGS": "-p=1"}
+    subprocess.run(["go", "build", "-o", made, path], env=env, check=True)
+    return made
+
+
 def check_by_go(text, count):
-    """Has go-dap decode each message, unknown fields refused."""
-    with tempfile.TemporaryDirectory() as room:
-        path = write(os.path.join(room, "check.go"), CHECKER)
-        env = {**os.environ, "GO111MODULE": "off", "GOPATH": "/usr/share/gocode", "GOCACHE": os.path.join(room, "cache"), "GOFLAGS": "-p=1"}
-        done = subprocess.run(["go", "run", path], input=text.encode(), env=env, stdout=subprocess.PIPE, stderr=subprocess.STDOUT,
-                              check=False)
+    done = subprocess.run([checker()], input=text.encode(), stdout=subprocess.PIPE, stderr=subprocess.STDOUT, check=False)
     assert done.stdout.decode() == f"{count}\n", done.stdout.decode()

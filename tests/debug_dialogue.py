@@ -58,7 +58,7 @@ class Dialogue:
 
     def __init__(self, client, folder):
         self.client, self.folder = client, folder
-        self.is_begun = False
+        self.is_begun, self.next_request = False, ""
         self.listings = {}  # the paths of those that have been asked for
 
     def answers(self, line):
@@ -153,10 +153,14 @@ class Dialogue:
         return self.do_stop("")
 
     def do_start(self, rest):
-        """start NAME [PROCESSOR] [ARGUMENT ..]: goes, and does not wait for the stop."""
+        """start NAME [PROCESSOR] [ARGUMENT ..]: goes, and does not wait for the stop. A pause after it comes before the first turn."""
         name, *words = shlex.split(rest)
         number = int(words.pop(0), 8) if words and words[0].isdigit() else 0
-        self.client.ask(name, threadId=number + 1, **arguments_of(words))
+        going = {"threadId": number + 1, **arguments_of(words)}
+        if self.next_request.startswith("pause"):
+            self.client.send(name, is_held=True, **going)
+        else:
+            self.client.ask(name, **going)
 
     def repeated(self, count, rest):
         """COUNT NAME ..: goes so many times, and returns where it came each time."""
@@ -323,7 +327,10 @@ def performed(client, folder, requests):
     shutil.copytree(FOLDER, folder, dirs_exist_ok=True)
     os.symlink(os.path.join(TOP, "examples"), os.path.join(folder, "examples"))
     dialogue = Dialogue(client, folder)
-    return [(request, dialogue.answers(request)) for request, _ in requests]
+    found = []
+    for (request, _), (dialogue.next_request, _) in zip(requests, [*requests[1:], ("", "")]):
+        found.append((request, dialogue.answers(request)))
+    return found
 
 
 def text_of(requests):

@@ -89,8 +89,8 @@ def word_line(seed):
     words = []
     for _ in range(chosen.randrange(1, 6)):
         kind, option, value = chosen.random(), chosen.choice(OPTIONS), chosen.choice(VALUES)
-        letters = ''.join(chosen.choice('-=d1 \n') for _ in range(chosen.randrange(1, 5)))
-        words += (chosen.choice(WORDS) if kind < .3 else [option, value] if kind < .6 else [f'{option}={value}'] if kind < .75 and 'h' not in option else
+        letters = ''.join(chosen.choice('-=dh1 \n') for _ in range(chosen.randrange(1, 5)))
+        words += (chosen.choice(WORDS) if kind < .3 else [option, value] if kind < .6 else [f'{option}={value}'] if kind < .75 else
                   [value] if kind < .9 else [letters])
     return words
 

@@ -1,6 +1,5 @@
 """What the tests of the installation, of a release and of a class share."""
 
-import atexit
 import functools
 import hashlib
 import os
@@ -8,9 +7,8 @@ import re
 import shutil
 import subprocess
 import sys
-import tempfile
 
-from tests.support import TOP, Case, Done, program, read, run, write
+from tests.support import TOP, Case, Done, lasting_room, program, read, run, write
 
 INSTALL = os.path.join(TOP, "share", "install")
 OWN, PAGES = "libexec/pp6600", "share/pp6600"  # below the prefix of an installation
@@ -83,11 +81,14 @@ def checkout(folder):
     return folder
 
 
-def lasting_room():
-    """Returns a new folder, which is removed when all tests have ended."""
-    folder = tempfile.mkdtemp(prefix="pp6600-test-")
-    atexit.register(shutil.rmtree, folder)
-    return folder
+@functools.lru_cache(maxsize=None)
+def original(kind=None, names=()):
+    """Returns a checkout that no test changes, with its packages of a kind, deb or wheel, in out if there is one."""
+    top = checkout(os.path.join(lasting_room(), "original"))
+    if kind:
+        done = alone("make", kind, cwd=top)
+        assert done == Done("".join(f"{kind}: {top}/out/{name}\n" for name in names), "", 0), done
+    return top
 
 
 @functools.lru_cache(maxsize=None)
@@ -104,3 +105,12 @@ class InstallCase(Case):
     def check_refused(self, done, said=""):
         """Checks that a command was refused: status 2 and one line, which says so."""
         self.assertEqual((2, 1, True, ""), (done.status, len(done.err.splitlines()), said in done.err, done.out), done.err)
+
+    def check_same_bytes(self, kind, names):
+        """Checks that packages have the same bytes in another clone, under another mask and in another time zone."""
+        top, another = original(kind, names), self.path("another")
+        alone("git", "clone", "-q", top, another, preexec_fn=lambda: os.umask(0o077))
+        self.assertEqual(0, alone(f"share/{kind}", "made", cwd=another, env={"TZ": "Asia/Tokyo"}).status)
+        for name in names:
+            self.assertEqual(read_bytes(top, "out", name), read_bytes(another, "made", name))
+            self.assertEqual(Done("", "", 0), alone("sha256sum", "--quiet", "-c", f"{name}.sha256", cwd=f"{another}/made"))

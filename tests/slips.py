@@ -8,7 +8,6 @@ ones. It takes some minutes. That all are found says that docs/evaluate reads th
 found: some sessions were chosen for these.
 """
 
-import functools
 import gc
 import os
 import re
@@ -86,10 +85,9 @@ def deep(task):
     return value
 
 
-@functools.lru_cache(maxsize=None)
 def definitions():
     """Returns the definitions as they are."""
-    return asking.Definitions(TOP)
+    return asking.definitions_of(TOP)
 
 
 def performed(found, words, script):

@@ -1,9 +1,11 @@
 """What the tests share: the program under test, the pages, and ways to run things."""
 
+import atexit
 import functools
 import io
 import os
 import re
+import shutil
 import signal
 import subprocess
 import sys
@@ -63,26 +65,31 @@ def tool(name, *words, script="", **how):
 
 
 def tool_here(name, *words, script=""):
-    """Runs a tool in this process, with streams of its own, at the top of the repository."""
+    """Runs a tool in this process."""
     from pp6600 import __main__ as tools
     from pp6600.shell import ending
-    streams = sys.stdin, sys.stdout, sys.stderr
-    before, folder, handler, named = sys.argv, os.getcwd(), signal.getsignal(signal.SIGINT), os.environ.get("PP6600")
+    return called(lambda: ending.run(lambda: tools.main_of(name)()), name, *words, script=script)
+
+
+def called(task, *words, script=""):
+    """Calls what a program does with these words, in this process, with streams of its own, at the top of the repository."""
+    streams, before, folder = (sys.stdin, sys.stdout, sys.stderr), sys.argv, os.getcwd()
+    handler, named, status = signal.getsignal(signal.SIGINT), os.environ.get("PP6600"), None
     made = [io.TextIOWrapper(io.BytesIO(data), encoding="utf-8", write_through=True) for data in (script.encode("latin-1"), b"", b"")]
-    sys.argv, os.environ["PP6600"] = [name, *words], program()
+    sys.argv, os.environ["PP6600"] = list(words), program()
     os.chdir(TOP)
     try:
         sys.stdin, sys.stdout, sys.stderr = made
-        ending.run(lambda: tools.main_of(name)())
+        task()
     except SystemExit as end:
-        status = end.code or 0
+        status = end.code
     finally:
         sys.stdin, sys.stdout, sys.stderr = streams
         sys.argv = before
         os.chdir(folder)
         signal.signal(signal.SIGINT, handler)
         os.environ.pop("PP6600") if named is None else os.environ.update(PP6600=named)
-    return Done(*(stream.buffer.getvalue().decode("utf-8", "replace") for stream in made[1:]), status)
+    return Done(*(stream.buffer.getvalue().decode("utf-8", "replace") for stream in made[1:]), status or 0)
 
 
 def read(*names):
@@ -98,6 +105,13 @@ def write(path, data="", mode=0o644):
         file.write(data if isinstance(data, bytes) else data.encode("utf-8"))
     os.chmod(path, mode)
     return path
+
+
+def lasting_room():
+    """Returns a new folder, which is removed when all tests have ended."""
+    folder = tempfile.mkdtemp(prefix="pp6600-test-")
+    atexit.register(shutil.rmtree, folder)
+    return folder
 
 
 class Block(NamedTuple):

@@ -252,25 +252,8 @@ class Package(Case):
         self.assertEqual({"from ...failure import Failure"}, {line for name, line in found if name == "forms.py"})
 
 
-# Each source beside a script: the processor, and the file with its words.
-SOURCES = {
-    "examples/clock/clock.pp": (0, "script"), "examples/console-display/display.pp": (0, "script"),
-    "examples/dead-start/panel.pp": (None, "panel"), "examples/magnetic-tape/copy.pp": (0, "stdin"),
-    "examples/first-steps/first-steps.pp": (0, "script"), "examples/handshake/answers.pp": (1, "script"),
-    "examples/handshake/asks.pp": (0, "script"),
-    "examples/loop/loop.pp": (0, "script"), "examples/overwritten-loader/loader.pp": (0, "script"),
-    "examples/overlay/overlay.pp": (0, "script"), "examples/print-a-page/page.pp": (0, "script"),
-    "examples/read-a-deck/reader.pp": (0, "script"), "exercises/dead-start-from-cards/ready.pp": (None, "deck"),
-    "exercises/dead-start-from-cards/solution/panel.pp": (None, "panel"), "exercises/exchange/exchange.pp": (0, "script"),
-    "exercises/exchange/solution/exchange.pp": (0, "script"), "exercises/first-program/solution/first-program.pp": (0, "script"),
-    "exercises/hanging-channel/receives.pp": (1, "script"), "exercises/hanging-channel/sends.pp": (0, "script"),
-    "exercises/list-a-deck/solution/list-a-deck.pp": (0, "script"), "exercises/loader-goes-round/loader.pp": (0, "script"),
-    "exercises/sum-of-a-table/solution/sum-of-a-table.pp": (0, "script"), "exercises/who-wrote-it/block.pp": (2, "script"),
-    "exercises/who-wrote-it/other-word.pp": (3, "script"), "exercises/who-wrote-it/word.pp": (1, "script")}
-
-
 class Sources(Case):
-    """The program of each script as a source."""
+    """The program of each script as a source beside it."""
 
     @staticmethod
     def cells_set(path, processor):
@@ -280,42 +263,40 @@ class Sources(Case):
             words = line.split()
             if words[:1] == ["STEP"]:
                 break
-            if words[:3] == ["SET", "M", str(processor)]:
+            if words[:3] == ["SET", "M", f"{processor:o}"]:
                 cells.update(enumerate((int(word, 8) for word in words[4:]), int(words[3], 8)))
         return cells
 
     @staticmethod
-    def words_of(path):
+    def words_of(lines):
         """Returns the words of a panel or of a deck."""
-        return [int(word, 8) for line in read(path).splitlines() for word in line.partition("*")[0].split()]
+        return [int(word, 8) for line in lines for word in line.partition("*")[0].split()]
 
-    def test_all_are_here(self):
-        found = [path for folder in ("examples", "exercises") for path in glob.glob(f"{TOP}/{folder}/**/*.pp", recursive=True)]
-        self.assertEqual(set(SOURCES), {os.path.relpath(path, TOP) for path in found})
+    def processors(self, path):
+        """Returns the processors that have the words of a source in a script beside it; a panel or a deck is -1."""
+        found, folder = assembled(read(path).splitlines()), os.path.dirname(path)
+        self.assertEqual([], found.messages, path)
+        there = os.listdir(os.path.join(TOP, folder))
+        scripts = [os.path.join(folder, name) for name in ("script", "stdin") if name in there]
+        cells = {address: cell.word for address, cell in found.cells.items()}
+        numbers = {number for script in scripts for number in range(10) if self.cells_set(script, number) == cells}
+        is_words = any(name in there and self.words_of(read(folder, name).splitlines()) == self.words_of(lines_of(found, name, 0))
+                       for name in ("deck", "panel") if not numbers)
+        return numbers or ({-1} if is_words else set())
 
     def test_words(self):
-        for path, (number, name) in SOURCES.items():
-            found = assembled(read(path).splitlines())
-            beside = os.path.join(os.path.dirname(path), name)
-            with self.subTest(path):
-                self.assertEqual([], found.messages)
-                if number is not None:
-                    self.assertEqual(self.cells_set(beside, number), {address: cell.word for address, cell in found.cells.items()})
-                else:
-                    self.assertEqual(self.words_of(beside), self.words_of_source(found, name))
-
-    @staticmethod
-    def words_of_source(found, name):
-        return [int(word, 8) for line in lines_of(found, name, 0) for word in line.split()]
-
-    def test_each_script_has_one(self):
-        """Each program of a script has a source: the processors for which it sets cells before its first turn."""
+        """Each source has the words of a script, a panel or a deck, and each program of a script has a source."""
+        sources = {}
+        for path in sorted(glob.glob(f"{TOP}/ex*/**/*.pp", recursive=True)):
+            path = os.path.relpath(path, TOP)
+            sources[path] = self.processors(path)
+            self.assertNotEqual(set(), sources[path], path)
+        self.assertGreater(len(sources), 20)
         for path in sorted(glob.glob(f"{TOP}/ex*/*/script")):
             folder = os.path.relpath(os.path.dirname(path), TOP)
-            numbers = {number for number in range(10) if self.cells_set(os.path.join(folder, "script"), f"{number:o}")}
-            sources = {source[0] for name, source in SOURCES.items() if name.startswith(f"{folder}/")}
-            with self.subTest(path):
-                self.assertLessEqual(numbers, sources)
+            numbers = {number for number in range(10) if self.cells_set(path, number)}
+            found = set().union(*(own for name, own in sources.items() if name.startswith(f"{folder}/")))
+            self.assertLessEqual(numbers, found, path)
 
     def test_solutions(self):
         """A program that is a source solves its exercise, as words do."""

@@ -10,6 +10,9 @@ import unittest
 
 from tests.support import PYTHON, TOP, Case, read, run
 
+from pp6600.shell import completions
+from pp6600.shell.options import OPTIONS
+
 TOOLS = os.path.join(TOP, "tools")
 COMMANDS = [os.path.basename(path)[:-len(".py")] for path in glob.glob(os.path.join(TOOLS, "pp6600", "front", "commands", "[!_]*.py"))]
 
@@ -34,6 +37,15 @@ class Package(Case):
         scripts = re.findall(r'^pp6600-(\S+) = "pp6600.__main__:launch"$', read("pyproject.toml"), re.M)
         self.assertEqual(sorted(names), sorted(scripts))
         self.assertEqual(set(), set(COMMANDS) - set(names))
+
+    def test_options(self):
+        """The table of the simulator's options has those of docs/CONSOLE.md, and the completions of shells have each value of its own."""
+        self.assertEqual(set(OPTIONS), set(re.findall(r"`--(\w+) [A-Z]`", read("docs", "CONSOLE.md"))))
+        for shell in completions.ROWS:
+            text = completions.filled(shell, read("share", f"completion.{shell}"))
+            for name, option in OPTIONS.items():
+                self.assertRegex(text, f"{name}\\b.*{' '.join(option.values)}" if option.values else "pp6600")
+            self.assertNotIn("the values of options", text)
 
     def test_by_name(self):
         """python3 -m pp6600 NAME is tools/NAME; another name gets a line that says which there are."""

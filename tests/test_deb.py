@@ -6,47 +6,37 @@ import re
 import shutil
 import unittest
 
-from tests.installing import ANSWERED, InstallCase, alone, below, checkout, lasting_room, lost_links
-from tests.support import TOOLS, TOP, Done, program, read
+from tests.installing import ANSWERED, InstallCase, alone, below, lost_links, original
+from tests.support import TOOLS, TOP, Done, lasting_room, program, read
 
 ARCHITECTURES = ("amd64", *(["arm64"] if os.path.exists(os.path.join(TOP, "dist", "pp6600-aarch64")) else []), "all")
-NAMES = [f"pp6600_{read('VERSION').strip()}-1_{architecture}.deb" for architecture in ARCHITECTURES]
+NAMES = tuple(f"pp6600_{read('VERSION').strip()}-1_{architecture}.deb" for architecture in ARCHITECTURES)
 NAME = NAMES[0]
 NEEDED = ("dpkg", "dpkg-deb", "git", "make")
 DPKG = ("--force-not-root", "--force-depends", "--force-script-chrootless", "--log=/dev/null")
 NO_LICENCE = "No licence has been chosen yet."
 
 
-@functools.lru_cache(maxsize=None)
-def original():
-    """Returns a checkout that no test changes, with its package in out."""
-    top = checkout(os.path.join(lasting_room(), "original"))
-    done = alone("make", "deb", cwd=top)
-    assert done == Done("".join(f"deb: {top}/out/{name}\n" for name in NAMES), "", 0), done
-    return top
+def packages():
+    """Returns the folder of the packages that no test changes."""
+    return os.path.join(original("deb", NAMES), "out")
 
 
 @functools.lru_cache(maxsize=None)
 def unpacked():
     """Returns the folder with what is in the package."""
     folder = os.path.join(lasting_room(), "unpacked")
-    alone("dpkg-deb", "-R", f"{original()}/out/{NAME}", folder)
+    alone("dpkg-deb", "-R", f"{packages()}/{NAME}", folder)
     return folder
 
 
 @unittest.skipUnless(all(map(shutil.which, NEEDED)), f"one of {', '.join(NEEDED)} is not here: no package for Debian is made")
 class Package(InstallCase):
     def test_same_bytes(self):
-        """In another clone, under another mask and in another time zone."""
-        top = self.path("another")
-        alone("git", "clone", "-q", original(), top, preexec_fn=lambda: os.umask(0o077))
-        self.assertEqual(0, alone("share/deb", "made", cwd=top, env={"TZ": "Asia/Tokyo"}).status)
-        for name in NAMES:
-            self.assertEqual(Done("", "", 0), alone("cmp", f"{original()}/out/{name}", f"{top}/made/{name}"))
-            self.assertEqual(Done("", "", 0), alone("sha256sum", "--quiet", "-c", f"{name}.sha256", cwd=f"{top}/made"))
+        self.check_same_bytes("deb", NAMES)
 
     def test_refused(self):
-        self.check_refused(alone("share/deb", "--bogus", cwd=original()), "give FOLDER")
+        self.check_refused(alone("share/deb", "--bogus", cwd=original("deb", NAMES)), "give FOLDER")
 
     def test_what_is_there(self):
         there = below(unpacked())
@@ -58,7 +48,7 @@ class Package(InstallCase):
         self.assertIn("usr/share/pp6600/exercises/grade", there)
         self.assertEqual([], lost_links(unpacked()))
         self.assertEqual(Done("", "", 0), alone("md5sum", "--quiet", "-c", "DEBIAN/md5sums", cwd=unpacked()))
-        listed = alone("dpkg-deb", "-c", f"{original()}/out/{NAME}").out.splitlines()
+        listed = alone("dpkg-deb", "-c", f"{packages()}/{NAME}").out.splitlines()
         self.assertEqual({"root/root"}, {line.split()[1] for line in listed})
         self.assertEqual([], [line for line in listed if not re.match("drwxr-xr-x|-rwxr-xr-x|-rw-r--r--|lrwxrwxrwx", line)])
 
@@ -69,7 +59,7 @@ class Package(InstallCase):
     def test_for_all_architectures(self):
         """It has the simulator in Python alone, and says so."""
         folder = self.path("unpacked")
-        alone("dpkg-deb", "-R", f"{original()}/out/{NAMES[-1]}", folder)
+        alone("dpkg-deb", "-R", f"{packages()}/{NAMES[-1]}", folder)
         self.assertIn("this package has no other", read(folder, "DEBIAN/control"))
         self.assertEqual([], [path for path in below(folder) if path.startswith("usr/libexec/pp6600/pp6600") and not path.endswith(("-python", ".cmd"))])
         done = alone(f"{folder}/usr/bin/pp6600", script="STEP 12\n")
@@ -86,7 +76,7 @@ class Package(InstallCase):
             os.makedirs(f"{root}/var/lib/dpkg/{name}")
         open(f"{root}/var/lib/dpkg/status", "w", encoding="ascii").close()
         dpkg = ("dpkg", f"--root={root}", *DPKG)
-        self.assertEqual(0, alone(*dpkg, "-i", f"{original()}/out/{NAME}").status)
+        self.assertEqual(0, alone(*dpkg, "-i", f"{packages()}/{NAME}").status)
         self.assertEqual(ANSWERED, alone(f"{root}/usr/bin/pp6600", script="STEP 12\n"))
         done = alone(f"{root}/usr/bin/pp6600-show", script="STEP 12\n", env={"PYTHONDONTWRITEBYTECODE": ""})
         self.assertEqual(("> STEP 12\nTURNS 12 SLOT 00\n", "", 0), done)
@@ -97,7 +87,7 @@ class Package(InstallCase):
 
     @unittest.skipUnless(shutil.which("lintian"), "there is no lintian here: the package is not judged by it")
     def test_lintian(self):
-        """It says nothing but that there is no licence."""
-        for name in NAMES:
-            words = ["--no-cfg", "--tag-display-limit", "0", "--allow-root", f"{original()}/out/{name}"]
-            self.assertEqual("W: pp6600: copyright-without-copyright-notice\n", alone("lintian", *words, env={"LC_ALL": "C"}).out, name)
+        """It says nothing but that there is no licence, of each package."""
+        words = ["--no-cfg", "--tag-display-limit", "0", "--allow-root", *(f"{packages()}/{name}" for name in NAMES)]
+        wanted = "W: pp6600: copyright-without-copyright-notice\n" * len(NAMES)
+        self.assertEqual(wanted, alone("lintian", *words, env={"LC_ALL": "C"}).out)

@@ -1,6 +1,5 @@
 """The debug adapter, by a client over pipes: the dialogues of tests/debug, and what these can't show."""
 
-import glob
 import json
 import os
 import signal
@@ -16,17 +15,6 @@ LOOPS = read(FOLDER, "loops").splitlines()
 PUT, FIRST, SECOND, INPUT, ROUND, COUNTED = 3, 8, 9, 11, 12, 15  # lines of counts.pp
 
 
-def child_of(parent):
-    """Returns a process that another one has started."""
-    for path in glob.glob("/proc/[0-9]*/stat"):
-        try:
-            if read(path).rpartition(") ")[2].split()[1] == str(parent):
-                return int(path.split("/")[2])
-        except OSError:  # it has ended meanwhile
-            pass
-    raise AssertionError("it has started no process")
-
-
 @unittest.skipUnless(HAS_GO, "there is no go or no go-dap: no message of a session is decoded by it")
 class Messages(DebugCase):
     def test_of_a_session(self):
@@ -38,7 +26,9 @@ class Dialogues(DebugCase):
     """The answers are those of docs/PANEL.md and docs/CONSOLE.md, and of examples/overwritten-loader."""
 
     def check(self, requests):
-        got = performed(self.client(folder=self.folder), self.folder, requests)
+        is_run_while_asked = any(request.startswith(("start", "pause")) for request, _ in requests)
+        client = self.client(folder=self.folder) if is_run_while_asked else self.own_client(self.folder)
+        got = performed(client, self.folder, requests)
         self.assertEqual(text_of(requests), text_of(got))
 
 

@@ -8,7 +8,7 @@ from tests.support import Case, program
 
 from pp6600.convert.cells import set_lines
 from pp6600.run.tape import ReplyLine
-from pp6600.front.debug.machine import MachineWithDevices
+from pp6600.front.debug.debugged import MachineWithDevices
 from pp6600.front.debug.running import Runner
 
 

@@ -7,7 +7,7 @@ import sys
 import time
 from typing import NamedTuple
 
-from tests.debug_client import SCOPES, Client
+from tests.debug_client import SCOPES, OwnClient
 from tests.generator import WATCHED, Maker
 from tests.oracle import Timeline, in_effect
 from tests.support import Case, program
@@ -267,7 +267,7 @@ class Session(Case):
         self.maker = Maker(seed, WATCHED)
         lines, self.numbers = self.maker.script(), self.maker.processors
         self.oracle = Oracle(lines)
-        self.client = Client()
+        self.client = OwnClient()
         self.addCleanup(self.client.end)
         history = chance.choice((None, 10000, 100, 50))
         self.what = f"seed {seed}, history {history}"

@@ -3,7 +3,6 @@
 import os
 import random
 import re
-from unittest import mock
 
 from tests.films import PageCase
 from tests.support import EXAMPLES, PYTHON, Case, program, read, run, tool, write
@@ -11,7 +10,6 @@ from tests.support import EXAMPLES, PYTHON, Case, program, read, run, tool, writ
 from pp6600 import Attached, Console, Failure
 from pp6600.run.device import Event
 from pp6600.shell.device_options import NAMES, device_of, script_with
-from pp6600.devices import console_display
 from pp6600.devices.card_reader import CardReader
 from pp6600.devices.console_display import ConsoleDisplay
 from pp6600.devices.line_printer import LinePrinter
@@ -255,6 +253,10 @@ class TapeFiles(Case):
 SHOW = "7710 {} 7410 14{:02o} 7310 200 6610 * 7510"  # function code, ACN, LDN count, OAM 0200, FJM *, DCN
 
 
+class FewMarks(ConsoleDisplay):
+    most_marks = 8
+
+
 class Displays(DeviceCase):
     def drawn(self, code, *words, display=None):
         """Returns a session in which these words were given after a function code."""
@@ -313,16 +315,15 @@ class Displays(DeviceCase):
 
     def test_what_is_drawn_again_and_again(self):
         """It is kept once: nothing that is seen is lost."""
-        display, chooser = ConsoleDisplay(), random.Random(2)
+        chooser = random.Random(2)
         words = [chooser.choice((0o6000, 0o6010, 0o7000, 0o7020, 0o1411, 0o1455)) for _ in range(2000)]
         pictures = []
-        for most in (8, 10000):
-            with mock.patch.object(console_display, "MOST_MARKS", most):
-                state, _ = display.function(display.start, Event("function", 0o7001, 1))
-                for turn, word in enumerate(words):
-                    state, _ = display.word(state, Event("word", word & (0o7037 if word >= 0o6000 else 0o7777), turn))
-                    state = state._replace(x=state.x % 32)
-                pictures.append((display.picture(state), state.screens[0].length))
+        for display in (FewMarks(), ConsoleDisplay()):
+            state, _ = display.function(display.start, Event("function", 0o7001, 1))
+            for turn, word in enumerate(words):
+                state, _ = display.word(state, Event("word", word & (0o7037 if word >= 0o6000 else 0o7777), turn))
+                state = state._replace(x=state.x % 32)
+            pictures.append((display.picture(state), state.screens[0].length))
         (few, few_kept), (all_of_them, kept) = pictures
         self.assertEqual(few, all_of_them)
         self.assertLess(few_kept, 17)
@@ -330,12 +331,11 @@ class Displays(DeviceCase):
 
     def test_the_newest_are_kept(self):
         """Of dots at 0 to 15 and again at 0, the 17th is one more than twice 8."""
-        display = ConsoleDisplay()
-        with mock.patch.object(console_display, "MOST_MARKS", 8):
-            state, _ = display.function(display.start, Event("function", 0o7010, 1))
-            for x in [*range(16), 0]:
-                for word in (0o6000 + x, 0o7000):
-                    state, _ = display.word(state, Event("word", word, 1))
+        display = FewMarks()
+        state, _ = display.function(display.start, Event("function", 0o7010, 1))
+        for x in [*range(16), 0]:
+            for word in (0o6000 + x, 0o7000):
+                state, _ = display.word(state, Event("word", word, 1))
         self.assertEqual({Mark(0, x) for x in (0, *range(9, 16))}, display.picture(state).screens[0])
 
     def test_keyboard(self):

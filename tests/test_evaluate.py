@@ -5,18 +5,20 @@ sessions, are performed by the definitions, by the program and by pp6600-python,
 the definitions this would find is what python3 -m tests.slips says, which takes longer.
 """
 
+import gc
 import os
 import re
+import runpy
 import shutil
 import sys
+import threading
 
 from tests import slips
-from tests.cases import named
+from tests.cases import named, stored
 from tests.generator import Maker
-from tests.support import PYTHON, TOP, Case, add_tests, names_of_codes, program, read, run, write
+from tests.support import TOP, Case, add_tests, called, names_of_codes, program, read, run, write
 
 sys.path.insert(0, os.path.join(TOP, "docs"))
-from evaluating.asking import Definitions  # noqa: E402
 from evaluating.examples import faults_of, load, worked  # noqa: E402
 from evaluating.lists import Stuck  # noqa: E402
 
@@ -27,15 +29,21 @@ CUT_SHORT = ("folder-as-deck", "folder-as-panel", "folder-as-script")  # a read 
 
 
 def evaluate(*words, script=""):
-    """Runs docs/evaluate."""
-    return run(*PYTHON, EVALUATE, *words, script=script)
+    """Runs docs/evaluate in this process."""
+    limit = sys.getrecursionlimit()
+    try:
+        return called(lambda: runpy.run_path(EVALUATE, run_name="__main__"), EVALUATE, *words, script=script)
+    finally:
+        sys.setrecursionlimit(limit)
+        threading.stack_size(0)
+        gc.enable()
 
 
 class WorkedRows(Case):
     """The worked rows, which the prover proves, hold when they are computed."""
 
     def test_rows(self):
-        definitions = Definitions(TOP)
+        definitions = slips.definitions()
         rows = [row for row in worked(TOP, definitions) if not re.match(r"\([\w ]+ : ", row[1])]  # those are about each x
         for name, text, scope in rows:
             with self.subTest(name):
@@ -83,67 +91,14 @@ add_tests(Sessions, Sessions.check, [(name, case) for name, case in named() if n
 class Command(Case):
     """The command docs/evaluate."""
 
-    def test_expressions(self):
-        self.check_rows(lambda *words: evaluate(*words).out,
-                        ("add18 0o777776 1", "0\n"),
-                        ("5 - 7", "2 ^ 5", "0\n0o40\n"),
-                        ("--text", "octal_text 0o1465 6", "001465\n"),
-                        ("octal_text 0o1465 6", 'codes "001465"\n'),
-                        ('codes "OK" ≡ codes "OK"', '[] ≡ codes "OK"', "true\nfalse\n"),
-                        ("slice_index (1 ∷ 2 ∷ []) 9", "0\n"),
-                        ("split60 0o01234567012345670123", "0o123 ∷ 0o4567 ∷ 0o123 ∷ 0o4567 ∷ 0o123 ∷ []\n"),
-                        ("turn at_rest", "over at_rest ((Place.RegP 0, 1) ∷ (Slot, 1) ∷ [])\n"),
-                        ("SetP 0 0o100", "SetP 0 0o100\n"),
-                        ("number (turn (turn at_rest)) Slot ≡ 2", "true\n"))
+    def check(self, case):
+        done = evaluate(*case.words, script=case.script.decode())
+        self.assertEqual((case.out.decode(), case.err.decode(), case.status), done)
 
     def test_steps(self):
-        """One step, and the worked row of a block that overwrites its own return address."""
-        self.assertEqual("P = 0101\nA = 000000\nM 0020 = 0000\n", evaluate("--step", "3520", "A=777777").out)
+        """The worked row of a block that overwrites its own return address."""
         steps = evaluate("--steps", "4", "6110", "7776", "A=1000", "M 10=2", "C 1000=00010002000300040005").out.splitlines()
-        self.assertEqual("1: P = 7776, Q = 0002, PHASE = 6110, M 0000 = 0101", steps[0])
-        self.assertEqual("4: P = 0004, PHASE = 0000", steps[3])
-        self.assertEqual("waits\n", evaluate("--step", "7003").out)
-        self.assertEqual("P = 0101\nM 0005 = 1111\nM 0006 = 2222\nM 0007 = 3333\nM 0010 = 4444\nM 0011 = 5555\n",
-                         evaluate("--step", "6005", "A=377777", "C 377777=11112222333344445555").out)
-
-    def test_script(self):
-        done = evaluate("--script", "--central", "32", script="SET A 0 5\nDUMP PP 0\nGO\n")
-        self.assertEqual(("OK\nPP 00 P 0000 A 000005 Q 0000 PHASE 0000 SLOT 00\nERR 01 NOT A COMMAND\n", "", 1), done)
-        self.assertEqual(("", "pp6600: BAD CHANNEL\n", 2), evaluate("--script", "--reader", "14"))
-        self.assertEqual(("", "pp6600: BAD ARGUMENTS\n", 2), evaluate("--script", "--deck"))
-        self.assertEqual(evaluate("--script", "--help"), evaluate("--script", "-help"))
-
-    def test_refusals(self):
-        """What can't be computed is said in one line."""
-        folder = self.room()
-        for *words, said in (("IsRun", "IsRun, which is a type or a relation"),
-                             ("(n : ℕ) → n ≡ n", "a statement about each or some x"),
-                             ("no_such_word 1", "no_such_word stands for nothing"),
-                             ("Missing", "Missing is one of Event.Missing, FileEvent.Missing, Found.Missing"),
-                             ("add18 1", None), ("λ x. x", "the text of a function"),
-                             ("1 +", "a text with an end in place of an expression"),
-                             ("(1", "a text with the end in place of )"),
-                             ("suc None", "an argument has another type than its definition says"),
-                             ("record {", "a text with the end in place of more"),
-                             ("--python", "IsRun", "IsRun, which is no function"),
-                             ("--python", "Place.RegP", "Place.RegP, which is no function"),
-                             ("5 / 0", "a division by 0"), ("5 % 0", "a division by 0"),
-                             ("add18 0o999 1", "0o999, which is no number"),
-                             ('codes "OK" == codes "OK"', "`==` of lists: it compares numbers, and `≡` all else"),
-                             ("--text", "at_rest", "the text of what is no list of bytes"),
-                             ("--text", "0o777 ∷ []", "the text of what is no list of bytes"),
-                             ("--step", "3520", "M 10000=5", "'M 10000=5': there is no M 10000"),
-                             ("--step", "3520", "C 400000=5", "'C 400000=5': there is no C 400000"),
-                             ("--step", "3520", "A=7777777", "'A=7777777': no number of A is 7777777"),
-                             ("--step", "3520", "S 5=4", "'S 5=4': no number of S is 4"),
-                             ("--step", "3520", "XP 0=1", "'XP 0=1': no number of XP is 1"),
-                             ("--step", "3520", "B=1", "'B=1': write an instruction word, as 3520, or a place and its number, "
-                                                       "as A=777777 or 'M 20=5'"),
-                             ("--script", folder, "a run that a failed read cuts short: IsCut says what that is, "
-                                                  "and `program` has whole runs only")):
-            with self.subTest(words):
-                wanted = ("", f"docs/evaluate: can't compute {said}\n", 2) if said else ("add18 1\n", "", 0)
-                self.assertEqual(wanted, evaluate(*words))
+        self.assertEqual(("1: P = 7776, Q = 0002, PHASE = 6110, M 0000 = 0101", "4: P = 0004, PHASE = 0000"), (steps[0], steps[3]))
 
     def test_full_output(self):
         done = run("bash", "-c", f"{EVALUATE} 1 >/dev/full; echo status $?")
@@ -196,6 +151,9 @@ class Command(Case):
         self.assertEqual([one.value for one in examples[::9]], evaluate(*(one.text for one in examples[::9])).out.splitlines())
 
 
+add_tests(Command, Command.check, [(case.name, case) for case in stored("evaluate.txt")])
+
+
 class Tables(Case):
     """The table of the instructions in docs/DEFINITIONS.md."""
 
@@ -230,15 +188,26 @@ class Examples(Case):
         found = slips.deep(lambda: faults_of(TOP, text))
         self.assertEqual([], [fault for *_, fault in planted if fault not in found])
 
+    def test_a_definition_that_cannot_be_read(self):
+        unread = slips.Slip("pp_console/Commands:back_answer", "nat_lt v.kept actions", "no_such_test v.kept actions")
+        found = slips.deep(lambda: faults_of(TOP, "", unread.plant))
+        self.assertIn("pp_console/Commands:back_answer: can't be read", found)
+
 
 class Slips(Case):
     """The slips that python3 -m tests.slips plants fit the definitions."""
 
     def test_fit(self):
-        definitions = Definitions(TOP)
+        """A slip changes one place of its definition, and uses only names that can be used there."""
+        definitions = slips.definitions()
         for slip in slips.slips():
             with self.subTest(slip.name):
-                self.assertEqual(1, definitions.named(slip.name).text.count(slip.old))
+                definition = definitions.named(slip.name)
+                text = definition.text
+                self.assertEqual(1, text.count(slip.old))
+                slip.plant(definitions)
+                definitions.kind(definitions, definition).whole()
+                definition.text = text
 
     def test_one_is_found(self):
         """The worked rows find a sum that is minus zero."""

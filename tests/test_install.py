@@ -8,8 +8,8 @@ import sys
 import unittest
 
 from tests.installing import (
-    ANSWERED, INSTALL, OWN, PAGES, InstallCase, alone, below, checkout, commit, installation, lasting_room, lost_links)
-from tests.support import TOOLS, Done, program, read, write
+    ANSWERED, INSTALL, OWN, PAGES, InstallCase, alone, below, commit, installation, lost_links, original)
+from tests.support import TOOLS, Done, lasting_room, program, read, write
 
 from pp6600.engine.choice import NAMES
 from pp6600.shell.installation import LIBRARIES, PAGE_MODULE
@@ -34,12 +34,6 @@ def bare_path(case):
         os.symlink(busybox or shutil.which(name), f"{folder}/{name}")
     os.symlink(sys.executable, f"{folder}/python3")
     return folder
-
-
-@functools.lru_cache(maxsize=None)
-def original():
-    """Returns a checkout that no test changes, but for what git does not see."""
-    return checkout(os.path.join(lasting_room(), "original"))
 
 
 @functools.lru_cache(maxsize=None)

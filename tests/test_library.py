@@ -95,6 +95,37 @@ class Machines(LibraryCase):
                 self.assertEqual(session.numbers(0, PLACES), before)
             session.close()
 
+    def test_actions_performed_again_overwrite_the_same(self):
+        """Turns undone are performed again as they were, and an operator's action too; the session is as FORWARD leaves it."""
+        for seed in range(40):
+            session, kinds = self.open(history=500, central=32768), (BUSY, WATCHING)
+            session.answer("\n".join(Maker(seed, kinds[seed % 2]).script()).encode())
+            moments = []
+            for line, places in ((b"SET A 3 1", [40963]), (b"SET M 2 7777 1 2", [8192 + 4095, 8192]), (b"SET C 5 6", [106592 + 5])):
+                moments += session.turns(20 + seed)[0]
+                olds = [(place, session.numbers(place, 1)[0]) for place in places]
+                self.assertEqual(session.answer(line + b"\n").refused, 0)
+                moments.append(library.Moment(10, olds))
+            after, counts = session.numbers(0, PLACES), session.counts()
+            with self.subTest(seed=seed):
+                self.assertTrue(session.back(len(moments)))
+                self.assertIsNone(session.again(len(moments) + 1))
+                self.assertEqual(session.counts().ahead, len(moments))
+                half = len(moments) // 2
+                self.assertEqual(session.again(half) + session.again(0) + session.again(len(moments) - half), moments)
+                self.assertEqual((session.numbers(0, PLACES), session.counts()), (after, counts))
+            session.close()
+
+    def test_a_dead_start_performed_again(self):
+        """It overwrites as many places as an action may."""
+        session = self.open(central=32768, panel=b"1405 3420 300 0 0 0 0 0 0 0 0 0\n")
+        session.answer(b"STEP 10\nDEADSTART\nSTEP 1\nBACK 2\n")
+        before = session.numbers(0, PLACES)
+        (start,) = session.again(1)
+        self.assertEqual((start.processor, len(start.olds)), (10, library.MOST_OLDS))
+        self.assertEqual(start.olds, [(place, before[place]) for place, _ in start.olds])
+        self.assertEqual(session.again(1)[0].processor, 0)
+
     def test_looks_are_the_numbers_after_each_turn(self):
         for seed in range(20):
             script = "\n".join(Maker(seed, WATCHING).script()).encode()
@@ -157,6 +188,7 @@ class WrongHands(LibraryCase):
         self.assertEqual(session.counts().kept, 0)
         self.assertFalse(session.back(1))
         self.assertFalse(session.forward(1))
+        self.assertIsNone(session.again(1))
         self.assertEqual(session.turns(0), ([], False))
 
     def test_a_closed_session(self):

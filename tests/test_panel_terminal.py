@@ -6,9 +6,10 @@ import signal
 import subprocess
 import sys
 
-from tests.fixtures import COUNTS, DECK, DISPLAYS, FAILS, LOADER, OVERWRITTEN, READS
+from tests.cases import stored
+from tests.fixtures import DECK, DISPLAYS, LOADER, OVERWRITTEN, READS
 from tests.panels import PROGRAM, PanelCase, press
-from tests.support import PYTHON, TOP, read, run, write
+from tests.support import PYTHON, TOP, add_tests, read, run, write
 from tests.terminal import PATIENCE, Terminal
 
 TOOL = [*PYTHON, os.path.join(TOP, "tools", "panel")]
@@ -199,66 +200,31 @@ class Failures(TerminalCase):
 
 
 class Talk(TerminalCase):
+    """The cases of tests/talk.txt."""
+
     TALK = [*PYTHON, os.path.join(TOP, "tools", "talk"), "--program", PROGRAM]
 
-    def talk(self, *typed, words=()):
-        """Types lines, each after a prompt, and ends it. Returns the lines on the screen and the exit status."""
-        terminal = self.terminal([*self.TALK, *words], kind="dumb", columns=132, rows=40)
-        for text in (*(f"{line}\r" for line in typed), "\x04"):
+    def check(self, case):
+        """Types lines, each after a prompt, and ends it. The terminal may show an interrupt as ^C."""
+        wanted, saved = case.out.decode(), case.files.pop("saved", None)
+        for name, data in case.files.items():
+            write(self.path(name), data)
+        os.symlink(os.path.join(TOP, "tests"), self.path("tests"))
+        terminal = self.terminal([*self.TALK, *case.words], kind="dumb", columns=132, rows=40, folder=self.folder)
+        for text in [f"{line}\r" for line in re.findall("^[0-7]+> (.+)$", wanted, re.M)] + ["\x04"]:
             self.assertIsNotNone(terminal.wait_until(lambda one: re.fullmatch("[0-7]+>", (one.lines() or [""])[-1])), terminal.lines())
             shown = len(terminal.lines())
             terminal.type(text)
             terminal.wait_until(lambda one: len(one.lines()) > shown, 1 if text == "\x04" else PATIENCE)
         status = terminal.status()
-        return terminal.lines(), status
+        shown = "".join(f"{line}\n" for line in terminal.lines()).replace("^C", "")
+        self.assertEqual((re.sub("\x03", "", wanted), case.status), (shown, status))
+        if saved is not None:
+            self.assertEqual(saved.decode(), read(self.path("saved")))
 
-    def test_first_words(self):
-        """Who asks for help or for the end as elsewhere is told how talk ends; no line is sent."""
-        told = "Ctrl-D ends. undo and redo go back and forward. Card: docs/CARD.md."
-        for typed, answer, status in (("help", [told], 0), ("?", [told], 0), ("Quit", [told], 0), (" EXIT ", [told], 0),
-                                      ("help me", ["ERR 01 NOT A COMMAND",
-                                                   "  help is no command: they are SET, STEP, BACK, FORWARD, WATCH, "
-                                                   "UNWATCH, DEADSTART and DUMP"], 1)):
-            with self.subTest(typed):
-                wanted = [f"0> {typed}".rstrip(), *answer, "0> STEP", "TURNS 1 SLOT 01", "1>"]
-                self.assertEqual((wanted, status), self.talk(typed, "STEP"))
-        done = run(*self.TALK, script="help\n")
-        self.assertEqual("> help\nERR 01 NOT A COMMAND\n", done.out, "over a pipe it is a line like any other")
+    def test_over_a_pipe(self):
+        """There help is a line like any other."""
+        self.assertEqual("> help\nERR 01 NOT A COMMAND\n", run(*self.TALK, script="help\n").out)
 
-    def test_after_a_script(self):
-        """An interrupt does nothing; the terminal may show it as ^C."""
-        lines, status = self.talk("STEP 12", "\x03SET M 0 9 1", words=[self.file("STEP 13\n")])
-        self.assertEqual(["> STEP 13", "TURNS 13 SLOT 01", "13> STEP 12", "TURNS 12 SLOT 01", "25> SET M 0 9 1", "ERR 03 NUMBER",
-                          "  word 4: 9 is not octal", "25>"], [line.replace("^C", "") for line in lines])
-        self.assertEqual(1, status)
 
-    def test_undo(self):
-        """Back without a limit, and forward again; what is lost of what is ahead is said."""
-        path = self.path("saved")
-        lines, status = self.talk("SET A 1 7", "STEP 30", "BACK 20", "undo 20", "redo 11", "FORWARD 30", "redo", "STEP 2", "undo 100",
-                                  words=("--history", "8", "--save", path))
-        self.assertEqual([
-            "0> SET A 1 7", "OK", "0> STEP 30", "TURNS 30 SLOT 04", "30> BACK 20", "ERR 07 TOO FEW KEPT",
-            "  undo goes back over the 31 actions in effect", "30> undo 20", "BACK 20 SLOT 10", "replayed", "10> redo 11",
-            "FORWARD 11 SLOT 07", "21> FORWARD 30", "ERR 16 TOO FEW AHEAD", "  redo goes over the 7 actions ahead", "21> redo",
-            "FORWARD 1 SLOT 10", "22> STEP 2", "TURNS 2 SLOT 00", "  the 6 actions ahead are discarded", "24> undo 100",
-            "ERR 07 TOO FEW KEPT", "  undo goes back over the 25 actions in effect", "24>"], lines)
-        self.assertEqual(1, status)
-        self.assertEqual(["SET A 1 7", "STEP 10", "STEP 11", "STEP 1", "STEP 2"], read(path).splitlines())
-
-    def test_it_goes_on_after_a_device_fails(self):
-        lines, status = self.talk("STEP 20", "undo", words=("--device", COUNTS, self.file(FAILS)))
-        said = "talk: function of Counts must return a state and a Reply, and returned (2, 5)"
-        self.assertEqual((["1> STEP 20", said, "1> undo", "BACK 1 SLOT 00", "0>"], 1), (lines[-5:], status))
-
-    def test_reasons(self):
-        """At a terminal a refusal has its reason, in show too."""
-        lines, _ = self.talk("SET M 0 9 1", "DUMP M 0", "SET C 100000 1", words=("--central", "32"))
-        self.assertEqual(["ERR 03 NUMBER", "  word 4: 9 is not octal"], lines[1:3])
-        self.assertEqual(["ERR 02 WORDS", "  the form is DUMP M n a b"], lines[4:6])
-        self.assertEqual(["ERR 04 RANGE", "  word 3: 100000 is not 0 to 77777"], lines[7:9])
-        show = [*PYTHON, os.path.join(TOP, "tools", "show"), "--program", PROGRAM, self.file("STEPP\n")]
-        terminal = self.terminal(show, kind="dumb")
-        self.assertEqual(1, terminal.status())
-        self.assertEqual(["> STEPP", "ERR 01 NOT A COMMAND", "  STEPP is no command; STEP is"], terminal.lines()[:3])
-        self.assertEqual("> STEPP\nERR 01 NOT A COMMAND\n", run(*show).out, "elsewhere it has not")
+add_tests(Talk, Talk.check, [(case.name, case) for case in stored("talk.txt")])

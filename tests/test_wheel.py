@@ -8,27 +8,23 @@ import sys
 import unittest
 import zipfile
 
-from tests.installing import InstallCase, alone, checkout, lasting_room, lost_links
-from tests.support import EXAMPLES, TOOLS, TOP, Done, blocks, read
+from tests.installing import InstallCase, alone, lost_links, original
+from tests.support import EXAMPLES, TOOLS, TOP, Done, blocks, lasting_room, read
 
 VERSION = read("VERSION").strip()
 DIST = os.listdir(os.path.join(TOP, "dist"))
 PLATFORMS = ("manylinux_2_17_x86_64.musllinux_1_1_x86_64" if "pp6600-static" in DIST else "manylinux_2_34_x86_64",
              *(["manylinux_2_17_aarch64.musllinux_1_1_aarch64"] if "pp6600-aarch64" in DIST else []),
              *(["win_amd64"] if "pp6600.exe" in DIST else []), "any")
-NAMES = [f"pp6600-{VERSION}-py3-none-{platform}.whl" for platform in PLATFORMS]
+NAMES = tuple(f"pp6600-{VERSION}-py3-none-{platform}.whl" for platform in PLATFORMS)
 PLATFORM, ANY = NAMES[0], NAMES[-1]
 SAID = "pp6600: the proved program does not start here; this is pp6600-python, which is not proved\n"
 SAID_BY_TOOLS = SAID.replace("the proved program does not start here", "there is no library of the proved program for this machine")
 
 
-@functools.lru_cache(maxsize=None)
-def original():
+def checkout():
     """Returns a checkout that no test changes, with its packages in out."""
-    top = checkout(os.path.join(lasting_room(), "original"))
-    done = alone("make", "wheel", cwd=top)
-    assert done == Done("".join(f"wheel: {top}/out/{name}\n" for name in NAMES), "", 0), done
-    return top
+    return original("wheel", NAMES)
 
 
 @functools.lru_cache(maxsize=None)
@@ -38,7 +34,7 @@ def environment(name):
     subprocess.run([sys.executable, "-m", "venv", folder], check=True)
     own = os.path.join(folder, "bin")
     subprocess.run([os.path.join(own, "python"), "-m", "pip", "install", "--quiet", "--no-index", "--disable-pip-version-check",
-                    os.path.join(original(), "out", name)], check=True, stdout=subprocess.DEVNULL, stderr=subprocess.DEVNULL)
+                    os.path.join(checkout(), "out", name)], check=True, stdout=subprocess.DEVNULL, stderr=subprocess.DEVNULL)
     return own
 
 
@@ -50,18 +46,12 @@ def has_needed():
 @unittest.skipUnless(has_needed(), "there is no make, no git or no ensurepip here")
 class Wheel(InstallCase):
     def test_same_bytes(self):
-        """In another clone, under another mask and in another time zone."""
-        top = self.path("another")
-        alone("git", "clone", "-q", original(), top, preexec_fn=lambda: os.umask(0o077))
-        self.assertEqual(0, alone("share/wheel", "made", cwd=top, env={"TZ": "Asia/Tokyo"}).status)
-        for name in NAMES:
-            self.assertEqual(Done("", "", 0), alone("cmp", f"{original()}/out/{name}", f"{top}/made/{name}"))
-            self.assertEqual(Done("", "", 0), alone("sha256sum", "--quiet", "-c", f"{name}.sha256", cwd=f"{top}/made"))
+        self.check_same_bytes("wheel", NAMES)
 
     def test_install_of_a_folder(self):
         """pip install . of what was unpacked without git has the proved program and the commands."""
         top, folder = self.path("another"), self.path("environment")
-        alone("git", "clone", "-q", original(), top)
+        alone("git", "clone", "-q", checkout(), top)
         shutil.rmtree(f"{top}/.git")
         subprocess.run([sys.executable, "-m", "venv", folder], check=True)
         done = alone(f"{folder}/bin/pip", "install", "--quiet", "--no-index", "--disable-pip-version-check", ".", cwd=top)
@@ -71,7 +61,7 @@ class Wheel(InstallCase):
 
     def test_refused(self):
         top = self.path("another")
-        alone("git", "clone", "-q", original(), top)
+        alone("git", "clone", "-q", checkout(), top)
         self.check_refused(alone("share/wheel", "--bogus", cwd=top), "give FOLDER")
         with open(os.path.join(top, "tools", "pp6600", "more.py"), "w", encoding="ascii"):
             self.check_refused(alone("share/wheel", cwd=top), "tools/pp6600/more.py; commit or take it away first")
@@ -90,7 +80,7 @@ class Wheel(InstallCase):
 
     def test_licence(self):
         for package in (PLATFORM, ANY):
-            with zipfile.ZipFile(f"{original()}/out/{package}") as archive:
+            with zipfile.ZipFile(f"{checkout()}/out/{package}") as archive:
                 self.assertIn("No licence has been chosen yet.\n", archive.read(f"pp6600-{VERSION}.dist-info/METADATA").decode())
 
     def test_entry_points(self):

@@ -10,7 +10,7 @@ import sys
 from tests.support import TOP, Case
 
 sys.path.insert(0, os.path.join(TOP, "docs"))
-from evaluating.asking import Definitions  # noqa: E402
+from evaluating.asking import definitions_of  # noqa: E402
 from evaluating.examples import worked  # noqa: E402
 from pp6600.engine.plain import places  # noqa: E402
 from pp6600.engine.plain.devices import printer, reader  # noqa: E402
@@ -111,7 +111,7 @@ def performed(kind, words):
 class Rows(Case):
     def test_each(self):
         tried = 0
-        for name, statement, _ in worked(TOP, Definitions(TOP)):
+        for name, statement, _ in worked(TOP, definitions_of(TOP)):
             kind, *words = parts(statement)
             done = performed(kind, words)
             if done:

@@ -43,7 +43,7 @@ enum {
     PP6600_CLOSED = 3,    /* the handle has no session */
     PP6600_OPEN = 4,      /* the handle has a session already */
     PP6600_NO_MEMORY = 5, /* memory ran out */
-    PP6600_REFUSED = 6,   /* open: the program refuses this; numbers, looks: a place that is not there; back, forward: too few actions */
+    PP6600_REFUSED = 6,   /* open: the program refuses this; numbers, looks: no such place; back, forward, again: too few actions */
     PP6600_LIMIT = 7,     /* answer: it stopped before a line past 1,000,000 lines or 268,435,456 bytes */
     PP6600_NOT_A_TURN = 8 /* not used */
 };
@@ -102,6 +102,12 @@ uint32_t pp6600_turns(pp6600 *session, uint32_t most, pp6600_turn *made, size_t 
 /* Undoes the newest actions, or performs the next ones ahead again: all of them, or none if there are too few (REFUSED). */
 uint32_t pp6600_back(pp6600 *session, uint32_t count);
 uint32_t pp6600_forward(pp6600 *session, uint32_t count);
+
+/* Performs the next `most` actions ahead again, as pp6600_forward does (DONE, or REFUSED if there are too few), without a stop at a
+ * watched place. Stops where there is no more room, as pp6600_turns does (ROOM). made[0] to made[*actions - 1] are the actions, of turns
+ * and others, and olds[0] to olds[*used - 1] the places that they overwrote. */
+uint32_t pp6600_again(pp6600 *session, uint32_t most, pp6600_turn *made, size_t made_room, pp6600_old *olds, size_t olds_room,
+    size_t *actions, size_t *used);
 
 /* Performs turns as pp6600_turns does. After each it appends the numbers at the places, 1 to 16 of them, to `into`, which has room for
  * `room` numbers. */

@@ -193,6 +193,7 @@ PLACES = {
     "pp_assembler": (790, "a source to words"),
     "pp_program": (560, "the program over a host"),
     "pp_console": (560, "answers to a script"),
+    "pp_loading": (140, "lines that load a program"),
     "pp_host": (770, "words and files"),
     "pp_command": (490, "what a line asks for"),
     "pp_trouble": (690, "what ends a run early"),
@@ -316,7 +317,7 @@ def layers():
         52 + max(rows.values()) * ROW + 44,
         title,
         [
-            lines(28, 20, LAYERS_KEY, anchor="start"),
+            lines(28, max(rows.values()) * ROW + 34, LAYERS_KEY, anchor="start"),
             text(110, 52 + ROW - 42, "only for tests", 13, True, SOFT),
             [use(rows, user, used) for user in uses for used in uses[user]],
             [crate_box(rows, crate) for crate in uses],

@@ -129,6 +129,12 @@ class Definitions:
 CUT = "a run that a failed read cuts short: IsCut says what that is, and `program` has whole runs only"
 
 
+@functools.lru_cache(maxsize=None)
+def definitions_of(top: str) -> Definitions:
+    """Returns the definitions of a checkout as they are, which are read once."""
+    return Definitions(top)
+
+
 def content(path: tuple) -> tuple:
     """Returns what a path names, if there is one."""
     try:

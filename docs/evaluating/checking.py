@@ -9,7 +9,7 @@ import tempfile
 from typing import Any, Iterator
 
 from book.names import Unresolved
-from evaluating.asking import CUT, Definitions, performed
+from evaluating.asking import CUT, Definitions, definitions_of, performed
 from evaluating.examples import FILE, faults_of, worked
 from evaluating.lists import Stuck
 from tests.cases import Stored, stored
@@ -19,7 +19,7 @@ NOT_COMPUTED = ("a statement about each or some x", CUT)
 
 def faults_of_rows(top: str) -> Iterator[str]:
     """Yields what is wrong with the worked rows."""
-    definitions = Definitions(top)
+    definitions = definitions_of(top)
     for name, text, scope in worked(top, definitions):
         try:
             if definitions.value(text, scope) is not True:
@@ -45,7 +45,7 @@ def outcome(definitions: Definitions, case: Stored) -> Any:
 
 def faults_of_cases(top: str) -> Iterator[str]:
     """Yields the cases that only run the program, and have another outcome."""
-    definitions = Definitions(top)
+    definitions = definitions_of(top)
     for case in stored():
         try:
             if not case.how and outcome(definitions, case) != (case.out, case.err, case.status):

@@ -258,8 +258,12 @@ def faults_of(top: str, text: str, change: Callable = lambda definitions: None) 
     """Returns what is wrong with the examples of a text, after it has computed each. The definitions may be changed before."""
     recorder, examples, faults = Recorder(top, change), load(text), []
     for definition in recorder.chapter:
+        own = examples.pop(definition.whole_name, [])
+        if definition not in recorder.definitions.cases:
+            faults.append(f"{definition.whole_name}: can't be read")
+            continue
         left = list(recorder.definitions.cases[definition])
-        for example in examples.pop(definition.whole_name, []):
+        for example in own:
             faults += recorder.fault(example, left)
         faults += [f"{definition.whole_name}: no line for the case {recorder.returns(case)}" for case in left]
     return faults + [f"{name}: no computable definition on the page" for name in examples]

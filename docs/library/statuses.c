@@ -18,6 +18,7 @@ int main(void) {
     SAY(pp6600_close(&s));
     SAY(pp6600_numbers(&s, 0, numbers, 1));
     SAY(pp6600_answer(&s, line, 5, text, 112, &taken, &n, &a, &b));
+    SAY(pp6600_again(&s, 1, made, 2, olds, 152, &turns, &used));
     SAY(pp6600_open(0, 32768, 10, 11, none, 0, none, 0, &s, text, 112, &n, &status));
     SAY(pp6600_open(1, 32769, 10, 11, none, 0, none, 0, &s, text, 112, &n, &status));
     SAY(pp6600_open(1, 32768, 10, 12, none, 0, none, 0, &s, text, 112, &n, &status));
@@ -38,6 +39,11 @@ int main(void) {
     SAY(pp6600_back(&s, 2));
     SAY(pp6600_back(&s, 1));
     SAY(pp6600_forward(&s, 2));
+    SAY(pp6600_again(&s, 2, made, 2, olds, 152, &turns, &used));
+    SAY(pp6600_again(&s, 1, made, 0, olds, 152, &turns, &used));
+    SAY(pp6600_again(&s, 1, made, 2, olds, 75, &turns, &used));
+    SAY(pp6600_again(&s, 1, made, 1, olds, 76, &turns, &used));
+    SAY(pp6600_again(&s, 0, made, 0, olds, 0, &turns, &used));
     SAY(pp6600_close(&s));
     SAY(pp6600_close(&s));
     return 0;

@@ -41,11 +41,13 @@ static void add_counts(pp6600 *session) {
     add(counts, sizeof counts);
 }
 
-static void add_records(pp6600 *session, uint32_t most) {
+typedef uint32_t Recording(pp6600 *, uint32_t, pp6600_turn *, size_t, pp6600_old *, size_t, size_t *, size_t *);
+
+static void add_records(pp6600 *session, Recording *record, uint32_t most) {
     static pp6600_turn made[TURNS];
     static pp6600_old olds[OLDS];
     size_t turns = 0, used = 0;
-    uint32_t status = pp6600_turns(session, most, made, TURNS, olds, OLDS, &turns, &used);
+    uint32_t status = record(session, most, made, TURNS, olds, OLDS, &turns, &used);
     add(&status, sizeof status);
     add(made, turns * sizeof *made);
     add(olds, used * sizeof *olds);
@@ -64,11 +66,13 @@ static void add_looks(pp6600 *session) {
 static void add_calls(pp6600 *session, uint32_t central) {
     add_machine(session, central);
     add_counts(session);
-    add_records(session, 3 * TURNS);
+    add_records(session, pp6600_turns, 3 * TURNS);
     uint32_t status = pp6600_back(session, 7);
     add(&status, sizeof status);
     status = pp6600_forward(session, 2);
     add(&status, sizeof status);
+    add_records(session, pp6600_again, 5);
+    add_records(session, pp6600_again, 1);
     add_looks(session);
     add_counts(session);
     add_machine(session, central);

@@ -28,6 +28,12 @@ function addMachine(session, central, sum) {
   }
 }
 
+function addRecords(sum, call) {
+  let recorded;
+  sum.status(statusOf(() => (recorded = call()).status));
+  for (const array of recorded ? [recorded.made, recorded.olds] : []) sum.add(array);
+}
+
 function addCalls(session, central, sum) {
   const addCounts = () => {
     const { kept, ahead, capacity, changed } = session.counts();
@@ -35,12 +41,11 @@ function addCalls(session, central, sum) {
   };
   addMachine(session, central, sum);
   addCounts();
-  const turns = session.turns(3 * TURNS, TURNS, OLDS);
-  sum.status(turns.status);
-  sum.add(turns.made);
-  sum.add(turns.olds);
+  addRecords(sum, () => session.turns(3 * TURNS, TURNS, OLDS));
   sum.status(statusOf(() => session.back(7)));
   sum.status(statusOf(() => session.forward(2)));
+  addRecords(sum, () => session.again(5, TURNS, OLDS));
+  addRecords(sum, () => session.again(1, TURNS, OLDS));
   const looks = session.looks(TURNS, LOOKED_AT, LOOKED_AT.length * TURNS);
   sum.status(looks.status);
   sum.add(looks.numbers);

@@ -10,8 +10,7 @@ numerals = numerals_by_value _ (search rules)
 
 both : (some all small : Bool) (number : Option ℕ) → (some ≡ true → small ≡ true → ⊥) →
     None ≡ (if (some && all) && small then number else None)
-both true true true number never = absurd (never refl refl)
-both some all small number never = refl
+both some all small number never = grind arith
 
 -- if digits do not parse, there are none, or their value is above every maximum that fits
 pub decimal_read-unparsed : {E : Type 0} (word : List ℕ) (most : ℕ) (fault : E) →

@@ -1,5 +1,5 @@
 -- Numbers that are read one after another.
-use Rattle.std.proofs.Common.{◌≡◌, ℕ, List, [], ◌∷◌, ◌++◌, refl, sym, ap, append_assoc, Result, Ok, Err, append-nil}
+use Rattle.std.proofs.Common.{◌≡◌, ℕ, List, [], ◌∷◌, ◌++◌, refl, ap, arith, Result, Ok, Err, append-nil}
 use Rattle.std.proofs.lemmas.Grind.{common_steps, elements}
 use Rattle.pp_command.specs.{declared.fault.LineFault.LineFault, Numbers.number_read, Numbers.numbers}
 use Rattle.pp_lines.specs.Results.{◌>>=◌}
@@ -10,8 +10,7 @@ with_front front read = read >>= λ values. Ok (front ++ values)
 
 front-next : (front : List ℕ) (value : ℕ) (read : Result (List ℕ) LineFault) →
     with_front front (read >>= λ values. Ok (value ∷ values)) ≡ with_front (front ++ value ∷ []) read
-front-next front value (Ok values) = ap Ok (sym (append_assoc front (value ∷ []) values))
-front-next front value (Err fault) = refl
+front-next front value read = grind (arith, common_steps)
 
 -- a word is read
 pub numbers-next : (most : ℕ) (front : List ℕ) (word : List ℕ) (others : List (List ℕ)) (value : ℕ) →

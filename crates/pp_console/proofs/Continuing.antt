@@ -1,17 +1,13 @@
 -- A script that was answered so far, and one more line.
-use Rattle.std.proofs.Common.{◌≡◌, ◌∙◌, ℕ, ◌+◌, ◌-◌, ◌<◌, ◌≤◌, ◌⊎◌, List, [], ◌∷◌, ◌++◌, Bool, true, false, ap, append-nil, arith, drop, inl, inr, length, length-append, length-drop, length-take, not, refl, sym, take, take-append-drop, take_all}
-use Rattle.std.proofs.lemmas.List.{drop_all}
-use Rattle.std.proofs.Math.Seq.{take-add}
-use Rattle.std.specs.Int.{from_bool}
-use Rattle.std.specs.Prelude.{Some, None, if◌then◌else◌}
-use Rattle.pp_console.proofs.FirstLines.{lines_apart, unfinished_apart}
-use Rattle.pp_console.proofs.Following.{outcome-line}
+use Rattle.std.proofs.Common.{◌≡◌, ◌∙◌, ℕ, ◌+◌, ◌-◌, ◌<◌, ◌≤◌, ◌⊎◌, List, [], ◌∷◌, ◌++◌, Bool, ap, arith, drop, inl, inr, length}
+use Rattle.std.proofs.Common.{length-append, length-drop, length-take, not, refl, sym, take, take-append-drop, take_all}
+use Rattle.std.proofs.{lemmas.Grind.common_steps, lemmas.List.drop_all, Math.Seq.take-add}
+use Rattle.std.specs.{Int.from_bool, Prelude.Some}
+use Rattle.pp_console.proofs.{FirstLines.lines_apart, FirstLines.unfinished_apart, Following.bool-counts, Following.outcome-line}
 use Rattle.pp_console.proofs.Prelude.{IsAt, rules, State, Value, LINE_LIMIT, BYTE_LIMIT}
-use Rattle.pp_console.specs.AnswerRoom.{line_room}
+use Rattle.pp_console.specs.{AnswerRoom.line_room, declared.answering.Answered.Answered, declared.room.Room.Room}
 use Rattle.pp_console.specs.Answering.{AnswersPart, Fits, HasSame, IsEnd, IsSameSlice, left_in}
-use Rattle.pp_console.specs.declared.answering.Answered.{Answered}
 use Rattle.pp_console.specs.Script.{answer_line, outcome, script}
-use Rattle.pp_console.specs.declared.room.Room.{Room}
 use Rattle.pp_lines.specs.Lines.{lines, unfinished}
 
 -- these bytes were answered
@@ -25,16 +21,7 @@ pub record SoFar (session : State) (room : Room) (start : Value) (bytes : List �
 pub so_far_none : (session : State) (room : Room) (start : Value) → IsAt rules session start → room.count ≡ 0 →
     SoFar session room start [] 0 0
 unfolding outcome lines
-so_far_none session room start at none = record {
-  text = rw none refl;
-  leaves = at;
-  counts_lines = refl;
-  counts_refused = refl;
-}
-
-counted : (refused : Bool) → (if refused then 1 else 0) ≡ from_bool refused
-counted true = refl
-counted false = refl
+so_far_none session room start at none = record { text = rw none refl; leaves = at; counts_lines = refl; counts_refused = refl }
 
 -- one more line
 pub so_far_more : (session later : State) (room next : Room) (start : Value) (bytes more line : List ℕ) (count refused : ℕ) (performed : Bool) →
@@ -48,31 +35,26 @@ so_far_more session later room next start bytes more line count refused performe
       text = rw (all, step) (text ∙ ap (λ xs. xs ++ (answer_line (script start bytes).value line).text) so_far.text);
       leaves = rw (all, step) at;
       counts_lines = rw (all, length-append) (ap (λ n. n + 1) so_far.counts_lines);
-      counts_refused = rw (all, step, is, counted) (ap (λ n. n + from_bool (not performed)) so_far.counts_refused);
+      counts_refused = rw (all, step, is, ← bool-counts) (ap (λ n. n + from_bool (not performed)) so_far.counts_refused);
     }
-
--- the first bytes of a text, and some more
-pub taken_more : (taken n : ℕ) (text : List ℕ) → taken ≤ length text → take (taken + n) text ≡ take taken text ++ take n (drop taken text)
-taken_more taken n text within = take-add taken n text
 
 -- the lines of a text are those of its first bytes, and the others
 pub cut_lines : (taken : ℕ) (text : List ℕ) → unfinished (take taken text) ≡ [] → lines text ≡ lines (take taken text) ++ lines (drop taken text)
 cut_lines taken text ended = ap lines (sym (take-append-drop taken text)) ∙ lines_apart (take taken text) (drop taken text) ended
 
+lines_none : lines [] ≡ []
+unfolding lines
+lines_none = refl
+
 -- the rest of a text begins with this line
 pub next_lines : (rest line : List ℕ) (n : ℕ) → lines (take n rest) ≡ line ∷ [] → (unfinished (take n rest) ≡ []) ⊎ (n ≡ length rest) →
     lines rest ≡ line ∷ lines (drop n rest)
-unfolding lines
-next_lines rest line n one (inl ended) = cut_lines n rest ended ∙ ap (λ ls. ls ++ lines (drop n rest)) one
-next_lines rest line n one (inr all) =
-    let whole : take n rest ≡ rest = take_all n rest (omega (arith, all)) in
-    let none : drop n rest ≡ [] = drop_all n rest (omega (arith, all)) in
-    rw none (rw whole at one)
+next_lines rest line n one ends =
+    grind (arith, common_steps, one, cut_lines n rest, take_all n rest, drop_all n rest, lines_none)
 
 -- while bytes are left the lines before them have ended
 pub still_open : (taken n : ℕ) (ended : List ℕ) → (ended ≡ []) ⊎ (taken ≡ n) → taken < n → ended ≡ []
-still_open taken n ended (inl opened) less = opened
-still_open taken n ended (inr all) less = absurd (omega (arith, all, less))
+still_open taken n ended either less = grind arith
 
 -- after one more line they have ended too, or no bytes are left
 pub ends_after : (typed : List ℕ) (taken n : ℕ) → taken ≤ length typed → unfinished (take taken typed) ≡ [] →
@@ -86,8 +68,7 @@ pub same_again : (first second third : Room) → IsSameSlice first second → Is
 same_again first second third a b = record { name = b.name ∙ a.name; length = b.length ∙ a.length; failures = b.failures }
 
 pub one_at_most : (b : Bool) → from_bool b ≤ 1
-one_at_most true = omega arith
-one_at_most false = omega arith
+one_at_most b = grind arith
 
 -- a line that was not performed leaves all as it was
 pub so_far_same : (session later : State) (room next : Room) (start : Value) (bytes : List ℕ) (count refused : ℕ) →
@@ -105,18 +86,13 @@ same_left room next needs same size less =
 
 pub past_next : (count taken n size : ℕ) → (count ≡ LINE_LIMIT) ⊎ (BYTE_LIMIT < taken + n) → n ≤ size + 1 →
     (count ≡ LINE_LIMIT) ⊎ (BYTE_LIMIT < taken + (size + 1))
-past_next count taken n size (inl full) short = inl full
-past_next count taken n size (inr over) short = inr (omega (arith, over, short))
+past_next count taken n size past short = grind arith
 
 -- all lines that were answered, and those that are left
 whole_lines : (taken : ℕ) (typed : List ℕ) → (unfinished (take taken typed) ≡ []) ⊎ (taken ≡ length typed) →
     lines typed ≡ lines (take taken typed) ++ lines (drop taken typed)
-unfolding lines
-whole_lines taken typed (inl ended) = cut_lines taken typed ended
-whole_lines taken typed (inr all) =
-    let whole : take taken typed ≡ typed = take_all taken typed (omega (arith, all)) in
-    let none : drop taken typed ≡ [] = drop_all taken typed (omega (arith, all)) in
-    rw (whole, none) (sym (append-nil (lines typed)))
+whole_lines taken typed ends =
+    grind (arith, common_steps, cut_lines taken typed, take_all taken typed, drop_all taken typed, lines_none)
 
 -- the result
 pub answers_part : (session : State) (room : Room) (typed : List ℕ) (start : Value) (answered : Answered) →

@@ -1,7 +1,7 @@
 -- The result of a script, at its end or at a fault.
-use Rattle.std.proofs.Common.{◌≡◌, ◌∙◌, ℕ, List, ◌++◌, length, refl, arith, inl, length-append, append_assoc, Option}
-use Rattle.pp_console.proofs.Prelude.{Written, IoFault, ReadFailed, WriteFailed, LineLimit, lines, IsWithin, LINE_LIMIT}
-use Rattle.pp_console.proofs.Prelude.{BYTE_LIMIT, State, Origin, Serves, Stops, HasEnded, Interrupts}
+use Rattle.std.proofs.Common.{◌≡◌, ◌∙◌, ℕ, List, ◌++◌, refl, arith, inl, length-append, append_assoc, Option}
+use Rattle.pp_console.proofs.Prelude.{Written, IoFault, ReadFailed, WriteFailed, LineLimit, lines, IsWithin, LINE_LIMIT, BYTE_LIMIT}
+use Rattle.pp_console.proofs.Prelude.{State, Origin, Serves, Stops, HasEnded, Interrupts}
 use Rattle.pp_lines.proofs.Limits.{finished_within-kept, finished_within-more, passed}
 use Rattle.pp_console.specs.declared.progress.Summary.{Summary}
 

@@ -1,34 +1,22 @@
 -- An answer that was written into a room, or did not fit.
-use Rattle.std.proofs.Common.{◌≡◌, ◌∙◌, ℕ, ◌+◌, ◌-◌, ◌<◌, ◌≤◌, List, [], ◌∷◌, ◌++◌, Bool, true, false, ap, arith, length, length-append, length-take, not, refl, sym, take}
-use Rattle.std.specs.Prelude.{Option, Some, None, Result, Ok, Err, IfOk, IfSome, MatchOption, MatchResult}
+use Rattle.std.proofs.Common.{◌≡◌, ◌∙◌, ℕ, ◌-◌, ◌<◌, List, [], ◌∷◌, Bool, false, ap, arith, length, length-append, length-take, not}
+use Rattle.std.proofs.Common.{refl, sym, take}
 use Rattle.std.proofs.lemmas.List.{take-append-le, take_all}
-use Rattle.pp_command.specs.declared.fault.LineFault.{LineFault}
+use Rattle.std.specs.Prelude.{Option, Some, None, Result, Ok, Err, IfOk, IfSome, MatchOption}
 use Rattle.pp_command.specs.declared.request.Request.{Request}
-use Rattle.pp_console.proofs.AnswerRooms.{answers_within}
-use Rattle.pp_console.proofs.Prelude.{IsAt, rules, Written, Ghosts, Puts, State, Value, Performs}
+use Rattle.pp_console.proofs.{AnswerRooms.answers_within, Prelude.IsAt, Prelude.rules, Prelude.State, Prelude.Value}
 use Rattle.pp_console.specs.AnswerRoom.{change_room, request_room, room_or, written_in}
 use Rattle.pp_console.specs.Answering.{Fits, HasMore, HasRoom, HasSame, IsSameSlice, Settles, left_in}
-use Rattle.pp_console.specs.Commands.{Answer, answer, present}
-use Rattle.pp_console.specs.declared.room.Room.{Room}
-use Rattle.pp_lines.specs.Device.{Counts}
-use Rattle.pp_lines.specs.Output.{Appends, AppendsPrefix, Writes}
-
--- the tail of a list
-abbrev rest_of : List ℕ → List ℕ
-rest_of [] = []
-rest_of (x ∷ xs) = xs
-
-abbrev first_of : List ℕ → ℕ
-first_of [] = 0
-first_of (x ∷ xs) = x
+use Rattle.pp_console.specs.{Commands.answer, Commands.present, declared.room.Room.Room}
+use Rattle.pp_lines.specs.{Device.Counts, Output.Appends, Output.AppendsPrefix, Output.Writes}
 
 module _ (old new : Room) (text : List ℕ) (appends : Appends (written_in old) (written_in new) text) where
   -- the text is over the same slice, and longer
   appended-name : new.bytes.ghost_name ≡ old.bytes.ghost_name
-  appended-name = ap first_of appends.1
+  appended-name = cc appends.1
 
   appended-length : length new.bytes.now ≡ length old.bytes.now
-  appended-length = ap (λ xs. first_of (rest_of xs)) appends.1
+  appended-length = cc appends.1
 
   appended-text : HasMore old new text
   appended-text = appends.0
@@ -102,8 +90,7 @@ tried old middle new text (Err fault) result none writes counts (same, bytes, co
 pub fault_fits : {E : Type 0} (old middle new : Room) (text : List ℕ) (written : Result Bool E) (result : Option Bool) →
     Tried old new text result → Settles middle new old.count written result → IfOk written (λ performed. performed ≡ false) →
     MatchOption result (HasSame old new × (left_in old < length text)) (λ performed. (performed ≡ false) × HasMore old new text)
-fault_fits old middle new text (Ok performed) result attempt (same, kept) rejected = rw same (rejected, rw same at attempt.fits)
-fault_fits old middle new text (Err fault) result attempt (same, bytes, count, failures) rejected = rw same (rw same at attempt.fits)
+fault_fits old middle new text written result attempt settles rejected = grind (arith, attempt.fits)
 
 -- a command that was tried
 command_fits : (old new : Room) (session : State) (v : Value) (request : Request) (result : Option Bool) (bound : Option ℕ) →
@@ -120,8 +107,7 @@ command_fits old new session v request None (Some most) is room attempt at refus
 
 settled_refused : {E : Type 0} (middle new : Room) (before : ℕ) (written : Result Bool E) (result : Option Bool) (refused : Bool) →
     Settles middle new before written result → IfOk written (λ performed. refused ≡ not performed) → IfSome result (λ performed. refused ≡ not performed)
-settled_refused middle new before (Ok performed) result refused (same, kept) is = rw same is
-settled_refused middle new before (Err fault) result refused (same, bytes, count, failures) is = rw same tt
+settled_refused middle new before written result refused settles is = grind arith
 
 pub command_settled : {E : Type 0} (old middle new : Room) (session : State) (v : Value) (request : Request) (written : Result Bool E)
     (result : Option Bool) → HasRoom (change_room request (present v)) (left_in old) → Tried old new (answer request v).text result →

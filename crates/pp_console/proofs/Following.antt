@@ -23,20 +23,16 @@ abbrev command_of_text : List ℕ → Result (Option Request) LineFault
 command_of_text text =
     if nat_lt 255 (length text) then Err TooLong else (if list_all is_printable text then sentence (words text) else Err NotAscii)
 
--- a line that is too long is as good as its kept prefix
-too_long : (text : List ℕ) → 255 < length text → command_of_text text ≡ Err TooLong
-too_long text h = grind (arith, nat_tests)
-
 -- the kept prefix of a line has the same answer as the line
 pub answer_line-kept : (value : Value) (line : List ℕ) → answer_line value (take KEPT line) ≡ answer_line value line
 unfolding answer_line command
 answer_line-kept value line =
-    ap (answer_parsed value) (read-kept command_of_text (Err TooLong) 255 KEPT line too_long (omega arith))
+    ap (answer_parsed value)
+    (read-kept command_of_text (Err TooLong) 255 KEPT line (λ text long. grind (arith, nat_tests)) (omega arith))
 
 -- a `bool` as a number counts a rejected line
-bool-counts : (refused : Bool) → from_bool refused ≡ (if refused then 1 else 0)
-bool-counts true = refl
-bool-counts false = refl
+pub bool-counts : (refused : Bool) → from_bool refused ≡ (if refused then 1 else 0)
+bool-counts refused = grind arith
 
 module _ {W E : Type 0} (sink : Ghosts W) {old new : State} {second third : W} {origin : Origin} {done : List (List ℕ)}
     {summary : Summary} (text line : List ℕ) (ended : HasEnded summary old (sink.text second) origin done)

@@ -1,7 +1,6 @@
 -- Texts that are gathered in pieces.
 use Rattle.std.proofs.Common.{◌≡◌, ◌∙◌, ℕ, List, [], ◌++◌, refl, ap, sym, append_assoc, append-nil, Result, Ok, Err}
-use Rattle.pp_console.proofs.Prelude.{Ghosts, Puts}
-use Rattle.pp_console.proofs.Shown.{Puts-after, Puts-longer, Puts-nothing}
+use Rattle.pp_console.proofs.{Prelude.Ghosts, Prelude.Puts, Shown.Puts-after, Shown.Puts-longer, Shown.Puts-nothing}
 use Rattle.pp_console.specs.Inner.Gathering.{Gathers}
 use Rattle.pp_lines.specs.declared.device.Failed.{Failed}
 
@@ -49,18 +48,6 @@ module _ {W T E U F : Type 0} {sink : Ghosts W} {first second : W} {old new text
   pub Puts-failed : {fault : E} {other : F} → Gathers {T = T} sink first second old new (Err fault) text →
       Puts {T = U} sink first second (Err other) (old ++ text)
   Puts-failed p = rw p.all (Puts-longer p.rest p.puts)
-
-  -- a text was gathered, and then the piece was written, and more
-  pub Puts-gathered : {third : W} {value : U} (more : List ℕ) (result : Result T E) →
-      Gathers {E = F} sink first second old new (Ok value) text → Puts sink second third result (new ++ more) →
-      Puts sink first third result (old ++ (text ++ more))
-  Puts-gathered more result p q =
-      rw (all-after old text p.sent p.rest more p.all) (Puts-after result p.puts (rw p.piece at q))
-
-  -- the sink failed while a text was gathered, and more would have followed
-  pub Puts-cut : {fault : E} {other : F} (more : List ℕ) → Gathers {T = T} sink first second old new (Err fault) text →
-      Puts {T = U} sink first second (Err other) (old ++ (text ++ more))
-  Puts-cut more p = rw (all-after old text p.sent p.rest more p.all) (Puts-longer (p.rest ++ more) p.puts)
 
 -- nothing is gathered
 pub Gathers-nothing : {W T E : Type 0} {sink : Ghosts W} {now : W} {value : T} {old : List ℕ} →

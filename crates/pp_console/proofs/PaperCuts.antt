@@ -1,9 +1,9 @@
 -- The lines of the paper, one after another.
-use Rattle.std.proofs.Common.{◌≡◌, ◌∙◌, ℕ, ◌-◌, List, [], ◌∷◌, ◌++◌, length, take, drop, refl, sym, ap, append_assoc, None, Some}
-use Rattle.std.proofs.Common.{◌==◌, map, position, codes}
+use Rattle.std.proofs.Common.{◌≡◌, ◌∙◌, ℕ, ◌-◌, List, [], ◌∷◌, ◌++◌, arith, length, take, drop, refl, sym, ap, append_assoc, None}
+use Rattle.std.proofs.Common.{◌==◌, Some, map, position, codes}
+use Rattle.std.proofs.lemmas.List.{drop-map, length-map, take-map}
 use Rattle.std.specs.List.{position_or_len, flat_map}
-use Rattle.std.proofs.lemmas.List.{drop-map, length-map, map-append, take-append-drop, take-map}
-use Rattle.pp_lines.proofs.OpenTexts.{open-first, feed-cut, feed-none, feed-open, unfinished-text}
+use Rattle.pp_lines.proofs.OpenTexts.{feed-cut, feed-none, feed-open, unfinished-text}
 use Rattle.pp_lines.specs.Lines.{finished, unfinished, last_line}
 use Rattle.pp_console.specs.{DisplayCode.character, Paper.marked, Paper.paper_text}
 use Rattle.pp_console.specs.Inner.PaperCuts.{is_line_end, rest_text}
@@ -12,10 +12,7 @@ use Rattle.pp_console.specs.Inner.PaperCuts.{is_line_end, rest_text}
 feed-first : (line later : List ℕ) → finished line ≡ [] →
     (finished (line ++ 10 ∷ later) ≡ line ∷ finished later) × (unfinished (line ++ 10 ∷ later) ≡ unfinished later)
 feed-first [] later none = (refl, refl)
-feed-first (byte ∷ line) later none =
-    let first = open-first byte line none in
-    let rest = feed-first line later first.1 in
-    (rw (first.0, rest.0) refl, rw (first.0, rest.0, rest.1) refl)
+feed-first (byte ∷ line) later none = (grind (arith, feed-first line later), grind (arith, feed-first line later))
 
 -- the lines of a paper with these characters
 abbrev lines_of_paper : List ℕ → List ℕ
@@ -56,10 +53,3 @@ paper-uncut symbols e = let none = feed-none (map character symbols) (first-end 
 
 -- what a cut at the first line end needs
 pub ruleset paper_cuts = (paper-cut, paper-uncut)
-
--- the characters of a piece, and those after it
-pub characters-piece : (symbols : List ℕ) (n : ℕ) (piece later text : List ℕ) →
-    piece ≡ take n symbols → later ≡ drop n symbols → text ≡ map character piece →
-    map character symbols ≡ text ++ map character later
-characters-piece symbols n piece later text front back e =
-    rw (e, front, back, ← map-append character (take n symbols) (drop n symbols), take-append-drop) refl

@@ -49,23 +49,20 @@ forward-within actions v within = grind (arith, nat_tests)
 pub change-unwatched : (v : Value) (places : List Place) → places ≡ map watched_place (watches_of (present v)) →
     length places ≡ 0 → change_answer v ≡ rejected v (codes "ERR 15 NOTHING WATCHED\n")
 unfolding change_answer
-change-unwatched v [] same none = rw (← same) refl
-change-unwatched v (place ∷ places) same none = absurd (omega arith)
+change-unwatched v places same none = grind (arith, same)
 
 -- the undo history has a change
 pub change-found : (v : Value) (places : List Place) (actions : ℕ) → places ≡ map watched_place (watches_of (present v)) →
     0 < length places → change rules v places ≡ Some actions →
     change_answer v ≡ moved (codes "BACK ") actions (after_back v actions)
 unfolding change_answer
-change-found v [] actions same some found = absurd (omega arith)
-change-found v (place ∷ places) actions same some found = rw (← same, found) refl
+change-found v places actions same some found = grind (arith, same, found)
 
 -- the undo history has no change
 pub change-none : (v : Value) (places : List Place) → places ≡ map watched_place (watches_of (present v)) →
     0 < length places → change rules v places ≡ None → change_answer v ≡ rejected v (codes "ERR 10 NO CHANGE KEPT\n")
 unfolding change_answer
-change-none v [] same some found = absurd (omega arith)
-change-none v (place ∷ places) same some found = rw (← same, found) refl
+change-none v places same some found = grind (arith, same, found)
 
 -- the machine does not have the last of the words
 pub central-beyond : (first last : ℕ) (v : Value) (sized : Machine) → sized ≡ present v →

@@ -2,13 +2,7 @@
 use Rattle.std.proofs.Common.{◌∙◌, ℕ, List, [], ◌++◌, refl, ap, Result, Ok, Err}
 use Rattle.pp_console.proofs.Prelude.{Ghosts, Puts, Appends-again, front_longer}
 use Rattle.pp_lines.proofs.Writing.{Appends-nothing, front_after}
-use Rattle.pp_lines.specs.{Device.one_more, declared.device.Failed.Failed}
-
-module _ {W : Type 0} (sink : Ghosts W) where
-  -- what is left is all that the whole text still lacks
-  abbrev pub Completes : W → W → List ℕ → List ℕ → Type 0
-  Completes old now whole left =
-      (later : W) (result : Result (Unit {0}) Failed) → Puts sink now later result left → Puts sink old later result whole
+use Rattle.pp_lines.specs.Device.{one_more}
 
 module _ {W T E U F : Type 0} {sink : Ghosts W} {first second : W} where
   -- a text, and then another one or a prefix of it

@@ -7,7 +7,7 @@ ghost use Rattle.pp_console.specs.Script.{answer_line};
 ghost use Rattle.pp_history.specs.SessionValue.{IsAt};
 ghost use Rattle.pp_lines.specs.Lines.{lines, unfinished};
 ghost use Rattle.pp_rig.specs.Rules.{rules};
-ghost use Rattle.std.specs.Prelude.{◌≡◌, ◌+◌, ◌<◌, ◌≤◌, ◌∷◌, ◌⊎◌, [], MatchOption, false, length, take, true};
+ghost use Rattle.std.specs.Prelude.{◌≡◌, ◌+◌, ◌-◌, ◌<◌, ◌≤◌, ◌∷◌, ◌⊎◌, [], MatchOption, drop, false, length, take, true};
 
 use crate::commands::{answer_request, reject};
 use crate::progress::{BYTE_LIMIT, LINE_LIMIT};
@@ -150,14 +150,15 @@ fn answer_within(session: &mut Session<Rig>, line: &[u8], room: &mut Room) -> Op
     }
 }
 
-/// Returns the first line, without its line feed, and how many bytes it has with it.
+/// Returns the first line after these bytes, without its line feed, and how many bytes it has with it.
 #[tactic(auto, using(crate::proofs::FirstLines::first_lines))]
-fn first_line(text: &[u8]) -> (&[u8], usize)
-    requires { 0 < length text.now }
-    ensures bytes { (0 < result.1) × (result.1 ≤ length text.now) × (result.1 ≤ length result.0.now + 1) }
-    ensures line { lines (take result.1 text.now) ≡ result.0.now ∷ [] }
-    ensures ends { (unfinished (take result.1 text.now) ≡ []) ⊎ (result.1 ≡ length text.now) }
+fn first_line(typed: &[u8], taken: usize) -> (&[u8], usize)
+    requires { taken < length typed.now }
+    ensures bytes { (0 < result.1) × (result.1 ≤ length typed.now - taken) × (result.1 ≤ length result.0.now + 1) }
+    ensures line { lines (take result.1 (drop taken typed.now)) ≡ result.0.now ∷ [] }
+    ensures ends { (unfinished (take result.1 (drop taken typed.now)) ≡ []) ⊎ (result.1 ≡ length (drop taken typed.now)) }
 {
+    let text = &typed[taken..];
     match next_line(text) {
         Some((line, _)) => (line, line.len() + 1),
         None => (text, text.len()),
@@ -185,7 +186,7 @@ fn answer_lines(session: &mut Session<Rig>, typed: &[u8], room: &mut Room) -> An
     let mut lines = 0;
     let mut refused = 0;
     while taken < typed.len() {
-        let (line, bytes) = first_line(&typed[taken..]);
+        let (line, bytes) = first_line(typed, taken);
         if is_past(lines, taken + bytes) {
             return Answered {
                 taken,

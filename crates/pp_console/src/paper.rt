@@ -1,5 +1,5 @@
 //! The printer's paper in lines of text.
-ghost use Rattle.std.specs.Prelude.{◌≡◌, ◌<◌, ◌≤◌, ◌∷◌, ◌++◌, [], length, map, position, codes, IfSome, MatchOption};
+ghost use Rattle.std.specs.Prelude.{◌≡◌, ◌<◌, ◌∷◌, ◌++◌, [], length, map, position, codes, IfSome, MatchOption};
 ghost use Rattle.pp_lines.specs.Puts.{Puts};
 ghost use Rattle.pp_console.specs.DisplayCode.{character};
 ghost use Rattle.pp_console.specs.Dumps.{printer_text};
@@ -17,9 +17,6 @@ use pp_rig::Rig;
 static DISPLAY_CODE: [u8; 64] =
     *b":ABCDEFGHIJKLMNOPQRSTUVWXYZ0123456789+-*/()$= ,.#[]%\"_!&'?<>@\\^;";
 
-/// The largest number of symbols that become characters at once: those of a printed line.
-const LINE: usize = 136;
-
 /// Returns the character of a symbol. A line end is a line feed.
 #[tactic(auto, unfolding(crate::specs::DisplayCode::character, crate::specs::DisplayCode::display_code))]
 fn character(symbol: u8) -> u8
@@ -32,18 +29,6 @@ fn character(symbol: u8) -> u8
     }
 }
 
-/// Returns the characters of a piece.
-fn characters(symbols: &[u8]) -> ArrayVec<u8, LINE>
-    requires { length symbols.now ≤ LINE }
-    ensures { result.items ≡ map character symbols.now }
-{
-    let mut text = ArrayVec::new();
-    for symbol in symbols {
-        text.push(character(*symbol));
-    }
-    text
-}
-
 /// Gathers the characters of the symbols.
 fn gather_characters<W: Sink>(
     piece: &mut ArrayVec<u8, PIECE>,
@@ -52,11 +37,8 @@ fn gather_characters<W: Sink>(
 ) -> Result<(), Failed>
     ensures { Gathers ⟦<W as Sink>⟧ out.old out.new piece.old.items piece.new.items result (map character symbols.now) }
 {
-    let mut rest = symbols;
-    'parts: while !rest.is_empty() {
-        let (part, later) = rest.split_at(rest.len().min(LINE));
-        gather(piece, characters(part).as_slice(), out)?;
-        rest = later;
+    for symbol in symbols {
+        gather(piece, &[character(*symbol)], out)?;
     }
     Ok(())
 }

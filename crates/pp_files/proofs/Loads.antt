@@ -37,10 +37,11 @@ FailsIn-line : (rule : Rule) (bytes : List ℕ) (rows : List Row) (done : List (
     (later : List (List ℕ)) (fault : LoadFault) (k : ℕ) → front ≡ take KEPT line → k ≡ length done + 1 →
     lines_of_file file_limit bytes ≡ (done ++ line ∷ []) ++ later →
     rows_of_lines rule done ≡ Ok rows → FailsAt rule k rows front fault → FailsIn rule bytes fault
-FailsIn-line rule bytes rows done line front later fault k kept count split read (inl fails) =
-    inl (line-fails rule bytes rows done line front later fault k kept count split read fails)
-FailsIn-line rule bytes rows done line front later fault k kept count split read (inr (none, has_rows, is_row)) =
-    inr (none, line-runs-out rule bytes rows done line front later k kept count split read (has_rows, is_row))
+FailsIn-line rule bytes rows done line front later fault k kept count split read fails = grind (
+  arith,
+  line-fails rule bytes rows done line front later fault k,
+  line-runs-out rule bytes rows done line front later k,
+)
 
 -- ---- the progress of a file
 

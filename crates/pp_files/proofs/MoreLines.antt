@@ -19,28 +19,19 @@ row_of_text k text =
     if nat_lt 1023 (length text) then Err (LineTooLong k)
     else (if is_ignored (words text) then Ok None else row_of_words k (words text))
 
-text-long : (k : ℕ) (text : List ℕ) → 1023 < length text → row_of_text k text ≡ Err (LineTooLong k)
-text-long k text h = grind (arith, nat_tests)
-
--- a prefix of more than 1024 bytes reads as the line does
-row-kept : (k most : ℕ) (line : List ℕ) → 1024 < most → row_of_line k (take most line) ≡ row_of_line k line
-unfolding row_of_line
-row-kept k most line long = read-kept (row_of_text k) (Err (LineTooLong k)) 1023 most line (text-long k) long
-
+-- the kept prefix reads as the line does
 pub row-front : (k : ℕ) (line : List ℕ) → row_of_line k (take KEPT line) ≡ row_of_line k line
-row-front k line = row-kept k KEPT line (omega arith)
+unfolding row_of_line
+row-front k line =
+    read-kept (row_of_text k) (Err (LineTooLong k)) 1023 KEPT line (λ text long. grind (arith, nat_tests)) (omega arith)
 
 -- ---- rows of more lines
-
-bind-ok : {A : Type 0} (read : Result A LoadFault) → (read >>= λ x. Ok x) ≡ read
-bind-ok (Ok x) = refl
-bind-ok (Err e) = refl
 
 -- lines, and further lines
 lines-both : (rule : Rule) (k : ℕ) (rows : List Row) (done more : List (List ℕ)) →
     with_lines rule k rows (done ++ more) ≡ (with_lines rule k rows done >>= λ read. with_lines rule (k + length done) read more)
 unfolding with_lines
-lines-both rule k rows [] more = let same : k ≡ k + 0 = omega arith in ap (λ n. with_lines rule n rows more) same
+lines-both rule k rows [] more = grind arith
 lines-both rule k rows (line ∷ done) more = let later = λ (read : List Row). lines-both rule (k + 1) read done more in
     grind (arith, later)
 
@@ -50,18 +41,13 @@ pub lines-next : (rule : Rule) (done : List (List ℕ)) (line : List ℕ) →
 unfolding with_lines
 lines-next rule done line = grind (arith, lines-both rule 0 [] done (line ∷ []))
 
--- further lines do not change the first fault
-lines-fault : (rule : Rule) (done more : List (List ℕ)) (fault : LoadFault) →
-    rows_of_lines rule done ≡ Err fault → rows_of_lines rule (done ++ more) ≡ Err fault
-lines-fault rule done more fault e = rw (lines-both rule 0 [] done more, e)
-
 -- ---- a file
 
 -- the first fault of the lines is the fault of the file
 pub file-fault : (rule : Rule) (limit : ℕ) (bytes : List ℕ) (done more : List (List ℕ)) (fault : LoadFault) →
     lines_of_file limit bytes ≡ done ++ more → rows_of_lines rule done ≡ Err fault → rows_of_file rule limit bytes ≡ Err fault
 unfolding rows_of_file
-file-fault rule limit bytes done more fault split e = rw (split, lines-fault rule done more fault e)
+file-fault rule limit bytes done more fault split e = rw (split, lines-both rule 0 [] done more, e)
 
 pub lines-short : (limit : ℕ) (bytes : List ℕ) → length bytes ≤ limit → lines_of_file limit bytes ≡ lines bytes
 lines-short limit bytes h = grind (arith, nat_tests)
@@ -70,7 +56,7 @@ lines-short limit bytes h = grind (arith, nat_tests)
 pub file-short : (rule : Rule) (limit : ℕ) (bytes : List ℕ) → length bytes ≤ limit →
     rows_of_file rule limit bytes ≡ rows_of_lines rule (lines bytes)
 unfolding rows_of_file
-file-short rule limit bytes h = grind (arith, nat_tests, bind-ok (rows_of_lines rule (lines bytes)))
+file-short rule limit bytes h = grind (arith, nat_tests)
 
 -- a file that is too long
 pub file-long : (rule : Rule) (limit : ℕ) (bytes more : List ℕ) (byte : ℕ) →
@@ -78,9 +64,7 @@ pub file-long : (rule : Rule) (limit : ℕ) (bytes more : List ℕ) (byte : ℕ)
     rows_of_file rule limit (bytes ++ byte ∷ more) ≡ Err FileTooLong
 unfolding rows_of_file
 file-long rule limit bytes more byte full read =
-    let front : take limit (bytes ++ byte ∷ more) ≡ bytes = rw (← full) (take-append_seam bytes (byte ∷ more)) in
-    let size = length-append bytes (byte ∷ more) in
-    grind (arith, nat_tests)
+    grind (arith, nat_tests, take-append_seam bytes (byte ∷ more), length-append bytes (byte ∷ more))
 
 append-next : (bytes more : List ℕ) (byte : ℕ) → bytes ++ byte ∷ more ≡ (bytes ++ byte ∷ []) ++ more
 append-next bytes more byte = sym (append_assoc bytes (byte ∷ []) more)

@@ -20,7 +20,7 @@ deck-more rows row = sym (map-append card_of_row rows (row ∷ []))
 
 -- a panel with the words of one more row
 pub panel-more : (rows : List Row) (row : Row) → concat rows ++ row ≡ concat (rows ++ row ∷ [])
-panel-more rows row = rw (concat-append rows (row ∷ [])) (simp append-nil)
+panel-more rows row = grind (arith, common_steps, concat-append rows (row ∷ []))
 
 -- what one more row needs
 pub ruleset rows = (common_steps, card-front, card-within, deck-more, panel-more)

@@ -24,5 +24,5 @@ pub use Rattle.pp_history.specs.{declared.log.Log.Log, declared.reversible.Rever
 pub use Rattle.pp_history.specs.{SessionLaws.replayed, Marks.IsUnmarked, Repeating.AreUnmarked, Repeating.machine_after}
 unfoldable pub use Rattle.pp_history.specs.Repeating.{after_acts}
 pub use Rattle.pp_history.specs.{declared.marks.Marks.Marks, Change.differ, Change.change_in, Change.IsLeastChange, Change.change}
-pub use Rattle.pp_history.specs.{UndoRecord.whole_record}
+pub use Rattle.pp_history.specs.{UndoRecord.whole_action, UndoRecord.whole_record}
 pub use Rattle.std.specs.Vec.{with_item}

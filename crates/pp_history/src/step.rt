@@ -4,10 +4,10 @@ ghost use Rattle.std.specs.Prelude.{◌≡◌, ◌≤◌, Some, None, IfSome, Is
 ghost use Rattle.std.specs.Option.{option_map};
 ghost use Rattle.circular_buffer.specs.Buffer.{buffer};
 ghost use Rattle.pp_history.specs.Joining.{IsActed, IsNext, first_of, left_by};
-ghost use Rattle.pp_history.specs.{Marks.IsUnmarked, Tails.in_tail, Tails.pushed, UndoRecord.whole_record};
+ghost use Rattle.pp_history.specs.{Marks.IsUnmarked, Tails.in_tail, Tails.pushed, UndoRecord.whole_action, UndoRecord.whole_record};
 
 use crate::marks::{Marked, Marks};
-use crate::reversible::{Reversible, UndoRecord};
+use crate::reversible::{KeptAction, Reversible, UndoRecord};
 use crate::tails::{Tails, push};
 use circular_buffer::HeapCircularBuffer;
 
@@ -45,6 +45,24 @@ pub(crate) fn undo_record<'a, A: Drop, R: Drop, H: Drop>(
         Some(head) => Some(UndoRecord::Head(head)),
         None => match &tails.ring.get(tail)?.back {
             Some(back) => Some(UndoRecord::Tail(back)),
+            None => None,
+        },
+    }
+}
+
+/// Returns the action of a head, or else that of the newest tail.
+#[inline(always)]
+pub(crate) fn kept_action<'a, A: Drop, R: Drop, H: Drop>(
+    head: &'a Option<H>,
+    tails: &'a Tails<A, R>,
+) -> Option<KeptAction<'a, H, A>>
+    ensures { (unpacked : H → A × R) → IfSome (first_of unpacked in_tail head.now tails.now.ring.items) (λ entry.
+        option_map (whole_action unpacked) result ≡ Some entry.0) }
+{
+    match head {
+        Some(head) => Some(KeptAction::Head(head)),
+        None => match &tails.ring.get(0)?.action {
+            Some(action) => Some(KeptAction::Tail(action)),
             None => None,
         },
     }

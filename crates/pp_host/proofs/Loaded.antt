@@ -2,9 +2,8 @@
 use Rattle.std.proofs.Common.{◌≡◌, ◌≢◌, ◌⊎◌, List, ℕ, Bool, inl, inr, refl, Result, Err, Some}
 use Rattle.std.specs.Result.{result_map_both}
 use Rattle.pp_arguments.specs.CommandLine.{Text}
-use Rattle.pp_files.specs.Fault.{IsLoadCause, IsSettled}
-use Rattle.pp_files.specs.Files.{Rule}
-use Rattle.pp_files.specs.declared.fault.LoadFault.{LoadFault, TheVariants.NoMemory}
+use Rattle.pp_files.specs.{Fault.IsLoadCause, Fault.IsSettled, Files.Rule, declared.fault.LoadFault.LoadFault}
+use Rattle.pp_files.specs.declared.fault.LoadFault.TheVariants.{NoMemory}
 use Rattle.pp_host.specs.{Known.Content, Loading.IsLost}
 use Rattle.pp_trouble.specs.{Trouble.of_load, declared.trouble.FileKind.FileKind, declared.trouble.Trouble.TheVariants.ReadFailed}
 

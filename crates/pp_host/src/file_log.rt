@@ -11,15 +11,15 @@ use pp_trouble::FileKind;
 use std::marker::Model;
 use std::mem::size_of;
 
-/// What a host logs about a file that the program asked for. Only contracts see the paths and bytes.
+/// What a host logs about a file that the program asked for.
 #[derive(Drop)]
 pub enum FileEvent {
-    /// The file was opened.
-    Opened(FileKind, Log),
-    /// The file could not be opened.
-    Missing(FileKind, Log),
+    /// The file of this path was opened.
+    Opened(FileKind),
+    /// The file of this path could not be opened.
+    Missing(FileKind),
     /// The file that was opened last was closed, after these bytes were read from it, to its end or not.
-    Closed(Log),
+    Closed,
 }
 
 // Beside `pp_lines::Log`, and not one generic log: the logic stores ghost data by a code, and `coded_event` is that of
@@ -44,9 +44,9 @@ impl FileLog {
         FileLog {}
     }
 
-    /// Returns the log with one more event.
-    pub fn with(_before: &FileLog, _event: &FileEvent) -> FileLog
-        ensures { result.events ≡ _before.now.events ++ event_of _event.now ∷ [] }
+    /// Returns the log with one more event, whose path or bytes are those of this log.
+    pub fn with(_before: &FileLog, _event: &FileEvent, _bytes: &Log) -> FileLog
+        ensures { result.events ≡ _before.now.events ++ event_of _event.now _bytes.now ∷ [] }
     {
         FileLog {}
     }
@@ -58,16 +58,16 @@ impl FileLog {
         let mut path_log = Log::new();
         path_log.note(path.as_bytes(), path.len());
         let event = match is_opened {
-            true => FileEvent::Opened(kind, path_log),
-            false => FileEvent::Missing(kind, path_log),
+            true => FileEvent::Opened(kind),
+            false => FileEvent::Missing(kind),
         };
-        FileLog::with(before, &event)
+        FileLog::with(before, &event, &path_log)
     }
 
     /// Returns the log with the end of the file that was opened last, of which these bytes were read.
     pub fn with_end(before: &FileLog, bytes: &Log) -> FileLog
         ensures { result.events ≡ before.now.events ++ Closed bytes.now.bytes bytes.now.ended ∷ [] }
     {
-        FileLog::with(before, &FileEvent::Closed(bytes.copied()))
+        FileLog::with(before, &FileEvent::Closed, bytes)
     }
 }

@@ -12,7 +12,7 @@ use Rattle.pp_machine.specs.Numbering.{fixed_places, place_at}
 use Rattle.pp_machine.specs.WriteList.{list_room}
 use Rattle.pp_program.specs.Opening.{Wanted, opened}
 use Rattle.pp_rig.specs.Columns.{EndsAsStep, rows_of}
-use Rattle.pp_rig.specs.Recording.{moments_of, olds_of}
+use Rattle.pp_rig.specs.Recording.{IsRedone, moments_of, olds_of}
 use Rattle.pp_rig.specs.Rules.{rules}
 use Rattle.pp_rig.specs.Stopping.{after_turns}
 use Rattle.pp_rig.specs.declared.columns.TheConstants.{MOST_COLUMNS}
@@ -61,6 +61,12 @@ pub record Turns (most : ℕ) (old new : State) (turns : ℕ) (made : List Momen
   pub within : (turns ≤ most) × (turns ≤ length made) × (used ≤ length olds)
   pub full : hit ≡ false → (most ≤ turns) ⊎ ((length made ≤ turns) ⊎ (length olds < used + list_room))
   pub status : result ≡ run_status hit turns most
+
+-- So many actions ahead were performed again, with what they overwrote, or there are too few and nothing is done.
+abbrev pub Again : ℕ → State → State → ℕ → List Moment → List Moment → ℕ → List Old → List Old → ℕ → Type 0
+Again most old new actions before made used unused olds result =
+    (IsRedone most old new made olds (record { actions = actions; olds = used }) × (result ≡ run_status false actions most))
+    ⊎ ((result ≡ REFUSED) × (length old.ahead < most) × (new ≡ old) × (made ≡ before) × (olds ≡ unused))
 
 -- So many turns were performed, as a STEP performs them, with the numbers at these places after each.
 pub record LooksAt (most : ℕ) (places : List ℕ) (old new : State) (turns : ℕ) (into : List ℕ) (result : ℕ) : Type 0 where

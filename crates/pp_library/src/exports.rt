@@ -3,7 +3,7 @@ ghost use Rattle.pp_console.specs.Answering.{AnswersPart};
 ghost use Rattle.pp_console.specs.Commands.{Value, present};
 ghost use Rattle.pp_console.specs.declared.answering.End.{End};
 ghost use Rattle.pp_history.specs.SessionValue.{IsAt, after_back, after_forward};
-ghost use Rattle.pp_library.specs.Calls.{Does, IsUnopened, Looks, Reads, Turns, WritesText, wanted};
+ghost use Rattle.pp_library.specs.Calls.{Again, Does, IsUnopened, Looks, Reads, Turns, WritesText, wanted};
 ghost use Rattle.pp_library.specs.Moving.{MovesOr};
 ghost use Rattle.pp_library.specs.Status.{end_status, run_status};
 ghost use Rattle.pp_library.specs.declared.status.TheConstants.{CLOSED, DONE, NO_MEMORY, OPEN, REFUSED};
@@ -18,7 +18,7 @@ use crate::handle::Handle;
 use crate::status::{CLOSED, DONE, NO_MEMORY, OPEN, REFUSED, end_status, run_status};
 use pp_console::{Trouble, answer_into};
 use pp_program::{OpenOptions, open};
-use pp_rig::{Moment, Old, look, newest_changed, places_from, read_numbers, record};
+use pp_rig::{Moment, Old, look, newest_changed, places_from, read_numbers, record, record_again};
 use std::alloc::Global;
 
 /// Writes the text of a trouble into a slice, as far as it has room. Returns how many bytes that are.
@@ -187,6 +187,38 @@ pub extern "C" fn pp6600_turns(
     *used = recorded.olds;
     *session = Handle::of_box(console);
     run_status(recorded.hit, recorded.turns, most as usize)
+}
+
+/// Performs the next `most` actions ahead again, as `pp6600_forward` does (`DONE`), or fewer if there is no more room
+/// (`ROOM`), and writes of each what `pp6600_turns` writes. Returns `REFUSED`, and performs none, if fewer are ahead.
+#[unsafe(no_mangle)]
+pub extern "C" fn pp6600_again(
+    alloc: Global,
+    session: &mut Handle,
+    most: u32,
+    made: &mut [Moment],
+    olds: &mut [Old],
+    actions: &mut usize,
+    used: &mut usize,
+) -> u32
+    ensures closed { session.old.value ≡ None → (result ≡ CLOSED) × (session.new.value ≡ None)
+        × (made.new ≡ made.old) × (olds.new ≡ olds.old) }
+    ensures again { Does session.old.value session.new.value (λ old new.
+        Again most old new actions.new made.old made.new used.new olds.old olds.new result) }
+{
+    let Some(mut console) = session.take(alloc) else {
+        return CLOSED;
+    };
+    let status = match record_again(&mut console.session, most as usize, made, olds) {
+        Ok(redone) => {
+            *actions = redone.actions;
+            *used = redone.olds;
+            run_status(false, redone.actions, most as usize)
+        }
+        Err(_) => REFUSED,
+    };
+    *session = Handle::of_box(console);
+    status
 }
 
 /// Performs turns as `pp6600_turns` does, and after each appends the numbers at the places to `into`. Returns `REFUSED`

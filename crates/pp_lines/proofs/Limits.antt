@@ -1,52 +1,41 @@
 -- Lines within a limit of lines and of bytes, and lines of which a prefix is kept.
 use Rattle.std.proofs.{lemmas.Grind.common_steps, Math.Seq.take-append_seam, Math.Seq.take-append-add}
-use Rattle.std.proofs.Common.{◌≡◌, ◌∙◌, ℕ, zero, suc, ◌+◌, ◌-◌, ◌<◌, ◌≤◌, ◌⊎◌, Bool, cond, eqb, List, [], ◌∷◌, ◌++◌, length, take}
-use Rattle.std.proofs.Common.{refl, sym, ap, arith, inl, inr, length-append, length-take, append-nil}
+use Rattle.std.proofs.Common.{◌≡◌, ℕ, zero, suc, ◌+◌, ◌-◌, ◌<◌, ◌≤◌, ◌⊎◌, List, [], ◌∷◌, ◌++◌, length, take}
+use Rattle.std.proofs.Common.{refl, ap, arith, length-append, length-take}
 use Rattle.pp_lines.specs.LineCutter.{IsPrefixOf}
-use Rattle.pp_lines.specs.Lines.{lines, extend_first, finished, unfinished, last_line, finished_within, IsWithin}
-use Rattle.pp_lines.proofs.LineCuts.{begin_first, lines_first, lines_split, finished-more}
+use Rattle.pp_lines.specs.Lines.{lines, finished, unfinished, last_line, finished_within, IsWithin}
+use Rattle.pp_lines.proofs.LineCuts.{lines_first, finished-more}
 
 -- at most one line is unfinished
 pub last_line-one : (rest : List ℕ) → length (last_line rest) ≤ 1
-last_line-one [] = omega arith
-last_line-one (byte ∷ rest) = omega arith
+last_line-one rest = grind arith
 
 -- if a line was begun, at least one byte of it is kept
 pub kept-begun : (most : ℕ) (rest : List ℕ) → 0 < most → length (last_line rest) ≤ length (take most rest)
-kept-begun most [] h = omega arith
-kept-begun most (byte ∷ rest) h = rw (length-take most (byte ∷ rest)) (omega arith)
-
--- if no byte of a line is kept, no line was begun
-nothing-kept : (most : ℕ) (rest : List ℕ) → 0 < most → length (take most rest) ≡ 0 → last_line rest ≡ []
-nothing-kept most [] h e = refl
-nothing-kept most (byte ∷ rest) h e = absurd (omega (arith, rw length-take at e))
-
-something-kept : (most : ℕ) (rest : List ℕ) → 0 < length (take most rest) → last_line rest ≡ rest ∷ []
-something-kept most [] e = absurd (omega (arith, rw length-take at e))
-something-kept most (byte ∷ rest) e = refl
+kept-begun most rest h = grind (arith, length-take most rest)
 
 -- the lines, if the last one ends with a line feed
 pub lines-whole : (kept : ℕ) (front bytes : List ℕ) → 0 < kept →
     IsPrefixOf kept front bytes → length front ≡ 0 → lines bytes ≡ finished bytes
-lines-whole kept front bytes some is_front empty = lines_split bytes
-    ∙ rw (nothing-kept kept (unfinished bytes) some (sym (ap length is_front) ∙ empty)) (append-nil (finished bytes))
+unfolding lines
+lines-whole kept front bytes some is_front empty = grind (arith, common_steps, length-take kept (unfinished bytes))
 
 -- the lines, if the last one does not end with a line feed
 pub lines-last : (kept : ℕ) (front bytes : List ℕ) → IsPrefixOf kept front bytes →
     0 < length front → lines bytes ≡ finished bytes ++ unfinished bytes ∷ []
-lines-last kept front bytes is_front begun = lines_split bytes
-    ∙ ap (λ last. finished bytes ++ last) (something-kept kept (unfinished bytes) (omega (arith, ap length is_front)))
+unfolding lines
+lines-last kept front bytes is_front begun = grind (arith, length-take kept (unfinished bytes))
 
 -- there are as many lines as finished lines, or one more
 pub lines-count : (bytes : List ℕ) → length (lines bytes) ≡ length (finished bytes) + length (last_line (unfinished bytes))
-lines-count bytes = ap length (lines_split bytes) ∙ length-append (finished bytes) (last_line (unfinished bytes))
+unfolding lines
+lines-count bytes = grind (arith, common_steps)
 
 -- within the limits all finished lines count
 pub finished_within-all : (line_limit byte_limit : ℕ) (bytes : List ℕ) →
     IsWithin line_limit byte_limit bytes → finished_within line_limit byte_limit bytes ≡ finished bytes
-unfolding finished_within
-finished_within-all line_limit byte_limit bytes within =
-    grind (arith, common_steps, within.bytes_within, within.lines_within, lines-count bytes)
+unfolding finished_within lines
+finished_within-all line_limit byte_limit bytes within = grind (arith, common_steps)
 
 pub finished_within-whole : (line_limit byte_limit : ℕ) (bytes : List ℕ) → length bytes ≤ byte_limit →
     length (finished bytes) ≤ line_limit → finished_within line_limit byte_limit bytes ≡ finished bytes
@@ -69,22 +58,11 @@ finished_within-more line_limit byte_limit bytes more =
     let all = take_more line_limit (finished (take byte_limit bytes)) further.0 in
     (all.0, rw (front.1, further.1) all.1)
 
--- one list is at least as long as the other
-begun-longer : (byte : ℕ) (done : List (List ℕ)) (all : List (List ℕ)) (feed : Bool) → length done < length all →
-    length (cond feed ([] ∷ done) (extend_first byte done)) < length (cond feed ([] ∷ all) (begin_first byte all))
-begun-longer byte done [] feed h = absurd (omega arith)
-begun-longer byte done (first ∷ all) feed h = grind arith
-
-begun-some : (byte : ℕ) (all : List (List ℕ)) (feed : Bool) → 0 < length (cond feed ([] ∷ all) (begin_first byte all))
-begun-some byte [] feed = grind arith
-begun-some byte (first ∷ all) feed = grind arith
-
 -- bytes after a line feed add at least one line
 pub lines-further : (kept more : List ℕ) → 0 < length more → length (finished kept) < length (lines (kept ++ more))
 lines-further [] [] h = absurd (omega arith)
-lines-further [] (byte ∷ more) h = rw (lines_first byte more) (begun-some byte (lines more) (eqb byte 10))
-lines-further (byte ∷ kept) more h = rw (lines_first byte (kept ++ more))
-    (begun-longer byte (finished kept) (lines (kept ++ more)) (eqb byte 10) (lines-further kept more h))
+lines-further [] (byte ∷ more) h = grind (arith, lines_first byte more)
+lines-further (byte ∷ kept) more h = grind (arith, lines_first byte (kept ++ more), lines-further kept more h)
 
 -- a prefix that is longer than the first part
 pub take-front : (most : ℕ) (kept more : List ℕ) → length kept ≤ most →
@@ -96,15 +74,19 @@ pub finished_within-kept : (line_limit byte_limit : ℕ) (kept more : List ℕ) 
     (length kept ≡ byte_limit) ⊎ (length (finished kept) ≡ line_limit) →
     finished_within line_limit byte_limit (kept ++ more) ≡ finished kept
 unfolding finished_within
-finished_within-kept line_limit byte_limit kept more within (inl full) =
-    grind (arith, common_steps, take-append_seam kept more, within.lines_within, lines-count kept)
-finished_within-kept line_limit byte_limit kept more within (inr full) =
+finished_within-kept line_limit byte_limit kept more within full =
     let further = finished-more kept (take (byte_limit - length kept) more) in
-    rw (take-front byte_limit kept more within.bytes_within, further.1, ← full) (take-append_seam (finished kept) further.0)
+    grind (
+      arith,
+      common_steps,
+      take-append_seam kept more,
+      take-append_seam (finished kept) further.0,
+      take-front byte_limit kept more,
+      lines-count kept,
+    )
 
 -- which limit was passed
 pub passed : (line_limit byte_limit : ℕ) (kept more : List ℕ) → 0 < length more →
     (length kept ≡ byte_limit) ⊎ (length (finished kept) ≡ line_limit) →
     (byte_limit < length (kept ++ more)) ⊎ (line_limit < length (lines (kept ++ more)))
-passed line_limit byte_limit kept more h (inl full) = inl (rw (length-append kept more) (omega arith))
-passed line_limit byte_limit kept more h (inr full) = inr (omega (arith, lines-further kept more h))
+passed line_limit byte_limit kept more h full = grind (arith, length-append kept more, lines-further kept more)

@@ -1,45 +1,27 @@
 -- Texts without a line feed, and the first line feed of a text.
-use Rattle.std.proofs.lemmas.{Bool.Decides.nat_tests, List.Quantifiers.position-Some, List.Sums.position_or_len_is}
-use Rattle.std.proofs.Common.{add-one, ◌≡◌, ◌∙◌, ℕ, zero, suc, ◌-◌, ◌<◌, cond, eqb, Bool, false, List, [], ◌∷◌, ◌++◌, length, take}
-use Rattle.std.proofs.Common.{drop, refl, sym, ap, arith, append_assoc, None, Some, ◌==◌, position, append-nil, drop-drop, take_all}
+use Rattle.std.proofs.{lemmas.Bool.Decides.nat_tests, lemmas.List.Quantifiers.position-Some, lemmas.List.Sums.position_or_len_is}
+use Rattle.std.proofs.Common.{add-one, ◌≡◌, ℕ, zero, suc, ◌-◌, ◌<◌, eqb, false, List, [], ◌∷◌, ◌++◌, length, take, drop, refl}
+use Rattle.std.proofs.Common.{arith, None, Some, ◌==◌, position, drop-drop, take_all}
 use Rattle.std.specs.List.{position_or_len}
-use Rattle.pp_lines.specs.Lines.{extend_first, finished, unfinished}
-use Rattle.pp_lines.proofs.{LineCuts.finished-byte, LineCuts.unfinished-byte, WordCuts.len-stop, WordCuts.len-more}
-use Rattle.pp_lines.proofs.Writing.{slice_from}
-
-open_step : (feed : Bool) (byte : ℕ) (done : List (List ℕ)) →
-    cond feed ([] ∷ done) (extend_first byte done) ≡ [] → (feed ≡ false) × (done ≡ [])
-open_step false byte [] none = (refl, refl)
-open_step feed byte done none = cc
-
--- the first byte of a text without a line feed, and the others
-pub open-first : (byte : ℕ) (bytes : List ℕ) → finished (byte ∷ bytes) ≡ [] → (eqb byte 10 ≡ false) × (finished bytes ≡ [])
-open-first byte bytes h = open_step (eqb byte 10) byte (finished bytes) h
-
--- a text without a line feed, from its first byte and the others
-open-more : (byte : ℕ) (bytes : List ℕ) → eqb byte 10 ≡ false → finished bytes ≡ [] → finished (byte ∷ bytes) ≡ []
-open-more byte bytes e h = rw (e, h) refl
+use Rattle.pp_lines.specs.Lines.{finished, unfinished}
+use Rattle.pp_lines.proofs.{WordCuts.len-stop, WordCuts.len-more, Writing.slice_from}
 
 -- its prefixes have no line feed either
 pub open-take : (n : ℕ) (text : List ℕ) → finished text ≡ [] → finished (take n text) ≡ []
 open-take zero text h = refl
 open-take (suc n) [] h = refl
-open-take (suc n) (byte ∷ text) h = let first = open-first byte text h in
-    open-more byte (take n text) first.0 (open-take n text first.1)
+open-take (suc n) (byte ∷ text) h = grind (arith, open-take n text)
 
 -- it finishes no line
 pub finished-text : (bytes text : List ℕ) → finished text ≡ [] → finished (bytes ++ text) ≡ finished bytes
-finished-text bytes [] h = ap finished (append-nil bytes)
-finished-text bytes (byte ∷ text) h = let first = open-first byte text h in
-    ap finished (sym (append_assoc bytes (byte ∷ []) text))
-    ∙ finished-text (bytes ++ byte ∷ []) text first.1 ∙ finished-byte bytes byte first.0
+finished-text [] text h = h
+finished-text (byte ∷ bytes) text h = grind (arith, finished-text bytes text)
 
 -- it extends the unfinished line
 pub unfinished-text : (bytes text : List ℕ) → finished text ≡ [] → unfinished (bytes ++ text) ≡ unfinished bytes ++ text
-unfinished-text bytes [] h = ap unfinished (append-nil bytes) ∙ sym (append-nil (unfinished bytes))
-unfinished-text bytes (byte ∷ text) h = let first = open-first byte text h in
-    ap unfinished (sym (append_assoc bytes (byte ∷ []) text)) ∙ unfinished-text (bytes ++ byte ∷ []) text first.1
-    ∙ ap (λ begun. begun ++ text) (unfinished-byte bytes byte first.0) ∙ append_assoc (unfinished bytes) (byte ∷ []) text
+unfinished-text [] [] h = refl
+unfinished-text [] (byte ∷ text) h = grind (arith, unfinished-text [] text)
+unfinished-text (byte ∷ bytes) text h = grind (arith, unfinished-text bytes text, finished-text bytes text)
 
 -- the number of bytes before the first line feed
 abbrev before_feed : List ℕ → ℕ
@@ -49,9 +31,7 @@ before_feed = position_or_len (λ byte. byte == 10)
 before-open : (text : List ℕ) → finished (take (before_feed text) text) ≡ []
 before-open [] = refl
 before-open (byte ∷ text) =
-    let more = len-more (λ byte. byte == 10) byte text in
-    let stop = len-stop (λ byte. byte == 10) byte text in
-    grind (arith, nat_tests, more, stop, open-more byte (take (before_feed text) text), before-open text)
+    grind (arith, nat_tests, len-more (λ byte. byte == 10) byte text, len-stop (λ byte. byte == 10) byte text, before-open text)
 
 -- a text is cut at its first line feed
 feed-splits : (text : List ℕ) → before_feed text < length text →

@@ -1,30 +1,23 @@
 -- Pieces that are read one after the other.
-use Rattle.std.proofs.Common.{◌≡◌, ◌∙◌, ℕ, ◌+◌, ◌<◌, List, [], ◌∷◌, ◌++◌, length, take, drop, get_or, refl, sym, ap, arith}
-use Rattle.std.proofs.Common.{append_assoc, Option, None, Some, append-nil}
+use Rattle.std.proofs.Common.{◌≡◌, ℕ, ◌+◌, ◌<◌, List, [], ◌∷◌, ◌++◌, length, take, drop, get_or, refl, sym, arith}
+use Rattle.std.proofs.Common.{Option, None, Some, append-nil}
 use Rattle.std.specs.Io.KnownBytes.{Consumes, Keeps, IsAtEnd}
 use Rattle.pp_lines.specs.Device.{all_bytes}
 use Rattle.std.proofs.lemmas.Grind.{common_steps}
 
 -- nothing is read
 pub Consumes-nothing : (known : Option (List ℕ)) → Consumes known known []
-Consumes-nothing None = tt
-Consumes-nothing (Some bytes) = refl
+Consumes-nothing known = grind arith
 
 -- one piece after another
 pub Consumes-again : (first second third : Option (List ℕ)) (a b : List ℕ) →
     Consumes first second a → Consumes second third b → Consumes first third (a ++ b)
-Consumes-again None second third a b p q = tt
-Consumes-again (Some x) None third a b p q = absurd p
-Consumes-again (Some x) (Some y) None a b p q = absurd q
-Consumes-again (Some x) (Some y) (Some z) a b p q = p ∙ ap (λ rest. a ++ rest) q ∙ sym (append_assoc a b z)
+Consumes-again first second third a b p q = grind (arith, common_steps)
 
 -- a piece, and then nothing
 pub Consumes-keeps : (first second third : Option (List ℕ)) (a : List ℕ) →
     Consumes first second a → Keeps second third → Consumes first third a
-Consumes-keeps None second third a p q = tt
-Consumes-keeps (Some x) None third a p q = absurd p
-Consumes-keeps (Some x) (Some y) None a p q = absurd q
-Consumes-keeps (Some x) (Some y) (Some z) a p q = p ∙ ap (λ rest. a ++ rest) (sym q)
+Consumes-keeps first second third a p q = grind (arith, common_steps)
 
 -- the remaining bytes, of which there are none at the end of input
 pub unread : (first second : Option (List ℕ)) (taken : List ℕ) → Consumes first second taken →
@@ -36,8 +29,7 @@ unread (Some x) (Some y) taken p = (y, p, λ end. end)
 -- at the end of input all bytes were read
 pub all-read : (first second : Option (List ℕ)) (taken : List ℕ) →
     Consumes first second taken → IsAtEnd second → all_bytes first taken ≡ taken
-all-read first second taken p end = let (later, all, none) = unread first second taken p in
-    all ∙ ap (λ rest. taken ++ rest) (none end) ∙ append-nil taken
+all-read first second taken p end = grind (arith, common_steps)
 
 -- the bytes of a piece before, at and after an index
 pub piece_at : (bytes piece : List ℕ) (i : ℕ) → i < length piece →

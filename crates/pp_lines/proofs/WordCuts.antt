@@ -27,10 +27,6 @@ words-stop : (byte : ℕ) (bytes : List ℕ) → is_blank byte ≡ false →
 unfolding words
 words-stop byte bytes e g = rw (e, g) refl
 
-words-none : words [] ≡ []
-unfolding words
-words-none = refl
-
 -- the number of bytes before the first one that passes a test
 pub len-stop : (test : ℕ → Bool) (byte : ℕ) (bytes : List ℕ) → test byte ≡ true → position_or_len test (byte ∷ bytes) ≡ 0
 len-stop test byte bytes e = rw e refl
@@ -56,7 +52,8 @@ letter-after (byte ∷ bytes) h =
 
 -- only blanks
 pub words-all_blank : (text : List ℕ) → length text ≤ position_or_len is_letter text → words text ≡ []
-words-all_blank text h = words-blanks text ∙ rw (drop_all (position_or_len is_letter text) text h) words-none
+unfolding words
+words-all_blank text h = words-blanks text ∙ rw (drop_all (position_or_len is_letter text) text h)
 
 no-letter : (byte : ℕ) → not (is_blank byte) ≡ true → is_blank byte ≡ false
 no-letter byte h = grind (arith, nat_tests)

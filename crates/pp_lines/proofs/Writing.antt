@@ -1,20 +1,16 @@
 -- Texts that are written one after the other.
-use Rattle.std.proofs.Common.{◌≡◌, ◌∙◌, ℕ, ◌+◌, ◌-◌, List, [], ◌++◌, length, take, drop, sym, ap, append_assoc, arith}
-use Rattle.std.proofs.Common.{length-append, append-nil}
-use Rattle.std.proofs.{KnownBytes.Appends-nil, KnownBytes.Appends-trans, lemmas.Grind.common_steps, Math.Seq.take-add}
+use Rattle.std.proofs.Common.{◌≡◌, ℕ, ◌+◌, ◌-◌, List, [], ◌++◌, length, take, drop, arith}
+use Rattle.std.proofs.{lemmas.Grind.common_steps, Math.Seq.take-add}
 use Rattle.pp_lines.specs.Output.{Appends, AppendsPrefix, Written}
 
 -- nothing is written
 pub Appends-nothing : (written : Written) → Appends written written []
-Appends-nothing written = (sym (append-nil written.bytes), Appends-nil written.held)
+Appends-nothing written = (grind (arith, common_steps), grind (arith, common_steps))
 
 -- one text after another
 pub Appends-again : (first second third : Written) (a b : List ℕ) →
     Appends first second a → Appends second third b → Appends first third (a ++ b)
-Appends-again first second third a b p q = (
-  q.0 ∙ ap (λ text. text ++ b) p.0 ∙ append_assoc first.bytes a b,
-  Appends-trans first.held second.held third.held a b p.1 q.1,
-)
+Appends-again first second third a b p q = (grind (arith, common_steps), grind (arith, common_steps))
 
 -- the slice of a text from an index on
 pub slice_from : (done : ℕ) (text : List ℕ) → take (length text - done) (drop done text) ≡ drop done text
@@ -30,15 +26,8 @@ Appends-further first second third done more text p q =
 -- the sink failed, and more text would have followed
 pub front_longer : (first second : Written) (text more : List ℕ) →
     AppendsPrefix first second text → AppendsPrefix first second (text ++ more)
-front_longer first second text more (front, written, proper) = (
-  front,
-  written,
-  record {
-    rest = proper.rest ++ more;
-    all = ap (λ whole. whole ++ more) proper.all ∙ append_assoc front proper.rest more;
-    some = simp length-append (omega (arith, proper.some));
-  },
-)
+front_longer first second text more (front, written, proper) =
+    (front, written, record { rest = proper.rest ++ more; all = grind (arith, common_steps); some = grind (arith, common_steps) })
 
 -- the sink failed after a text
 pub front_after : (first second third : Written) (text more : List ℕ) → Appends first second text →
@@ -46,9 +35,5 @@ pub front_after : (first second third : Written) (text more : List ℕ) → Appe
 front_after first second third text more p (front, written, proper) = (
   text ++ front,
   Appends-again first second third text front p written,
-  record {
-    rest = proper.rest;
-    all = ap (λ rest. text ++ rest) proper.all ∙ sym (append_assoc text front proper.rest);
-    some = proper.some;
-  },
+  record { rest = proper.rest; all = grind (arith, common_steps); some = proper.some },
 )

@@ -1,5 +1,5 @@
 -- A terminal: a source and a sink in one, each behind a reference.
-use Rattle.std.specs.Prelude.{ℕ, List}
+use Rattle.std.specs.Prelude.{List}
 use Rattle.pp_lines.specs.Dialogue.{Dialogue}
 use Rattle.pp_lines.specs.declared.terminal.Terminal.{Terminal}
 

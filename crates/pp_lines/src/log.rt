@@ -31,15 +31,6 @@ impl Log {
         }
     }
 
-    /// Returns the same log.
-    pub fn copied(&self) -> Log
-        ensures { (result.bytes ≡ self.now.bytes) × (result.ended ≡ self.now.ended) }
-    {
-        Log {
-            marker: PhantomData,
-        }
-    }
-
     /// Logs a call that moved the first bytes of this slice, so many of them. A source that read nothing into a slice
     /// that is not empty is at its end.
     pub fn note(&mut self, _slice: &[u8], _count: usize)

@@ -5,16 +5,15 @@ use Rattle.std.proofs.lemmas.List.Elements.{All-cons, All-nil, All-weaker}
 use Rattle.std.specs.Result.{result_map_both}
 use Rattle.pp_arguments.specs.CommandLine.{Text}
 use Rattle.pp_console.specs.Commands.{Value}
-use Rattle.pp_files.specs.{Files.deck_of_file, Files.panel_of_file}
-use Rattle.pp_files.specs.declared.fault.LoadFault.{LoadFault}
-use Rattle.pp_host.specs.{Calls.IsAllRead, Known.Content, Known.Found, Known.Missing, Loading.IsFoundSettled, Loading.deck_at}
-use Rattle.pp_host.specs.{Events.NamedFile, Loading.panel_at}
-use Rattle.pp_program.specs.{Calls.IsScriptRead, Course.Course, Course.after, Course.ends, Course.opening, Course.performing}
-use Rattle.pp_program.specs.{Program.exit_of, Program.script_at, Program.served}
+use Rattle.pp_files.specs.{Files.deck_of_file, Files.panel_of_file, declared.fault.LoadFault.LoadFault}
+use Rattle.pp_host.specs.{Calls.IsAllRead, Known.Content, Known.Found, Known.Missing, Events.NamedFile}
+use Rattle.pp_host.specs.Loading.{IsFoundSettled, deck_at, panel_at}
+use Rattle.pp_program.specs.{Calls.IsScriptRead, Program.exit_of, Program.script_at, Program.served}
+use Rattle.pp_program.specs.Course.{Course, after, ends, opening, performing}
 use Rattle.pp_program.specs.Traces.{AreEnded, AreReadEnough, Ended, IsTroubleOf}
 use Rattle.pp_trouble.specs.{Trouble.of_load, Trouble.status_of, declared.trouble.FileKind.FileKind}
+use Rattle.pp_trouble.specs.{declared.trouble.Trouble.Trouble, declared.trouble.Trouble.TheVariants.LineLimit}
 use Rattle.pp_trouble.specs.declared.trouble.FileKind.TheVariants.{Deck, Panel, Script}
-use Rattle.pp_trouble.specs.declared.trouble.Trouble.{Trouble, TheVariants.LineLimit}
 
 -- ---- the troubles of a file
 
@@ -30,14 +29,12 @@ IsReadUpTo ended kind path read trouble = (ended.files kind ≡ true) ⊎ IsTrou
 pub deck-stops : (path : Text) (read content : Found) (ended : Ended) (trouble : Trouble) →
     IsFoundSettled (ended.files Deck) read content (λ found. deck_at (Some path) found ≡ Err trouble) →
     IsReadUpTo ended Deck path read trouble
-deck-stops path Missing content ended trouble p = inr (grind (arith, p))
-deck-stops path (Content read) content ended trouble p = p.1
+deck-stops path read content ended trouble p = grind (arith, p)
 
 pub panel-stops : (path : Text) (read content : Found) (ended : Ended) (trouble : Trouble) →
     IsFoundSettled (ended.files Panel) read content (λ found. panel_at (Some path) found ≡ Err trouble) →
     IsReadUpTo ended Panel path read trouble
-panel-stops path Missing content ended trouble p = inr (grind (arith, p))
-panel-stops path (Content read) content ended trouble p = p.1
+panel-stops path read content ended trouble p = grind (arith, p)
 
 -- ---- the troubles of a script
 
@@ -104,8 +101,7 @@ module _ (readings : FileKind → Found) (ended : Ended) where
   file-on : (result : Result ℕ Trouble) (path : Text) →
       OnOk result (IsScriptRead (Some path) (ended.files Script) ended.input) → StopsAt path (readings Script) result →
       IsReadEnough ended result Script path (readings Script)
-  file-on (Ok status) path all p = inl all.0
-  file-on (Err trouble) path all p = inr (trouble, refl, p)
+  file-on result path all p = grind arith
 
   -- the script was performed as far as its limits
   pub script-read : (path : Option Text) (content : Found) (input : List ℕ) (start : Value) (answers : List ℕ)
@@ -131,21 +127,15 @@ file-status kind make file trouble e = grind arith
 
 trouble-status : (kind : FileKind) (path : Text) (read : Found) (trouble : Trouble) → IsTroubleOf kind path read trouble →
     2 ≤ status_of trouble
-trouble-status Script path read trouble p = grind arith
-trouble-status Deck path Missing trouble p = grind arith
-trouble-status Panel path Missing trouble p = grind arith
 trouble-status Deck path (Content read) trouble p = file-status Deck (λ cards. cards) (deck_of_file (read ++ [])) trouble (p [])
 trouble-status Panel path (Content read) trouble p = file-status Panel Some (panel_of_file (read ++ [])) trouble (p [])
-
-file-end : (result : Result ℕ Trouble) (ended : Ended) (kind : FileKind) (path : Text) (read : Found) → exit_of result ≤ 1 →
-    IsReadEnough ended result kind path read → ended.files kind ≡ true
-file-end result ended kind path read small p = grind (arith, trouble-status)
+trouble-status kind path read trouble p = grind arith
 
 -- with status 0 or 1 all was read to its end
 pub all-ended : (course : Course) (readings : FileKind → Found) (ended : Ended) → AreReadEnough course readings ended →
     exit_of course.ended ≤ 1 → AreEnded course ended
 all-ended course readings ended read small = record {
   files = All-weaker (IsFileRead readings ended course.ended) (λ file. ended.files file.kind ≡ true)
-      (λ file p. file-end course.ended ended file.kind file.path (readings file.kind) small p) course.opened read.files;
+      (λ file p. grind (arith, small, trouble-status)) course.opened read.files;
   input = grind arith;
 }

@@ -2,29 +2,21 @@
 use Rattle.std.specs.Prelude.{◌≡◌, ℕ, Bool, true, OnOk, is_none, List, [], ◌++◌, ◌⊎◌, All, MatchResult, Option, Result, Ok, Err}
 use Rattle.std.specs.Io.KnownBytes.{Consumes}
 use Rattle.pp_arguments.specs.CommandLine.{Text}
-use Rattle.pp_console.specs.Commands.{Value}
+use Rattle.pp_console.specs.{Commands.Value, Order.ReadsOnTime}
 use Rattle.pp_files.specs.Rows.{Row}
-use Rattle.pp_host.specs.Calls.{IsAllRead, IsNamed}
+use Rattle.pp_host.specs.{Calls.IsAllRead, Calls.IsNamed, Options.Asked}
 use Rattle.pp_host.specs.Known.{Agrees, Found, IsContent, IsInput, Known, Words}
-use Rattle.pp_host.specs.Options.{Asked}
 use Rattle.pp_host.specs.declared.host.Host.{Ghosts as HostGhosts}
-use Rattle.pp_lines.specs.{Dialogue.Dialogue, Output.Appends, Prefixes.IsProperPrefix}
+use Rattle.pp_lines.specs.{Dialogue.Dialogue, Output.Appends, Prefixes.IsProperPrefix, declared.terminal.Terminal.Terminal}
 use Rattle.pp_lines.specs.Terminal.{at_reads, sink_of, source_of}
-use Rattle.pp_console.specs.Order.{ReadsOnTime}
 use Rattle.pp_lines.specs.declared.device.Sink.{Ghosts as SinkGhosts}
 use Rattle.pp_lines.specs.declared.device.Source.{Ghosts as SourceGhosts}
-use Rattle.pp_lines.specs.declared.terminal.Terminal.{Terminal}
-use Rattle.pp_program.specs.Course.{Course, after, ends, performing}
-use Rattle.pp_program.specs.Cuts.{IsCutServing}
-use Rattle.pp_program.specs.Order.{IsInOrder}
-use Rattle.pp_program.specs.Outside.{Input, Output, Files}
+use Rattle.pp_program.specs.{Course.Course, Course.after, Course.ends, Course.performing, Cuts.IsCutServing, Order.IsInOrder}
+use Rattle.pp_program.specs.{Outside.Input, Outside.Output, Outside.Files, Run.IsCutShort, Run.IsWhole}
 use Rattle.pp_program.specs.Program.{Given, script_at, served, session_with}
-use Rattle.pp_program.specs.Run.{IsCutShort, IsWhole}
 use Rattle.pp_program.specs.Traces.{AreRead, Ended, IsOutput, IsTyped}
-use Rattle.pp_trouble.specs.Message.{line_of}
-use Rattle.pp_trouble.specs.declared.trouble.FileKind.{FileKind}
+use Rattle.pp_trouble.specs.{Message.line_of, declared.trouble.FileKind.FileKind, declared.trouble.Trouble.Trouble}
 use Rattle.pp_trouble.specs.declared.trouble.FileKind.TheVariants.{Deck, Panel, Script}
-use Rattle.pp_trouble.specs.declared.trouble.Trouble.{Trouble}
 use Rattle.pp_trouble.specs.declared.trouble.Trouble.TheVariants.{Help, NoMemory, WriteFailed}
 
 -- the files, as the host shows them

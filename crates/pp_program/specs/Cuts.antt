@@ -1,22 +1,15 @@
 -- Where a run can be cut short: by memory that runs out, by a failed read or by a failed write.
 use Rattle.std.specs.Prelude.{◌≡◌, ℕ, List, [], ◌∷◌, ◌++◌, Option, Ok, Err}
-use Rattle.pp_console.specs.Commands.{Value}
-use Rattle.pp_console.specs.Script.{outcome}
+use Rattle.pp_console.specs.{Commands.Value, Script.outcome}
 use Rattle.pp_console.specs.declared.progress.TheConstants.{LINE_LIMIT, BYTE_LIMIT}
-use Rattle.pp_files.specs.Files.{card_rule, panel_rule}
-use Rattle.pp_files.specs.Rows.{Row}
-use Rattle.pp_lines.specs.Lines.{finished_within}
-use Rattle.pp_lines.specs.Prefixes.{IsProperPrefix}
-use Rattle.pp_trouble.specs.declared.trouble.FileKind.{FileKind}
+use Rattle.pp_files.specs.{Files.card_rule, Files.panel_rule, Rows.Row}
+use Rattle.pp_lines.specs.{Lines.finished_within, Prefixes.IsProperPrefix}
+use Rattle.pp_trouble.specs.{declared.trouble.FileKind.FileKind, declared.trouble.Trouble.Trouble}
 use Rattle.pp_trouble.specs.declared.trouble.FileKind.TheVariants.{Deck, Panel, Script}
-use Rattle.pp_trouble.specs.declared.trouble.Trouble.{Trouble}
 use Rattle.pp_trouble.specs.declared.trouble.Trouble.TheVariants.{NoMemory, ReadFailed, WriteFailed}
-use Rattle.pp_host.specs.Known.{Found}
-use Rattle.pp_host.specs.Loading.{IsLost, deck_at, panel_at}
-use Rattle.pp_host.specs.Options.{Asked}
-use Rattle.pp_program.specs.Course.{Course, ends, opening, performing}
+use Rattle.pp_host.specs.{Known.Found, Loading.IsLost, Loading.deck_at, Loading.panel_at, Options.Asked}
+use Rattle.pp_program.specs.{Course.Course, Course.ends, Course.opening, Course.performing, Traces.Ended}
 use Rattle.pp_program.specs.Program.{Given, performed_lines, script_at, served, session_with}
-use Rattle.pp_program.specs.Traces.{Ended}
 
 -- A course that opens the deck, then the panel, and then goes on so.
 abbrev pub loading : Asked → Course → Course

@@ -2,17 +2,14 @@
 use Rattle.std.specs.Prelude.{◌≡◌, ℕ, ◌==◌, ◌&&◌, nat_le, if◌then◌else◌, List, [], ◌∷◌, Option, Some, None, Result, Ok, Err}
 use Rattle.std.specs.Result.{result_map_both}
 use Rattle.pp_console.specs.Commands.{Value}
-use Rattle.pp_files.specs.Files.{deck_of_file, panel_of_file}
-use Rattle.pp_files.specs.Rows.{Row}
+use Rattle.pp_files.specs.{Files.deck_of_file, Files.panel_of_file, Rows.Row}
 use Rattle.pp_host.specs.Options.{Asked}
 use Rattle.pp_lines.specs.Results.{◌>>=◌}
 use Rattle.pp_machine.specs.declared.central.CentralSize.{CentralSize}
 use Rattle.pp_machine.specs.declared.central.CentralSize.TheVariants.{K32, K64, K128}
-use Rattle.pp_program.specs.Program.{session_with}
-use Rattle.pp_program.specs.declared.opening.OpenOptions.{OpenOptions}
-use Rattle.pp_trouble.specs.Trouble.{of_load}
+use Rattle.pp_program.specs.{Program.session_with, declared.opening.OpenOptions.OpenOptions}
+use Rattle.pp_trouble.specs.{Trouble.of_load, declared.trouble.Trouble.Trouble}
 use Rattle.pp_trouble.specs.declared.trouble.FileKind.TheVariants.{Deck, Panel}
-use Rattle.pp_trouble.specs.declared.trouble.Trouble.{Trouble}
 use Rattle.pp_trouble.specs.declared.trouble.Trouble.TheVariants.{BadArguments, BadChannel}
 
 -- What a session is opened with: how many actions the undo history holds, the words of central memory, the channels of the

@@ -1,11 +1,9 @@
 -- The order of standard input and standard output.
 use Rattle.std.specs.Prelude.{◌≡◌, ℕ, List, [], Ok}
-use Rattle.pp_console.specs.Commands.{Value}
-use Rattle.pp_console.specs.Order.{ReadsOnTime}
+use Rattle.pp_console.specs.{Commands.Value, Order.ReadsOnTime}
 use Rattle.pp_host.specs.Options.{Asked, Means}
 use Rattle.pp_lines.specs.Dialogue.{Dialogue}
-use Rattle.pp_program.specs.Cuts.{IsStart}
-use Rattle.pp_program.specs.Program.{Given}
+use Rattle.pp_program.specs.{Cuts.IsStart, Program.Given}
 
 -- Nothing was read of standard input. Or its lines were performed by the session that the options start: before each read, each line
 -- that had ended was answered, and nothing else was written.

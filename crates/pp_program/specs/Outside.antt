@@ -1,15 +1,12 @@
 -- What is outside of the program, as its devices show it.
 use Rattle.std.specs.Prelude.{ℕ, Bool, List}
 use Rattle.pp_arguments.specs.CommandLine.{Text}
-use Rattle.pp_host.specs.Events.{Event}
-use Rattle.pp_host.specs.Known.{Found, Known, Words}
+use Rattle.pp_host.specs.{Events.Event, Known.Found, Known.Known, Known.Words}
 use Rattle.pp_host.specs.declared.host.Host.{Ghosts as HostGhosts}
-use Rattle.pp_lines.specs.Dialogue.{Dialogue}
-use Rattle.pp_lines.specs.Output.{Written}
+use Rattle.pp_lines.specs.{Dialogue.Dialogue, Output.Written, declared.terminal.Terminal.Terminal}
 use Rattle.pp_lines.specs.Terminal.{at_reads, sink_of, source_of}
 use Rattle.pp_lines.specs.declared.device.Sink.{Ghosts as SinkGhosts}
 use Rattle.pp_lines.specs.declared.device.Source.{Ghosts as SourceGhosts}
-use Rattle.pp_lines.specs.declared.terminal.Terminal.{Terminal}
 
 -- The files of a host.
 pub record Files : Type 0 where

@@ -4,15 +4,10 @@ use Rattle.pp_arguments.specs.CommandLine.{Text}
 use Rattle.pp_host.specs.Known.{Agrees, Found, IsContent, IsInput, Known}
 use Rattle.pp_host.specs.Options.{Asked, Means, path_of}
 use Rattle.pp_lines.specs.Prefixes.{IsProperPrefix}
-use Rattle.pp_program.specs.Course.{Course, ends}
-use Rattle.pp_program.specs.Cuts.{IsCut}
-use Rattle.pp_program.specs.Order.{IsInOrder}
-use Rattle.pp_program.specs.Outside.{Outside, dialogue_of}
+use Rattle.pp_program.specs.{Course.Course, Course.ends, Cuts.IsCut, Order.IsInOrder, Outside.Outside, Outside.dialogue_of}
 use Rattle.pp_program.specs.Program.{Given, exit_of, program}
 use Rattle.pp_program.specs.Traces.{AreRead, AreReadEnough, Ended, IsOutput, IsReported, IsTyped}
-use Rattle.pp_trouble.specs.Message.{line_of}
-use Rattle.pp_trouble.specs.declared.trouble.FileKind.{FileKind}
-use Rattle.pp_trouble.specs.declared.trouble.Trouble.{Trouble}
+use Rattle.pp_trouble.specs.{Message.line_of, declared.trouble.FileKind.FileKind, declared.trouble.Trouble.Trouble}
 use Rattle.pp_trouble.specs.declared.trouble.Trouble.TheVariants.{Help, NoMemory, WriteFailed}
 
 -- ---- the course

@@ -1,21 +1,13 @@
 -- What a run reads and writes.
 use Rattle.std.specs.Prelude.{◌≡◌, ℕ, Bool, true, false, All, if◌then◌else◌, List, [], ◌++◌, ◌⊎◌, Some, Result, Ok, Err}
-use Rattle.std.specs.Io.KnownBytes.{Consumes}
-use Rattle.std.specs.List.{flat_map}
+use Rattle.std.specs.{Io.KnownBytes.Consumes, List.flat_map}
 use Rattle.pp_arguments.specs.CommandLine.{Text}
-use Rattle.pp_host.specs.Events.{events_of}
-use Rattle.pp_host.specs.Failures.{reads_by, writes_by}
+use Rattle.pp_host.specs.{Events.events_of, Failures.reads_by, Failures.writes_by, Loading.deck_at, Loading.panel_at}
 use Rattle.pp_host.specs.Known.{Content, Found, Missing}
-use Rattle.pp_host.specs.Loading.{deck_at, panel_at}
-use Rattle.pp_lines.specs.Device.{one_more}
-use Rattle.pp_lines.specs.Output.{Appends}
-use Rattle.pp_lines.specs.Prefixes.{IsProperPrefix}
-use Rattle.pp_program.specs.Course.{Course}
-use Rattle.pp_program.specs.Outside.{Files, Input, Output}
-use Rattle.pp_trouble.specs.Message.{line_of}
+use Rattle.pp_lines.specs.{Device.one_more, Output.Appends, Prefixes.IsProperPrefix}
+use Rattle.pp_program.specs.{Course.Course, Outside.Files, Outside.Input, Outside.Output}
+use Rattle.pp_trouble.specs.{Message.line_of, declared.trouble.FileKind.FileKind, declared.trouble.Trouble.Trouble}
 use Rattle.pp_trouble.specs.declared.trouble.FileKind.TheVariants.{Deck, Panel, Script}
-use Rattle.pp_trouble.specs.declared.trouble.FileKind.{FileKind}
-use Rattle.pp_trouble.specs.declared.trouble.Trouble.{Trouble}
 use Rattle.pp_trouble.specs.declared.trouble.Trouble.TheVariants.{CannotOpen, LineLimit}
 
 -- ---- what is read

@@ -1,14 +1,17 @@
 -- Recordings of actions, one after another.
-use Rattle.std.proofs.Common.{◌≡◌, ◌∙◌, ◌+◌, ◌<◌, ℕ, zero, suc, List, [], ◌∷◌, ◌++◌, add-one, ap, append-nil, append_assoc, get_or, length, map, refl, replicate, sym, take}
+use Rattle.std.proofs.Common.{◌≡◌, ◌∙◌, ◌+◌, ◌<◌, ℕ, zero, suc, List, [], ◌∷◌, ◌++◌, add-one, ap, append-nil, append_assoc, arith, drop, drop-cons, get_or, length, map, refl, replicate, sym, take}
 use Rattle.std.proofs.lemmas.List.{map-append, take_more}
 use Rattle.pp_actions.specs.declared.action.Action.{Action}
 use Rattle.pp_actions.specs.declared.action.Action.TheVariants.{Turn}
-use Rattle.pp_history.specs.SessionValue.{performed}
+use Rattle.pp_history.proofs.Steps.{after_steps-more}
+use Rattle.pp_history.specs.SessionLaws.{machine_at}
+use Rattle.pp_history.specs.SessionValue.{IsAt, Moves, SessionValue, after_forward, performed, replay}
 use Rattle.pp_machine.specs.Machine.{Machine}
 use Rattle.pp_machine.specs.Numbering.{place_number}
 use Rattle.pp_machine.specs.Prelude.{write_list, write_list-append}
 use Rattle.pp_machine.specs.declared.place.Write.{Write}
 use Rattle.pp_rig.proofs.Shortest.{turned-first}
+use Rattle.pp_rig.proofs.TurnRuns.{State}
 use Rattle.pp_rig.specs.Action.{next}
 use Rattle.pp_rig.specs.Inner.ActionRecords.{old_values_of}
 use Rattle.pp_rig.specs.Recording.{moment_of, moments_of, numbered, olds_of}
@@ -41,6 +44,59 @@ olds_last s [] last = append-nil (numbered (old_values_of s last))
 olds_last s (action ∷ later) last =
     ap (λ olds. numbered (old_values_of s action) ++ olds) (olds_last (next s action) later last)
     ∙ sym (append_assoc (numbered (old_values_of s action)) (olds_of (next s action) later) (numbered (old_values_of (performed rules (next s action) later) last)))
+
+-- one more of the actions ahead
+performed_last : (s : Machine) (actions : List Action) (last : Action) →
+    performed rules s (actions ++ last ∷ []) ≡ next (performed rules s actions) last
+performed_last s [] last = refl
+performed_last s (action ∷ later) last = performed_last (next s action) later last
+
+-- the action behind the first `count`
+module _ (ahead : List Action) (count : ℕ) (within : count < length ahead) where
+  pub ahead_following : drop count ahead ≡ get_or ahead count Turn ∷ drop (count + 1) ahead
+  ahead_following = rw (add-one, drop-cons ahead count Turn within) refl
+
+  one_more : take (count + 1) ahead ≡ take count ahead ++ get_or ahead count Turn ∷ []
+  one_more = take_more ahead count Turn within
+
+  module _ (s : Machine) where
+    pub performed_following : performed rules s (take (count + 1) ahead)
+        ≡ next (performed rules s (take count ahead)) (get_or ahead count Turn)
+    performed_following = rw (one_more, performed_last) refl
+
+    pub moments_following : moments_of s (take (count + 1) ahead)
+        ≡ moments_of s (take count ahead) ++ moment_of (performed rules s (take count ahead)) (get_or ahead count Turn) ∷ []
+    moments_following = rw (one_more, moments_last) refl
+
+    pub olds_following : olds_of s (take (count + 1) ahead)
+        ≡ olds_of s (take count ahead) ++ numbered (old_values_of (performed rules s (take count ahead)) (get_or ahead count Turn))
+    olds_following = rw (one_more, olds_last) refl
+
+-- no action was performed again
+pub forward_none : (s : State) → Moves rules s s (λ v. after_forward v 0)
+forward_none s = λ v at. let none : after_forward v 0 ≡ v = grind arith in rw none at
+
+-- the first action ahead was performed again
+pub forward_standing : (old : State) (v : SessionValue Machine Action) (action : Action) (later : List Action) → IsAt rules old v →
+    old.ahead ≡ action ∷ later → (after_forward v 1).standing ≡ action ∷ v.standing
+forward_standing old v action later at same = rw (sym at.ahead ∙ same) refl
+
+pub forward_machine : (old new : State) (v : SessionValue Machine Action) (action : Action) (later : List Action) → IsAt rules old v →
+    IsAt rules new (after_forward v 1) → old.ahead ≡ action ∷ later → new.machine ≡ next old.machine action
+forward_machine old new v action later at moved same =
+    machine_at rules new (after_forward v 1) moved
+    ∙ ap (λ standing. replay rules v.start standing) (forward_standing old v action later at same)
+    ∙ ap (λ s. next s action) (sym (machine_at rules old v at))
+
+-- one more action was performed again
+pub forward_more : (count : ℕ) (old middle new : State) → Moves rules old middle (λ v. after_forward v count) →
+    Moves rules middle new (λ v. after_forward v 1) → Moves rules old new (λ v. after_forward v (count + 1))
+forward_more count old middle new before once = λ v at. rw (← (after_steps-more v count 1).1) (once (after_forward v count) (before v at))
+
+-- what is ahead after some
+pub still_ahead : (count : ℕ) (old new : State) (v : SessionValue Machine Action) → IsAt rules old v →
+    Moves rules old new (λ v. after_forward v count) → new.ahead ≡ drop count old.ahead
+still_ahead count old new v at moves = (moves v at).ahead ∙ ap (drop count) (sym at.ahead)
 
 -- a turn at the end of turns
 replicate_last : (n : ℕ) (action : Action) → replicate (suc n) action ≡ replicate n action ++ action ∷ []

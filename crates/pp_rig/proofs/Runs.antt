@@ -138,12 +138,13 @@ pub stopped_once : (machine : Machine) → stopped 1 machine ≡ record { turns 
 unfolding turns_before stopped
 stopped_once machine = grind (arith, before_next 1 0 machine (omega arith))
 
--- one turn is turned once
-pub turned_once : (machine : Machine) → turned 1 machine ≡ turn machine
-turned_once machine = refl
+-- nothing is watched
+pub none_watched : (old new : Machine) (watches : List Watched) → length watches ≡ 0 → first_change old new watches ≡ None
+none_watched old new [] empty = refl
+none_watched old new (watched ∷ others) empty = absurd (omega (arith, empty))
 
 -- what one turn needs
-pub ruleset one_turn_runs = (stopped_once, turned_once)
+pub ruleset one_turn_acts = (none_watched, turn-watches)
 
 -- what a search for a change needs
 pub ruleset changes = (first_step, record_was)

@@ -1,22 +1,18 @@
 -- Turns of a session, one after another, that changed no watched number so far.
-use Rattle.std.proofs.Common.{◌≡◌, ◌∙◌, ◌+◌, ◌-◌, ◌*◌, ◌<◌, ℕ, zero, suc, Bool, true, false, List, [], ◌∷◌, ◌++◌, All, add-one, ap, append-nil, append_assoc, arith, is_some, length, map, refl, subst, sym, take}
+use Rattle.std.proofs.Common.{◌≡◌, ◌∙◌, ◌+◌, ◌-◌, ◌*◌, ◌<◌, ℕ, zero, suc, Bool, true, false, List, [], ◌∷◌, ◌++◌, All, add-one, ap, append-nil, append_assoc, arith, is_some, length, refl, subst, sym, take}
 use Rattle.std.specs.Prelude.{Option, Some, None}
-use Rattle.pp_actions.specs.Watches.{watched_place, watches_of}
 use Rattle.pp_actions.specs.declared.action.Action.{Action}
 use Rattle.pp_actions.specs.declared.action.Action.TheVariants.{Turn}
 use Rattle.pp_history.specs.Contents.{Contents}
-use Rattle.pp_history.specs.Marks.{AreCovered}
 use Rattle.pp_history.specs.SessionValue.{Moves, after_act}
-use Rattle.pp_history.specs.declared.marks.Marks.{Marks}
 use Rattle.pp_machine.specs.NumberLaws.{setup-over}
 use Rattle.pp_machine.specs.Prelude.{Has, Machine}
 use Rattle.pp_machine.specs.declared.place.Place.{Place}
 use Rattle.pp_rig.proofs.Overwritten.{next_by_writes}
-use Rattle.pp_rig.proofs.Runs.{after_turns_add, run_in_parts, stopped_once, turns_before, watches_kept}
+use Rattle.pp_rig.proofs.Runs.{after_turns_add, run_in_parts, stopped_once, turns_before}
 use Rattle.pp_rig.proofs.Shortest.{turned-first}
 use Rattle.pp_rig.specs.Columns.{EndsAsStep, row, rows_of}
 use Rattle.pp_rig.specs.Inner.ActionRecords.{writes}
-use Rattle.pp_rig.specs.Inner.Marks.{marks_of}
 use Rattle.pp_rig.specs.Rules.{rules}
 use Rattle.pp_rig.specs.Stopping.{after_turns, hit_of, stopped, turned}
 use Rattle.pp_rig.specs.Turn.{turn}
@@ -80,14 +76,6 @@ ends_with_hit turns old middle hit ran is =
 -- the end, with no such turn
 pub ends_without_hit : (turns : ℕ) (old new : State) → Ran turns old new → EndsAsStep turns old.machine false
 ends_without_hit turns old new ran = (ap (λ done. done.turns) ran.stopped, ap (λ done. is_some done.hit) ran.stopped)
-
--- the same places are watched
-pub covered_later : (marks : Marks) (turns : ℕ) (old new : State) → Ran turns old new →
-    AreCovered marks_of marks (map watched_place (watches_of old.machine)) →
-    AreCovered marks_of marks (map watched_place (watches_of new.machine))
-covered_later marks turns old new ran covered =
-    let same : watches_of new.machine ≡ watches_of old.machine = grind (arith, ran.machine, watches_kept turns old.machine) in
-    rw same covered
 
 -- turns leave the setup
 setup_kept : (turns : ℕ) (s : Machine) → (turned turns s).setup ≡ s.setup

@@ -1,15 +1,21 @@
 -- What actions overwrote, as numbers: a page or a debugger shows it, and puts it back.
-use Rattle.std.specs.Prelude.{ℕ, List, [], ◌∷◌, ◌++◌, length, map}
+use Rattle.std.specs.Prelude.{◌≡◌, ◌+◌, ◌<◌, ◌≤◌, ◌⊎◌, ℕ, List, [], ◌∷◌, ◌++◌, length, map, take}
 use Rattle.pp_actions.specs.declared.action.Action.{Action}
 use Rattle.pp_actions.specs.declared.action.Action.TheVariants.{Turn}
+use Rattle.pp_history.specs.Contents.{Contents}
+use Rattle.pp_history.specs.SessionValue.{Moves, after_forward}
 use Rattle.pp_machine.specs.Machine.{Machine}
 use Rattle.pp_machine.specs.Numbering.{place_number}
+use Rattle.pp_machine.specs.WriteList.{list_room}
 use Rattle.pp_machine.specs.Writes.{Writes}
 use Rattle.pp_machine.specs.declared.place.Place.{Place}
 use Rattle.pp_rig.specs.Action.{next}
 use Rattle.pp_rig.specs.Inner.ActionRecords.{old_values_of}
 use Rattle.pp_rig.specs.declared.recording.Moment.{Moment}
+use Rattle.pp_rig.specs.Rules.{rules}
 use Rattle.pp_rig.specs.declared.recording.Old.{Old}
+use Rattle.pp_rig.specs.declared.recording.Redone.{Redone}
+use Rattle.pp_rig.specs.declared.rig.RigRecord.{RigRecord}
 
 -- These places by their numbers, each with its old number.
 abbrev pub numbered : Writes Place → List Old
@@ -33,3 +39,12 @@ moments_of s (action ∷ later) = moment_of s action ∷ moments_of (next s acti
 unfoldable pub olds_of : Machine → List Action → List Old
 olds_of s [] = []
 olds_of s (action ∷ later) = numbered (old_values_of s action) ++ olds_of (next s action) later
+
+-- The first actions ahead were performed again, with what they overwrote. There are fewer than were asked for only if there was no
+-- more room.
+pub record IsRedone (most : ℕ) (old new : Contents Machine Action RigRecord) (made : List Moment) (olds : List Old) (redone : Redone) : Type 0 where
+  pub moves : Moves rules old new (λ v. after_forward v redone.actions)
+  pub moments : take redone.actions made ≡ moments_of old.machine (take redone.actions old.ahead)
+  pub overwritten : take redone.olds olds ≡ olds_of old.machine (take redone.actions old.ahead)
+  pub within : (redone.actions ≤ most) × (redone.actions ≤ length made) × (redone.olds ≤ length olds)
+  pub full : (most ≤ redone.actions) ⊎ ((length made ≤ redone.actions) ⊎ (length olds < redone.olds + list_room))

@@ -1,6 +1,5 @@
 //! Turns, and the numbers of chosen places after each of them.
 ghost use Rattle.pp_history.specs.SessionValue.{Moves};
-ghost use Rattle.pp_history.specs.Marks.{AreCovered};
 ghost use Rattle.pp_machine.specs.Numbering.{fixed_places, place_at};
 ghost use Rattle.pp_machine.specs.Prelude.{Has, number};
 ghost use Rattle.pp_rig.specs.Columns.{EndsAsStep, row, rows_of};
@@ -12,7 +11,7 @@ use crate::numbers::place_count;
 use crate::rig::Rig;
 use crate::stopping::turn_once;
 use arrayvec::ArrayVec;
-use pp_history::{Marks, Reversible, Session};
+use pp_history::{Reversible, Session};
 use pp_machine::{Place, place_at};
 
 /// How a run of turns ended.
@@ -70,14 +69,13 @@ pub fn look(session: &mut Session<Rig>, most: usize, places: &[Place], into: &mu
     ensures within { (result.turns ≤ most) × (result.turns * length places.now ≤ length into.new) }
     ensures full { result.hit ≡ false → (most ≤ result.turns) ⊎ (length into.new < (result.turns + 1) * length places.now) }
 {
-    let marks = Marks::of::<Rig>(session.machine().watched_places().as_slice());
     let mut turns = 0;
     let mut used = 0;
     while turns < most {
         if into.len() - used < places.len() {
             return Ended { turns, hit: false };
         }
-        let hit = turn_once(session, &marks);
+        let hit = turn_once(session);
         write_row(session.machine(), places, into, used);
         used += places.len();
         turns += 1;

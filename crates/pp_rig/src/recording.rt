@@ -1,25 +1,24 @@
-//! Turns, and what each of them overwrote.
+//! Actions, and what each of them overwrote.
 ghost use Rattle.arrayvec.specs.ArrayVec.{array_vec_len};
-ghost use Rattle.pp_actions.specs.Watches.{watched_place, watches_of};
 ghost use Rattle.pp_actions.specs.declared.action.Action.TheVariants.{Turn};
-ghost use Rattle.pp_history.specs.Marks.{AreCovered};
-ghost use Rattle.pp_history.specs.SessionValue.{IsAt, Moves, SessionValue, replay};
+ghost use Rattle.pp_history.specs.SessionValue.{IsAt, Moves, SessionValue, after_forward, replay};
+ghost use Rattle.pp_history.specs.declared.session.BackFault as BackFault;
 ghost use Rattle.pp_machine.specs.Machine.{Machine};
 ghost use Rattle.pp_machine.specs.Prelude.{list_room, write_list};
+ghost use Rattle.pp_rig.specs.Action.{next};
 ghost use Rattle.pp_rig.specs.Columns.{EndsAsStep};
 ghost use Rattle.pp_rig.specs.Inner.ActionRecords.{old_values_of};
-ghost use Rattle.pp_rig.specs.Inner.Marks.{marks_of};
-ghost use Rattle.pp_rig.specs.Recording.{moment_of, moments_of, numbered, olds_of};
+ghost use Rattle.pp_rig.specs.Recording.{IsRedone, moment_of, moments_of, numbered, olds_of, processor_of};
 ghost use Rattle.pp_rig.specs.Rules.{rules};
 ghost use Rattle.pp_rig.specs.Stopping.{after_turns, hit_of};
 ghost use Rattle.pp_rig.specs.Turn.{turn};
-ghost use Rattle.std.specs.Prelude.{◌≡◌, ◌+◌, ◌<◌, ◌≤◌, ◌++◌, ◌∷◌, ◌⊎◌, List, false, is_some, length, map, replicate, take};
+ghost use Rattle.std.specs.Prelude.{◌≡◌, ◌+◌, ◌<◌, ◌≤◌, ◌++◌, ◌∷◌, ◌⊎◌, ◌↔◌, IfErr, IfOk, IsErr, OnErr, List, false, is_some, length, replicate, take};
 
 use crate::rig::{Rig, newest_old_values_into};
 use crate::stopping::turn_once;
 use arrayvec::ArrayVec;
 use pp_actions::Action;
-use pp_history::{Marks, Session};
+use pp_history::{BackFault, KeptAction, Session};
 use pp_machine::{Write, WriteList, place_number};
 
 /// The most places that one action overwrites (decimal).
@@ -52,6 +51,15 @@ pub struct Recorded {
     pub olds: usize,
     /// Whether the last one changed the number of a watched place.
     pub hit: bool,
+}
+
+/// How far a recording of actions that are performed again came.
+#[derive(Clone, Copy, Drop)]
+pub struct Redone {
+    /// How many actions were performed again.
+    pub actions: usize,
+    /// How many places they overwrote.
+    pub olds: usize,
 }
 
 /// Writes pairs into a slice, behind the first `used` that are there.
@@ -95,13 +103,11 @@ fn record_newest(
 #[inline(always)]
 fn record_turn(
     session: &mut Session<Rig>,
-    marks: &Marks,
     list: &mut WriteList,
     olds: &mut [Old],
     used: usize,
 ) -> (Moment, bool)
-    requires covered { AreCovered marks_of marks.now (map watched_place (watches_of session.old.machine)) }
-    requires room { used + list_room ≤ length olds.old }
+    requires { used + list_room ≤ length olds.old }
     ensures hit { result.1 ≡ is_some (hit_of session.old.machine) }
     ensures machine { session.new.machine ≡ turn session.old.machine }
     ensures at { Moves rules session.old session.new (after_turns 1) }
@@ -112,7 +118,7 @@ fn record_turn(
     session.has_session_value();
     let _capacity = session.capacity();
     let slot = session.machine().slot();
-    let hit = turn_once(session, marks);
+    let hit = turn_once(session);
     let moment = Moment {
         processor: u32::from(slot),
         count: record_newest(session, list, olds, used) as u32,
@@ -137,12 +143,11 @@ pub fn record(
     ensures within { (result.turns ≤ most) × (result.turns ≤ length made.new) × (result.olds ≤ length olds.new) }
     ensures full { result.hit ≡ false → (most ≤ result.turns) ⊎ ((length made.new ≤ result.turns) ⊎ (length olds.new < result.olds + list_room)) }
 {
-    let marks = Marks::of::<Rig>(session.machine().watched_places().as_slice());
     let mut list = ArrayVec::new();
     let mut turns = 0;
     let mut used = 0;
     while turns < most && turns < made.len() && olds.len() - used >= MOST_OLDS {
-        let (moment, hit) = record_turn(session, &marks, &mut list, olds, used);
+        let (moment, hit) = record_turn(session, &mut list, olds, used);
         made[turns] = moment;
         turns += 1;
         used += moment.count as usize;
@@ -159,4 +164,98 @@ pub fn record(
         olds: used,
         hit: false,
     }
+}
+
+/// Returns the processor whose turn an action is, or 10 (decimal) if it is no turn. The slot is that before the action.
+#[inline(always)]
+fn processor_of(action: &Action, slot: u8) -> u32
+    ensures { (s : Machine) → s.slot ≡ slot → result ≡ processor_of s action.now }
+{
+    match action {
+        Action::Turn => u32::from(slot),
+        _ => 10,
+    }
+}
+
+/// Returns the processor whose turn the newest action was, or 10 (decimal) if it was no turn. The slot is that before the
+/// action.
+#[inline(always)]
+fn newest_processor(session: &Session<Rig>, slot: u8) -> u32
+    requires { 1 ≤ length session.now.records }
+    ensures { (v : SessionValue Machine Action) (action : Action) (earlier : List Action) (s : Machine) →
+        IsAt rules session.now v → v.standing ≡ action ∷ earlier → s.slot ≡ slot → result ≡ processor_of s action }
+{
+    match session.newest_action() {
+        Some(KeptAction::Head(_)) => u32::from(slot),
+        Some(KeptAction::Tail(action)) => processor_of(action, slot),
+        None => unreachable!(),
+    }
+}
+
+/// Performs the next action ahead again, and writes what it overwrote into a slice, behind the first `used` that are
+/// there. Returns the action.
+#[inline(always)]
+fn record_next(
+    session: &mut Session<Rig>,
+    list: &mut WriteList,
+    olds: &mut [Old],
+    used: usize,
+) -> Moment
+    requires some { 1 ≤ length session.old.ahead }
+    requires room { used + list_room ≤ length olds.old }
+    ensures moves { Moves rules session.old session.new (λ v. after_forward v 1) }
+    ensures at_most { result.count ≤ list_room }
+    ensures machine { (action : Action) (later : List Action) → session.old.ahead ≡ action ∷ later →
+        session.new.machine ≡ next session.old.machine action }
+    ensures moment { (action : Action) (later : List Action) → session.old.ahead ≡ action ∷ later →
+        result ≡ moment_of session.old.machine action }
+    ensures olds { (action : Action) (later : List Action) → session.old.ahead ≡ action ∷ later →
+        take (used + result.count) olds.new ≡ take used olds.old ++ numbered (old_values_of session.old.machine action) }
+{
+    session.has_session_value();
+    let slot = session.machine().slot();
+    let Ok(()) = session.forward(1) else {
+        unreachable!()
+    };
+    Moment {
+        processor: newest_processor(session, slot),
+        count: record_newest(session, list, olds, used) as u32,
+    }
+}
+
+/// Performs the next `most` actions ahead again, as `Session::forward` does, without a stop at a watched place. It stops
+/// earlier if there is no more room: in `made` for one action, or in `olds` for `MOST_OLDS` places. Writes what `record`
+/// writes, for each action.
+///
+/// # Errors
+/// `TooFewAhead` if fewer than `most` actions are ahead. Nothing is changed then.
+pub fn record_again(
+    session: &mut Session<Rig>,
+    most: usize,
+    made: &mut [Moment],
+    olds: &mut [Old],
+) -> Result<Redone, BackFault>
+    ensures fails { IsErr result ↔ (length session.old.ahead < most) }
+    ensures fault { IfErr result (λ fault. fault ≡ BackFault.TooFewAhead (length session.old.ahead)) }
+    ensures unchanged { OnErr result ((session.new ≡ session.old) × (made.new ≡ made.old) × (olds.new ≡ olds.old)) }
+    ensures redone { IfOk result (IsRedone most session.old session.new made.new olds.new) }
+{
+    session.has_session_value();
+    let ahead = session.ahead();
+    if most > ahead as usize {
+        return Err(BackFault::TooFewAhead { ahead });
+    }
+    let mut list = ArrayVec::new();
+    let mut actions = 0;
+    let mut used = 0;
+    while actions < most && actions < made.len() && olds.len() - used >= MOST_OLDS {
+        let moment = record_next(session, &mut list, olds, used);
+        made[actions] = moment;
+        actions += 1;
+        used += moment.count as usize;
+    }
+    Ok(Redone {
+        actions,
+        olds: used,
+    })
 }

@@ -114,16 +114,21 @@ fn run_part(session: &mut Session<Rig>, n: u32, marks: &Marks) -> Stopped
     }
 }
 
-/// Performs one turn, and returns whether it changed the number of a watched place.
+/// Performs one turn, and returns whether it changed the number of a watched place. The turn is compiled into each loop that
+/// calls this.
 #[inline(always)]
-#[tactic(auto, using(crate::proofs::Runs::one_turn_runs))]
-pub(crate) fn turn_once(session: &mut Session<Rig>, marks: &Marks) -> bool
-    requires covered { AreCovered marks_of marks.now (map watched_place (watches_of session.old.machine)) }
+#[tactic(auto, unfolding(pp_actions::specs::Admitting::first_fault), using(crate::proofs::Runs::one_turn_acts))]
+pub(crate) fn turn_once(session: &mut Session<Rig>) -> bool
     ensures hit { result ≡ is_some (hit_of session.old.machine) }
     ensures machine { session.new.machine ≡ turn session.old.machine }
     ensures at { Moves rules session.old session.new (after_turns 1) }
 {
-    run_part(session, 1, marks).hit.is_some()
+    session.has_session_value();
+    session.act(Action::Turn);
+    if session.machine().watches().is_empty() {
+        return false;
+    }
+    newest_change(session).is_some()
 }
 
 /// Performs turns until n were performed, or until one changed the number of a watched place.

@@ -2,6 +2,7 @@
 
 from ..language.symbol_options import add_sources, symbols_of
 from ..run.session import Session
+from ..run.tape import Position
 from ..shell.command_line import add_script, add_turn, arguments, script_lines, simulator
 from ..shell.script import performed
 from ..shell.shown import show_lines
@@ -23,7 +24,7 @@ def main() -> int:
     lines, status = symbols_of(asked).loading(script_lines(asked.script)), 0
     if asked.turn is not None:
         script = performed(words, lines)
-        lines, status = list(script.tape.lines(0, script.tape.after_turn(asked.turn))), script.status()
+        lines, status = list(script.tape.lines(Position(0), script.tape.after_turn(asked.turn))), script.status()
     run = Session(words)
     status |= show_lines(run, lines, asked.stop)
     return max(run.end(), status)

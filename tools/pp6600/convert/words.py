@@ -4,7 +4,7 @@ from argparse import Namespace
 from typing import List, Optional, Sequence
 
 from ..language.display_code import text_of, words_of
-from ..run.forms import CELLS, FORMS, ROW
+from ..run.forms import CELLS, ROW, form
 from ..shell.command_line import Failure, Parser, cell, processor, read_lines, words_after, write_lines
 from .cells import in_rows, set_lines, word_of
 
@@ -19,7 +19,7 @@ def set_lines_of_dump(processor: int, lines: Sequence[str]) -> List[str]:
     result: List[str] = []
     following: Optional[int] = None
     for number, line in enumerate(lines, 1):
-        if not FORMS["M"].fields(line):
+        if not form("M").fullmatch(line):
             raise Failure(f"line {number} (decimal) is no row of a DUMP M")
         address, *words = line.split()
         first = int(address, 8)

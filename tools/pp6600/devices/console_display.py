@@ -20,7 +20,6 @@ SIZES = {0: 8, 1: 16, 2: 32}  # of symbols, by the last digit of the function co
 DRAWING = {0o7000 + screen + kind for screen in (0, 0o100) for kind in (*SIZES, DOTS)}  # function codes
 X, Y, PLACE = 0o6000, 0o7000, 0o777
 FADING = 200000  # turns after which a mark is seen no longer: 20 ms, if a turn has 0.1 µs
-MOST_MARKS = 4096  # on a screen
 
 
 class Shown(NamedTuple):
@@ -45,6 +44,7 @@ class ConsoleDisplay(Device):
     """A display console."""
 
     start = State()
+    most_marks = 4096  # of which a screen's newest are kept
 
     def __init__(self, fading: Union[str, int] = FADING, channel: int = 0o10) -> None:
         """What is drawn fades in so many turns, which are octal in a text."""
@@ -81,8 +81,8 @@ class ConsoleDisplay(Device):
         """Puts a mark on the screen."""
         number = state.code >> 6 & 1
         chain = state.screens[number].push(Shown(mark, state.turn))
-        if chain.length > 2 * MOST_MARKS:  # seldom: all that is seen goes into a new chain
-            chain = chain_of(self.seen(state, chain)[-MOST_MARKS:])
+        if chain.length > 2 * self.most_marks:  # seldom: all that is seen goes into a new chain
+            chain = chain_of(self.seen(state, chain)[-self.most_marks:])
         return state._replace(screens=(chain, state.screens[1]) if number == 0 else (state.screens[0], chain))
 
     def seen(self, state: State, chain: Chain) -> List[Shown]:

@@ -50,16 +50,22 @@ class Counts(NamedTuple):
 
 
 class Moment(NamedTuple):
-    """A turn: its processor, and each place that it overwrote with its old number."""
+    """A turn: its processor, and each place that it overwrote with its old number. The processor of another action is 10."""
     processor: int
     olds: List[Tuple[int, int]]
+
+
+def moments_of(made: Sequence[int], records: Records) -> List[Moment]:
+    """Returns the turns of a recording, one by one."""
+    rest = iter(zip(records.places, records.numbers))
+    return [Moment(processor, [next(rest) for _ in range(count)]) for processor, count in zip(made[::2], made[1::2])]
 
 
 class Handle(ctypes.Structure):
     _fields_ = [("at", ctypes.c_void_p)]
 
 
-CALLS = ("open", "answer", "numbers", "counts", "turns", "looks", "back", "forward", "close")
+CALLS = ("open", "answer", "numbers", "counts", "turns", "again", "looks", "back", "forward", "close")
 
 
 def load(path: Optional[str] = None) -> Any:
@@ -144,19 +150,26 @@ class Session:
 
     def turns(self, most: int) -> Tuple[List[Moment], bool]:
         """Performs turns, up to the first that changes a watched number. Returns them, and whether the last one did."""
-        made, records = self.records(most, MOST_OLDS)
-        rest = iter(zip(records.places, records.numbers))
-        moments = [Moment(processor, [next(rest) for _ in range(count)]) for processor, count in zip(made[::2], made[1::2])]
-        return moments, records.is_watched
+        _, made, records = self._recorded("turns", most, MOST_OLDS)
+        return moments_of(made, records), records.is_watched
+
+    def again(self, count: int) -> Optional[List[Moment]]:
+        """Performs undone actions again, and returns them; None if there are too few, and then none is performed."""
+        status, made, records = self._recorded("again", count, MOST_OLDS)
+        return None if status == REFUSED else moments_of(made, records)
 
     def records(self, most: int, pairs_of_turn: int = PAIRS_OF_TURN) -> Tuple[Sequence[int], Records]:
         """As `turns`, in as few as the room of so many pairs for each turn makes it. Returns of each the processor and the number of places,
         in turn, and what they overwrote."""
+        return self._recorded("turns", most, pairs_of_turn)[1:]
+
+    def _recorded(self, call: str, most: int, pairs_of_turn: int) -> Tuple[int, Sequence[int], Records]:
+        """Makes a call that records actions, with room for so many pairs for each. Returns its status, and what `records` returns."""
         pairs = pairs_of_turn * most + MOST_OLDS
         made, olds, turns, used = (c_uint32 * (2 * most))(), (c_uint64 * (2 * pairs))(), c_size_t(), c_size_t()
-        status = self._call("turns", c_uint32(most), made, c_size_t(most), olds, c_size_t(pairs), byref(turns), byref(used))
+        status = self._call(call, c_uint32(most), made, c_size_t(most), olds, c_size_t(pairs), byref(turns), byref(used))
         of_turns = array("I", memoryview(made).cast("B")[:8 * turns.value].tobytes())
-        return of_turns, Records(of_turns[1::2], memoryview(olds).cast("B")[:16 * used.value].tobytes(), status == WATCHED)
+        return status, of_turns, Records(of_turns[1::2], memoryview(olds).cast("B")[:16 * used.value].tobytes(), status == WATCHED)
 
     def looks(self, most: int, places: Sequence[int]) -> Tuple[List[List[int]], bool]:
         """Performs turns as `turns` does. Returns the numbers at the places after each, and whether the last changed a watched number."""
@@ -203,14 +216,15 @@ class LibraryEngine:
         self.most, self.width, self.seen_room = c_uint32(), c_size_t(), c_size_t()
 
     def answer(self, text: str) -> List[str]:
-        typed, found = text.encode("latin-1"), []
+        typed = text.encode("latin-1")
+        found: List[bytes] = []
         while typed:
             end = len(typed) if len(typed) <= MOST_AT_ONCE else typed.rfind(b"\n", 0, MOST_AT_ONCE) + 1 or len(typed)
             self.size.value = end
             status = self.session._call("answer", typed, self.size, self.text, self.room, *self.counted)
+            if status == DONE and end == len(typed) and not found:
+                return str(self.text[:self.count.value], "ascii").splitlines()
             found.append(self.text[:self.count.value])
-            if status == DONE and end == len(typed):
-                break
             typed = typed[self.taken.value:]
             if status == ROOM and not self.taken.value:
                 self.room.value *= 4

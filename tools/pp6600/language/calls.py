@@ -7,10 +7,10 @@ from typing import TYPE_CHECKING, Iterator, List, NamedTuple, Optional, Sequence
 
 from ..run.conditions import RJM, parsed
 from ..run.forms import CELLS, PROCESSORS, Place
-from ..run.origin import SET, TURN, Search, Step
+from ..run.origin_search import SET, TURN, OriginSearch, Step
 from ..run.search import Made, around, last_moments
 from ..run.session import Session
-from ..run.tape import Tape
+from ..run.tape import Position, Tape
 from ..run.turn import Processor
 from .names import AllSymbols
 
@@ -24,7 +24,7 @@ AT_FIRST, MORE, MOST = 1, 8, 0o10000  # arrivals at an address that are looked a
 class Rjm(NamedTuple):
     """An RJM that was performed: the position after it, and the processor before it."""
 
-    position: int
+    position: Position
     processor: Processor
 
 
@@ -56,33 +56,32 @@ def arrivals(run: Session, number: int, address: int, first: int, last: int) -> 
 
 def turn_made(run: Session, turn: int) -> Made:
     """Returns the turn with a number, from 1."""
-    position = run.tape.at_turn(turn) - 1
-    return around(run, position)[1]
+    return around(run, run.tape.before_turn(turn))[1]
 
 
-def call_of(run: Session, number: int, jump: int, position: int) -> Optional[Call]:
+def call_of(run: Session, number: int, jump: int, position: Position) -> Optional[Call]:
     """Returns the last call before a position of a subroutine whose jump back is at an address; None if it was not called."""
     for turn in arrivals(run, number, jump + 2, 0, run.tape.turn(position)):
         made = turn_made(run, turn)
         if made.slot == number and made.processor.name == RJM and not made.processor.phase:
-            rjm = Rjm(made.position + 1, made.processor)
+            rjm = Rjm(Position(made.position + 1), made.processor)
             entry, back = (write_after(run, number, cell, rjm, position) for cell in (jump + 1, jump))
             return Call(jump, rjm, entry, back)
     return None
 
 
-def write_after(run: Session, number: int, cell: int, rjm: Rjm, position: int) -> Optional[Step]:
+def write_after(run: Session, number: int, cell: int, rjm: Rjm, position: Position) -> Optional[Step]:
     """Returns the last write of a cell after an RJM, up to a position; None if there was none."""
-    step = Search(run, 0).origin(Place("M", (number, cell % CELLS)), position)
+    step = OriginSearch(run, 0).origin(Place("M", (number, cell % CELLS)), position)
     return step if step.cause in (TURN, SET) and step.position > rjm.position else None
 
 
-def has_returned(run: Session, number: int, call: Call, position: int) -> bool:
+def has_returned(run: Session, number: int, call: Call, position: Position) -> bool:
     """Returns whether the jump back of a subroutine was performed between its call and a position."""
     tape = run.tape
     last = tape.turn(position)
     for turn in arrivals(run, number, call.jump, tape.turn(call.rjm.position), last):
-        after = turn + PROCESSORS if tape.slot(tape.at_turn(turn) - 1) == number else next_turn(tape, number, turn)
+        after = turn + PROCESSORS if tape.slot(tape.before_turn(turn)) == number else next_turn(tape, number, turn)
         if after <= last:
             made = turn_made(run, after)
             if made.slot == number and made.processor.p == call.jump and made.processor.name == LJM and not made.processor.phase:
@@ -95,18 +94,18 @@ def next_turn(tape: Tape, number: int, turn: int) -> int:
     return turn + 1 + (number - tape.slot(tape.after_turn(turn))) % PROCESSORS
 
 
-def address_of(run: Session, number: int, position: int) -> Optional[int]:
+def address_of(run: Session, number: int, position: Position) -> Optional[int]:
     """Returns the address of the instruction that a processor performs: P, or in a block transfer where that began; None if nothing
     in the run began it."""
     run.goto(position)
     processor = run.processor(number)
     if not processor.phase:
         return processor.p
-    step = Search(run, 0).origin(Place("PHASE", (number,)), position)
+    step = OriginSearch(run, 0).origin(Place("PHASE", (number,)), position)
     return step.processor.p if step.cause == TURN else None
 
 
-def calls(run: Session, number: int, source: Source, position: int) -> List[Call]:
+def calls(run: Session, number: int, source: Source, position: Position) -> List[Call]:
     """Returns the subroutines that a processor is in at a position of a run, the innermost first."""
     address, before = address_of(run, number, position), position
     found: List[Call] = []
@@ -118,7 +117,7 @@ def calls(run: Session, number: int, source: Source, position: int) -> List[Call
         found.append(call._replace(overwritten=write_after(run, number, jump + 1, call.rjm, position),
                                    lost=write_after(run, number, jump, call.rjm, position)))
         seen.add(jump)
-        address, before = call.address, call.rjm.position - 1
+        address, before = call.address, Position(call.rjm.position - 1)
     return found
 
 

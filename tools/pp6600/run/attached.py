@@ -19,7 +19,7 @@ from .forms import CHANNELS, MOST_TURNS, STATES, Place, is_refusal
 from .plain_script import PlainScript
 from .console import LONGEST_LINE
 from .session import REPLAYED, Session
-from .tape import STEP, Counts, ReplyLine
+from .tape import STEP, Position, ReplyLine, UnitCounts, Units
 
 COUNTED = re.compile(r"[ \t]*(STEP|BACK|FORWARD)(?:[ \t]+0*([1-7][0-7]{0,6}))?[ \t\r]*", re.I)
 BACK_W = re.compile(r"[ \t]*BACK[ \t]+W[ \t\r]*", re.I)
@@ -38,11 +38,11 @@ class States:
     def __init__(self, values: Values, exact: int, every: int) -> None:
         """At least so many of the newest values are kept, and one in so many of those before."""
         self.exact, self.every = exact, every
-        self.at: List[int] = [0]
+        self.at: List[Position] = [Position(0)]
         self.values: List[Optional[Values]] = [values]
         self.folded = 0  # so many of the first are not all kept
 
-    def add(self, position: int, values: Values) -> None:
+    def add(self, position: Position, values: Values) -> None:
         self.at.append(position)
         self.values.append(values)
         if len(self.at) - self.folded > 2 * self.exact:
@@ -52,7 +52,7 @@ class States:
                     self.values[number] = None
             self.folded = end
 
-    def entry(self, position: int) -> int:
+    def entry(self, position: Position) -> int:
         """Returns the number of the entry for a position."""
         return bisect.bisect_right(self.at, position) - 1
 
@@ -60,7 +60,7 @@ class States:
         """Returns the nearest entry up to this one whose values are kept."""
         return next(number for number in range(entry, -1, -1) if self.values[number] is not None)
 
-    def cut(self, position: int) -> None:
+    def cut(self, position: Position) -> None:
         """Forgets what is after a position."""
         end = self.entry(position) + 1
         del self.at[end:], self.values[end:]
@@ -91,7 +91,7 @@ class Attached(Session):
             raise
         self.states = States(self.values, self.exact_states, self.every_state)
         self.plain = PlainScript(self.history.room, self.tape)
-        self.counts = Counts(self.history, self.plain.history)
+        self.counts = UnitCounts(self.history, self.plain.history)
         self.names = names_of(self.devices)
         self.lines: Dict[Tuple[int, Optional[str], Optional[int]], ReplyLine] = {}  # by the number of the device, the state and the word
         self.told: Dict[int, Tuple[int, Any]] = {}  # the number of a device and what it was told, by the position after it
@@ -120,7 +120,7 @@ class Attached(Session):
         return self.values[number].state
 
     @property
-    def unit(self) -> int:
+    def unit(self) -> Units:
         """How many units are in effect."""
         return self.tape.units(self.position)
 
@@ -137,7 +137,7 @@ class Attached(Session):
 
     def save(self) -> List[str]:
         """Returns a script for the simulator alone that makes the present machine. Its turns are those of the session."""
-        return list(self.plain.part(0, self.position))
+        return list(self.plain.part(Position(0), self.position))
 
     # ---- lines of the user
 
@@ -195,7 +195,7 @@ class Attached(Session):
             new = new._replace(seen=value.seen)
         return (*values[:number], new, *values[number + 1:]), [] if reply is None else [self._line_of(number, reply)]
 
-    def cut(self, position: int) -> None:
+    def cut(self, position: Position) -> None:
         if position < self.tape.end:
             self.plain.go(self.position)
             super().cut(position)
@@ -224,7 +224,7 @@ class Attached(Session):
     def _note(self, values: Values, replies: Sequence[ReplyLine]) -> None:
         """Notes what the devices are after the present unit, and performs their replies."""
         if values is not self.values:
-            self.states.add(self.history.position + len(replies), values)
+            self.states.add(Position(self.history.position + len(replies)), values)
             self._have(values, len(self.states.at) - 1)
         for line in replies:
             self._perform_new(line)
@@ -237,7 +237,7 @@ class Attached(Session):
 
     # ---- back and forward
 
-    def _arrive(self, word: str, count: int, position: int) -> List[str]:
+    def _arrive(self, word: str, count: int, position: Position) -> List[str]:
         """Goes to a position. Returns the answer."""
         self.goto(position)
         return [f"{word} {count:o} SLOT {self.next_slot:02o}"]
@@ -256,7 +256,8 @@ class Attached(Session):
         values = self.states.values[begin]
         assert values is not None
         for number in range(begin + 1, entry + 1):
-            end = self.tape.after_units(self.tape.units(self.states.at[number]) - 1) + 1  # of the unit, without its replies
+            unit = self.tape.units(self.states.at[number])
+            end = Position(self.tape.after_units(Units(unit - 1)) + 1)  # of the unit, without its replies
             self.goto(end)
             if end in self.told:
                 values, _ = self._told(*self.told[end], values)
@@ -267,12 +268,12 @@ class Attached(Session):
     def _back(self, count: int) -> List[str]:
         if count > self.unit:
             return [TOO_FEW_KEPT]
-        return self._arrive("BACK", count, self.tape.after_units(self.unit - count))
+        return self._arrive("BACK", count, self.tape.after_units(Units(self.unit - count)))
 
     def _forward(self, count: int) -> List[str]:
         if count > self.tape.units(self.tape.end) - self.unit:
             return [TOO_FEW_AHEAD]
-        return self._arrive("FORWARD", count, self.tape.after_units(self.unit + count))
+        return self._arrive("FORWARD", count, self.tape.after_units(Units(self.unit + count)))
 
     def _back_to_unit(self, answer: List[str]) -> List[str]:
         """Goes back to before a whole unit, after the simulator has answered BACK W."""

@@ -6,16 +6,14 @@ import functools
 import re
 from typing import Iterable, Iterator, List, Sequence, Tuple, TypeVar, Union
 
+from ..engine import interface as flat
 from ..engine.choose import default_engine, engine_of
 from ..engine.interface import Rejection
 from ..failure import Failure
-from .forms import (
-    CHANNELS_DUMP, CLOCK, FRAME_DUMP, MOST_TURNS, PROCESSORS, Dump, Place, Registers, cells_dump, central_dump, fields, is_refusal,
-    registers_dump, registers_of, word_dumps, words_of)
+from .forms import CELLS, CLOCK, MOST_TURNS, PROCESSORS, Place, Registers, fields, is_refusal, registers_of, words_of
 from .turn import Processor
 
 SIZES_OF_CENTRAL = (0o400000, 0o200000, 0o100000)
-READER_DUMP = Dump("DUMP CR", "CR")
 LONGEST_LINE = 255
 Self = TypeVar("Self", bound="Console")
 NO_ANSWER = re.compile("[ \t]*([*][\t -~]*)?")  # a note, or a line without words
@@ -84,10 +82,6 @@ class Console:
             raise Failure(f"the simulator answers {answer[0]} to {line}")
         return answer
 
-    def dump(self, dump: Dump) -> List[str]:
-        """Returns the lines of the answer to a dump."""
-        return self.demand(dump.line)
-
     def end(self) -> int:
         """Ends the session, and returns the exit status (decimal): 0, or 1 if a line was rejected."""
         self.engine.close()
@@ -101,7 +95,7 @@ class Console:
 
     def registers(self, processor: int) -> Registers:
         """Returns P, A, Q, PHASE and SLOT of a processor, 0 to 0o11, by their names, each as its octal digits."""
-        return registers_of(self.dump(registers_dump(number_of("a processor", processor)))[0])
+        return registers_of(self.demand(f"DUMP PP {number_of('a processor', processor):o}")[0])
 
     def slot(self) -> int:
         return int(self.registers(0)["SLOT"], 8)
@@ -109,11 +103,12 @@ class Console:
     def cells(self, processor: int, first: int, last: int) -> List[str]:
         """Returns the words of the cells from first to last, at most 0o7777, each as its four octal digits."""
         number_of("a processor", processor)
-        return words_of(self.dump(cells_dump(processor, number_of("a cell", first), number_of("a cell", last))))
+        return words_of(self.demand(f"DUMP M {processor:o} {number_of('a cell', first):o} {number_of('a cell', last):o}"))
 
     def words_at(self, processor: int, address: int) -> List[str]:
         """Returns the words of two cells; after cell 7777 comes cell 0000."""
-        return words_of(row for dump in word_dumps(processor, address) for row in self.dump(dump))
+        memory = flat.CELLS + CELLS * processor
+        return [f"{self.engine.numbers(memory + (address + at) % CELLS, 1)[0]:04o}" for at in (0, 1)]
 
     def processor(self, number: int) -> Processor:
         """Returns a processor as it is now."""
@@ -122,7 +117,7 @@ class Console:
 
     def channels(self) -> List[str]:
         """Returns a line of DUMP H for each channel and the clock, as H 03 E 0017."""
-        return self.dump(CHANNELS_DUMP)
+        return self.demand("DUMP H")
 
     def channel(self, number: int) -> str:
         """Returns the state and the register of a channel, 0 to 0o13, or of the clock, 0o14, as E 0017."""
@@ -132,7 +127,7 @@ class Console:
 
     def central(self, first: int, last: int) -> List[str]:
         """Returns a line of DUMP C for each central word from first to last."""
-        return self.dump(central_dump(number_of("a central address", first), number_of("a central address", last)))
+        return self.demand(f"DUMP C {number_of('a central address', first):o} {number_of('a central address', last):o}")
 
     @functools.cached_property
     def central_size(self) -> int:
@@ -153,11 +148,11 @@ class Console:
 
     def frame(self) -> List[str]:
         """Returns a line of DUMP XP for each of the sixteen (decimal) words of the exchange package."""
-        return self.dump(FRAME_DUMP)
+        return self.demand("DUMP XP")
 
     def reader(self) -> str:
         """Returns the line of DUMP CR."""
-        return self.dump(READER_DUMP)[0]
+        return self.demand("DUMP CR")[0]
 
     def printer(self) -> List[str]:
         """Returns the printer's line and the lines of its paper."""
@@ -186,10 +181,6 @@ class Console:
         return table_of([self.processor(number) for number in range(PROCESSORS)], self.channels(), [self.reader(), self.printer()[0]])
 
     # ---- turns
-
-    def step(self, turns: int = 1) -> List[str]:
-        """Makes so many turns. Returns the lines of the answers, with a HIT for each change of a watched number."""
-        return [line for _, answer in self.steps(turns) for line in answer]
 
     def steps(self, turns: int) -> Iterator[Tuple[int, List[str]]]:
         """Makes so many turns, and yields after each STEP how many it made and its answer, with a HIT if there is one."""

@@ -9,7 +9,6 @@ from __future__ import annotations
 
 import enum
 import functools
-import traceback
 from typing import Any, Callable, Iterable, List, NamedTuple, Optional, Tuple
 
 from ..devices.pictures import Picture
@@ -197,6 +196,7 @@ def value_at_start(device: Device) -> Value:
 
 def place_of(error: Exception) -> str:
     """Returns the file and the line where a device failed, in brackets; nothing if it is not known."""
+    import traceback  # devices seldom fail
     frames = traceback.extract_tb(error.__traceback__)[1:]
     return f" ({frames[-1].filename}, line {frames[-1].lineno} (decimal))" if frames else ""
 

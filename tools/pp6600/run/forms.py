@@ -1,15 +1,13 @@
 """The words of the console: the places of the machine, and the named fields of each answer.
 
 This is the one reader of answers. Each form of a line is written once, as `PP <number:nn> P <P:nnnn> ..`: n is an octal digit, s the
-state of a channel, and each field has a name. From it come the regular expression that says whether a line is an answer at all, and
-the columns of its fields. These never move, because each number in an answer has a fixed width. So a reader of thousands of lines cuts
-columns, and a reader of one line takes named fields. docs/CONSOLE.md describes the answers."""
+state of a channel, and each field has a name. docs/CONSOLE.md describes the answers."""
 
 from __future__ import annotations
 
 import functools
 import re
-from typing import Dict, Iterable, List, NamedTuple, Optional, Sequence, Tuple
+from typing import Dict, Iterable, List, NamedTuple, Optional, Pattern, Sequence, Tuple
 
 from ..failure import Failure
 
@@ -29,7 +27,6 @@ REGISTERS = ("P", "A", "Q", "PHASE")
 STATES = "IEFX"  # of a channel: inactive, empty, full with data, full with a function code
 
 Registers = Dict[str, str]  # the registers of a processor by their names, each as its digits
-Cut = Dict[str, slice]
 
 
 class Kind(NamedTuple):
@@ -110,34 +107,13 @@ class Place(NamedTuple):
 FIELD = re.compile(r"<(\w+):(.*?)>")
 
 
-class Form:
-    """The form of a line: whether a line has it, its fields by their names, and the columns of those that never move."""
-
-    def __init__(self, text: str) -> None:
-        self.pattern = re.compile(FIELD.sub(lambda field: f"(?P<{field[1]}>{expression(field[2])})", text))
-        self.columns: Cut = {}
-        column = end = 0
-        for field in FIELD.finditer(text):
-            column += field.start() - end
-            is_fixed = set(field[2]) <= set("ns")
-            self.columns[field[1]] = slice(column, column + len(field[2]) if is_fixed else None)
-            if not is_fixed:
-                break
-            column, end = column + len(field[2]), field.end()
-
-    def fields(self, line: str) -> Optional[Dict[str, str]]:
-        """Returns the fields of a line by their names; None if it has another form."""
-        found = self.pattern.fullmatch(line)
-        return found.groupdict() if found else None
-
-
 def expression(body: str) -> str:
     """Returns the regular expression of a field."""
     return re.sub("n+", lambda digits: f"[0-7]{{{len(digits[0])}}}", body).replace("s", f"[{STATES}]")
 
 
 PLACES = "|".join(f"{kind} {' '.join('n' * width for width in one.widths)}" for kind, one in KINDS.items())
-FORMS = {name: Form(text) for name, text in {
+FORMS = {
     "OK": "OK",
     "ERR": "ERR <code:nn> <text:[A-Z ]+>",
     "TURNS": "(TURNS|BACK|FORWARD) <count:[1-7][0-7]{0,6}> SLOT <slot:nn>",
@@ -151,7 +127,7 @@ FORMS = {name: Form(text) for name, text in {
     "LP": "LP H <channel:nn> SYMBOLS <SYMBOLS:nnnnnn> COLUMN <COLUMN:nnn> MODE <MODE:[A-Z]+>",
     "PAPER": "[|/].*",
     "W": f"W <place:NONE|{PLACES}>",
-}.items()}
+}
 KIND_OF_LINE = {"|": "PAPER", "/": "PAPER", **dict.fromkeys("01234567", "M")}  # by its first letter; else it is the first word
 
 
@@ -162,60 +138,29 @@ def kind_of(line: str) -> str:
 
 def fields(kind: str, line: str) -> Dict[str, str]:
     """Returns the fields of a line of this form, by their names."""
-    found = FORMS[kind].fields(line)
-    if found is None:
+    found = form(kind).fullmatch(line)
+    if not found:
         raise Failure(f"what is run is not the simulator: it answers {line[:60]!r}")
-    return found
+    named: Dict[str, str] = found.groupdict()
+    return named
+
+
+@functools.lru_cache(maxsize=None)
+def form(kind: str) -> Pattern[str]:
+    """Returns the regular expression of the lines of a form, with the names of their fields."""
+    return re.compile(FIELD.sub(lambda field: f"(?P<{field[1]}>{expression(field[2])})", FORMS[kind]))
 
 
 def registers_of(line: str) -> Registers:
     """Returns P, A, Q, PHASE and SLOT of an answer to DUMP PP."""
-    return {name: line[cut] for name, cut in REGISTER_COLUMNS.items()}
-
-
-REGISTER_COLUMNS = {name: cut for name, cut in FORMS["PP"].columns.items() if name != "number"}
-
-
-class Dump(NamedTuple):
-    """A line that asks for numbers, the form of its answer, and how many lines this has."""
-
-    line: str
-    form: str
-    lines: int = 1
-
-
-Answers = Dict[Dump, List[str]]  # the lines of the answer to each dump
-
-
-@functools.lru_cache(maxsize=10000)
-def cells_dump(number: int, first: int, last: int) -> Dump:
-    """Returns the dump of the cells of a processor from the first to the last one."""
-    return Dump(f"DUMP M {number:o} {first:o} {last:o}", "M", (last - first) // ROW + 1)
-
-
-@functools.lru_cache(maxsize=None)
-def registers_dump(number: int) -> Dump:
-    return Dump(f"DUMP PP {number:o}", "PP")
-
-
-def word_dumps(number: int, address: int) -> List[Dump]:
-    """Returns the dumps of the two words from an address on; after cell 7777 comes cell 0000."""
-    if address + 1 < CELLS:
-        return [cells_dump(number, address, address + 1)]
-    return [cells_dump(number, address, address), cells_dump(number, 0, 0)]
+    found = fields("PP", line)
+    del found["number"]
+    return found
 
 
 def words_of(rows: Iterable[str]) -> List[str]:
     """Returns the words of the rows of a dump of cells."""
     return [word for row in rows for word in row.split()[1:]]
-
-
-CHANNELS_DUMP = Dump("DUMP H", "H", CLOCK + 1)
-FRAME_DUMP = Dump("DUMP XP", "XP", FRAME_WORDS)
-
-
-def central_dump(first: int, last: int) -> Dump:
-    return Dump(f"DUMP C {first:o} {last:o}", "C", last - first + 1)
 
 
 def dumps_from(dump: str, first: int, count: int, addresses: int, size: int) -> List[str]:

@@ -13,7 +13,7 @@ from ..failure import Failure
 from .forms import CELLS, PROCESSORS
 from .search import Looks, Progress, spans
 from .session import Session
-from .tape import STEP, Tape
+from .tape import STEP, Position, Tape
 from .turn import states_of
 
 WATCHED_AT_ONCE = 0o4000000  # turns, while a processor is where it was
@@ -27,20 +27,20 @@ class Lines:
         self.run, self.number, self.source, self.progress = run, number, source, progress
         self.places = [first + number for first in (flat.P, flat.PHASE, flat.A, flat.Q)]
         self.line: Optional[int] = None
-        self.left: Optional[int] = None  # the number of the line that it is in, if it is in one; and where it left its source
+        self.left: Optional[Position] = None  # the number of the line that it is in, if it is in one; and where it left its source
 
     def line_of(self, address: int, words: Sequence[str]) -> Optional[int]:
         line = self.source.line_of(address, *words)
         return line.number if line and line.is_there else None
 
-    def begin_at(self, position: int) -> None:
+    def begin_at(self, position: Position) -> None:
         """Sees which line the processor is in at a position; in a block transfer that of its instruction, if this is still there."""
         run, number = self.run, self.number
         run.goto(position)
         address = run.processor(number).address(lambda cell: int(run.cells(number, cell, cell)[0], 8))
         self.line = None if address is None else self.line_of(address, run.words_at(number, address))
 
-    def begun(self, first: int, last: int) -> Iterator[int]:
+    def begun(self, first: Position, last: Position) -> Iterator[Position]:
         """Yields the positions from one on, and before another, from which the next turn is the processor's and begins a line."""
         tape = self.run.tape
         for at in range(tape.run_after(first), len(tape.runs)):
@@ -52,7 +52,7 @@ class Lines:
                     yield from self.begun_in(end)
                     self.progress(self.run.turn)
 
-    def begun_in(self, end: int) -> Iterator[int]:
+    def begun_in(self, end: Position) -> Iterator[Position]:
         """Makes some turns, and yields the positions among them. While the processor waits, or jumps to itself, its P is watched instead;
         but not in a block transfer, whose end may leave P as it is."""
         run = self.run
@@ -68,10 +68,10 @@ class Lines:
         run.goto(here)
         if run.position < end and not before[1] and set(registers) == {before}:
             run.watch([f"P {self.number:o}"])
-            run.comes_to(min(run.position + WATCHED_AT_ONCE, end))
+            run.comes_to(min(Position(run.position + WATCHED_AT_ONCE), end))
             run.unwatch()
 
-    def begins(self, p: int, phase: int, position: int) -> bool:
+    def begins(self, p: int, phase: int, position: Position) -> bool:
         """Returns whether the processor begins a line by its turn after a position. Where its P is as before its turn before, and in a
         block transfer, it is in the same line."""
         was, self.where = self.where, (p, phase)
@@ -82,7 +82,7 @@ class Lines:
             self.left = position
         return self.line not in (None, old)
 
-    def words_at(self, address: int, position: int) -> List[str]:
+    def words_at(self, address: int, position: Position) -> List[str]:
         """Returns the two words from an address on at a position."""
         if address in self.words:
             return self.words[address]

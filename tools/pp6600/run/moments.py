@@ -3,10 +3,10 @@
 from typing import Any
 
 from ..language.names import AllSymbols
-from .search import Moment
+from .search import FoundTurn
 
 
-def text_of(moment: Moment, symbols: Any = AllSymbols()) -> str:
+def text_of(moment: FoundTurn, symbols: Any = AllSymbols()) -> str:
     """Returns the line of a turn: its number, the processor with its P and instruction, the numbers before and after it,
     and the line of its source."""
     parts = [f" {f'{name} ' if moment.is_named else ''}WAS {was} NOW {now}" for name, was, now in moment.numbers]

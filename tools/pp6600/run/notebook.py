@@ -5,7 +5,7 @@ from __future__ import annotations
 from html import escape
 from typing import Iterable, Sequence
 
-from .forms import CHANNELS_DUMP, REGISTERS, fields
+from .forms import REGISTERS, fields
 from .turn import Processor, states_of
 
 HEADS = ("", "PP", *REGISTERS, "instruction", "waits for")
@@ -22,7 +22,7 @@ def table_of(processors: Sequence[Processor], channels: Sequence[str], devices: 
     slot = int(processors[0].registers["SLOT"], 8)
     rows = [row((MARK if number == slot else "", f"{number:02o}", *(processor.registers[name] for name in REGISTERS),
                  processor.text, processor.waits_for(states))) for number, processor in enumerate(processors)]
-    found = [fields(CHANNELS_DUMP.form, line) for line in channels]
+    found = [fields("H", line) for line in channels]
     beside = [row(("H", *(channel["number"] for channel in found)), "th"),
               row(("", *(f"{channel['state']} {channel['register']}" for channel in found)))]
     return (f"<table>{row(HEADS, 'th')}{''.join(rows)}</table><table>{''.join(beside)}</table>"

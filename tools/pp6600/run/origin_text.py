@@ -9,9 +9,9 @@ from typing import Any, Callable, Dict, Iterator, List, Optional, Sequence, Set,
 from ..language.names import AllSymbols
 from ..shell.text_files import bytes_of
 from .forms import Place
-from .origin import DEADSTART, LINE_END, PAPER, PRINTER, READER, SET, START, TICK, TURN, Link, Search, Step
+from .origin_search import DEADSTART, LINE_END, PAPER, PRINTER, READER, SET, START, TICK, TURN, Link, OriginSearch, Step
 from .session import Session
-from .tape import ReplyLine, SourceLine, Tape
+from .tape import Position, ReplyLine, SourceLine, Tape
 from .turn import AT_END_OF_BLOCK, AT_END_OF_INPUT, IN_BLOCK, NO_WORD, RETURN, TWO_WORDS, ZERO, Processor
 
 MOST_STEPS = 0o40  # by processors, without --all
@@ -22,7 +22,7 @@ Task = Tuple[Optional[Step], Place, int, Optional[Parts]]  # a step that is to b
 Shown = Tuple[Optional[Step], str]  # a step, if it was searched, and its line
 
 
-class File:
+class WordFile:
     """The lines of a deck or panel file that are no notes, each with its number, from 1, and its words."""
 
     def __init__(self, path: Optional[str]) -> None:
@@ -38,10 +38,10 @@ class File:
         raise IndexError(index)
 
 
-def origin_rows(run: Session, place: Place, position: int, *how: Any, symbols: Any = AllSymbols()) -> List[Shown]:
+def origin_rows(run: Session, place: Place, position: Position, *how: Any, symbols: Any = AllSymbols()) -> List[Shown]:
     """Returns the lines of the origin of the number that is at a place at a position, each with its step. How it is searched is as
-    `Search` has it."""
-    search, now = Search(run, *how), None
+    `OriginSearch` has it."""
+    search, now = OriginSearch(run, *how), None
     search.is_loaded = symbols.is_loaded
     step = search.origin(place, position)
     if place.kind == "P":
@@ -56,7 +56,7 @@ class Writer:
     def __init__(self, tape: Tape, words: Sequence[str], symbols: Any = AllSymbols()) -> None:
         """The words are the program and its options, which name the deck file and the panel file."""
         self.tape, self.symbols = tape, symbols
-        self.deck, self.panel = (File(words[words.index(option) + 1] if option in words else None) for option in ("--deck", "--panel"))
+        self.deck, self.panel = (WordFile(words[words.index(option) + 1] if option in words else None) for option in ("--deck", "--panel"))
 
     def rows(self, root: Step, now: Optional[str] = None) -> Iterator[Shown]:
         """Yields the lines of a step and of all that it came from, each with its step; None for one that was not searched. P advances

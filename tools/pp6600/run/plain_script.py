@@ -6,7 +6,7 @@ import bisect
 import itertools
 from typing import Iterator, List
 
-from .tape import History, Tape, with_notes
+from .tape import History, Position, Tape, with_notes
 
 
 class PlainScript:
@@ -16,10 +16,10 @@ class PlainScript:
     def __init__(self, room: int, tape: Tape) -> None:
         """The simulator keeps so many actions."""
         self.history = History(room, tape)
-        self.stops: List[int] = []  # the positions after turns with a HIT, where a STEP of the script ends
+        self.stops: List[Position] = []  # the positions after turns with a HIT, where a STEP of the script ends
         self.times_anew = 0
         self.written: List[str] = []
-        self.end = 0  # the position up to which lines are written
+        self.end = Position(0)  # the position up to which lines are written
 
     @property
     def lines(self) -> List[str]:
@@ -29,23 +29,23 @@ class PlainScript:
             self.end = self.history.position
         return self.written
 
-    def part(self, first: int, last: int) -> Iterator[str]:
+    def part(self, first: Position, last: Position) -> Iterator[str]:
         """Yields the lines for the actions between two positions."""
         inside = self.stops[bisect.bisect_right(self.stops, first):bisect.bisect_left(self.stops, last)]
         ends = [first, *inside, last]
         return with_notes(itertools.chain.from_iterable(itertools.starmap(self.history.tape.lines, zip(ends, ends[1:]))))
 
-    def cut(self, position: int) -> None:
+    def cut(self, position: Position) -> None:
         """Forgets what is after a position."""
         self.history.ahead = min(self.history.ahead, position - self.history.position)
         del self.stops[bisect.bisect_right(self.stops, position):]
 
-    def go(self, position: int) -> None:
+    def go(self, position: Position) -> None:
         """Leads to a position."""
         history = self.history
         if position < history.oldest:
             self.times_anew += 1
-            self.written, self.end = [], 0
+            self.written, self.end = [], Position(0)
             history.restarted()
         count = min(position - history.position, history.ahead)
         if count:

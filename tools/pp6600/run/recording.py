@@ -12,6 +12,7 @@ from ..engine import interface as flat
 from ..engine.interface import Records
 from .forms import CELLS, PROCESSORS, STATES, Registers
 from .session import Session
+from .tape import Position
 from .turn import Processor, Turn
 
 AT_ONCE = 0o40000  # turns
@@ -21,7 +22,7 @@ WIDTH = 16  # bytes of a place and its number
 class Recording:
     """The turns between two positions of a run, with no other action between, by their numbers from 0."""
 
-    def __init__(self, run: Session, first: int, last: int) -> None:
+    def __init__(self, run: Session, first: Position, last: Position) -> None:
         self.run, self.first, self.last = run, first, last
         run.goto(first)
         parts = []
@@ -35,9 +36,9 @@ class Recording:
         """Where the numbers of each turn begin, and where the last end, in bytes."""
         return array("Q", accumulate((WIDTH * count for part in self.parts for count in part.counts), initial=0))
 
-    def position(self, at: int) -> int:
+    def position(self, at: int) -> Position:
         """Returns the position after a turn."""
-        return self.first + at + 1
+        return Position(self.first + at + 1)
 
     def processor(self, at: int) -> int:
         """Returns the number of the processor of a turn."""
@@ -106,7 +107,8 @@ def first_of(place: int, olds: bytes, begin: int = 0) -> int:
     return found
 
 
-def last_part_with(run: Session, first: int, last: int, places: Sequence[int], progress: Callable[[int], object]) -> int:
+def last_part_with(run: Session, first: Position, last: Position, places: Sequence[int],
+                   progress: Callable[[Position], object]) -> Position:
     """Makes the turns between two positions, some at once. Returns the position after the last of these parts in which one of the places was
     written; `first` if there is none."""
     found = first

@@ -14,6 +14,7 @@ from ..engine import interface as flat
 from ..engine.interface import Records, place_number
 from .forms import CELLS, CLOCK, PROCESSORS, REGISTERS, STATES, Place, Registers
 from .session import Session
+from .tape import Position
 from .turn import Processor
 
 FIRST_SPAN = 0o10000  # of turns at the end that are searched first
@@ -22,7 +23,7 @@ HELD = b"\1"
 OF_A_PROCESSOR = ("M", "A", "P", "Q", "PHASE")
 
 Progress = Callable[[int], object]
-Found = Tuple[int, int]  # the position before a turn, and its number from 1
+Found = Tuple[Position, int]  # the position before a turn, and its number from 1
 Numbers = List[Tuple[str, str]]  # names, with digits
 
 
@@ -91,17 +92,14 @@ class Looks:
         found[self.first_own(number)::PROCESSORS] = verdicts
         return bytes(found)
 
-    def position(self, at: int) -> int:
+    def position(self, at: int) -> Position:
         """Returns the position before a turn."""
-        return self.first + at
+        return Position(self.first + at)
 
     def processor_at(self, at: int) -> Processor:
         """Returns the processor of a turn as it was before it."""
-        here = self.run.position
-        self.run.goto(self.position(at))
-        processor = self.run.processor(self.run.next_slot)
-        self.run.goto(here)
-        return processor
+        with self.run.at(self.position(at)) as run:
+            return run.processor(run.next_slot)
 
     def records(self) -> Records:
         """Returns what the turns overwrote. They are made once more."""
@@ -163,13 +161,13 @@ class Condition:
 class Made(NamedTuple):
     """A turn that was made: the position before it, its processor as it was then, and the registers after it."""
 
-    position: int
+    position: Position
     slot: int
     processor: Processor
     after: Registers
 
 
-class Moment(NamedTuple):
+class FoundTurn(NamedTuple):
     """A turn at which a condition came to hold: its number from 1, and what was and is."""
 
     turn: int
@@ -186,7 +184,7 @@ class Search:
         for column in condition.columns:
             run.number_at(column.place)  # which is refused if the machine has no such place
 
-    def moments(self, first: int = 0, last: Optional[int] = None) -> Iterator[Moment]:
+    def moments(self, first: int = 0, last: Optional[int] = None) -> Iterator[FoundTurn]:
         """Yields each turn after `first`, up to `last`, at which the condition comes to hold."""
         return itertools.starmap(self.moment, self.found(first, last))
 
@@ -200,7 +198,7 @@ class Search:
             yield from self.turns(min(tape.starts[tape.run_after(run.position) + 1], tape.at_turn(last)), first)
             run.goto(tape.after_turn(run.turn))
 
-    def turns(self, end: int, first: int = 0) -> Iterator[Found]:
+    def turns(self, end: Position, first: int = 0) -> Iterator[Found]:
         """Makes the turns up to a position, with no other action between, and yields those after `first` that are found."""
         run, condition = self.run, self.condition
         held = condition.begin(run)
@@ -216,12 +214,12 @@ class Search:
             held = bool(verdicts[-1])
             self.progress(run.turn)
 
-    def moment(self, position: int, turn: int) -> Moment:
+    def moment(self, position: Position, turn: int) -> FoundTurn:
         """Returns the turn after a position."""
         was, made, now = around(self.run, position, self.condition.columns)
         is_range = len(was) > len(self.condition.columns)  # of which the cells that differ are shown
         differ = [(name, old, new) for (name, old), (_, new) in zip(was, now) if old != new or not is_range]
-        return Moment(turn, made, differ, len(was) > 1)
+        return FoundTurn(turn, made, differ, len(was) > 1)
 
 
 def comes(verdicts: bytes, held: bool, is_change: bool) -> Iterator[int]:
@@ -234,13 +232,13 @@ def comes(verdicts: bytes, held: bool, is_change: bool) -> Iterator[int]:
         at = verdicts.find(HELD, after) if after >= 0 else -1
 
 
-def around(run: Session, position: int, columns: Sequence[Column] = ()) -> Tuple[Numbers, Made, Numbers]:
+def around(run: Session, position: Position, columns: Sequence[Column] = ()) -> Tuple[Numbers, Made, Numbers]:
     """Goes over the turn after a position. Returns it, with the numbers that are shown of columns before and after it."""
     run.goto(position)
     slot = run.next_slot
     processor = run.processor(slot)
     was = [number for column in columns for number in column.shown(run)]
-    run.goto(position + 1)
+    run.goto(Position(position + 1))
     now = [number for column in columns for number in column.shown(run)]
     return was, Made(position, slot, processor, run.registers(slot)), now
 
@@ -254,7 +252,7 @@ def spans(end: int, first: int = 0, span: int = FIRST_SPAN) -> Iterator[Tuple[in
 
 
 def last_moments(run: Session, condition: Condition, most: int, first: int = 0, last: Optional[int] = None,
-                 progress: Optional[Progress] = None) -> List[Moment]:
+                 progress: Optional[Progress] = None) -> List[FoundTurn]:
     """Returns the last turns of a run at which a condition comes to hold, as many as there are up to `most`, in their order."""
     found: List[Found] = []
     search = Search(run, condition, progress)

@@ -5,7 +5,7 @@ from typing import Any, Optional
 
 from ..failure import Failure
 from .conditions import parsed
-from .search import Moment, Progress, Search, last_moments
+from .search import FoundTurn, Progress, Search, last_moments
 from .session import Session
 from .tape import STEP, Tape
 
@@ -19,7 +19,7 @@ class Stopped(Failure):
         super().__init__("the search was stopped")
 
 
-def next_found(session: Any, text: str, symbols: Any, progress: Progress) -> Optional[Moment]:
+def next_found(session: Any, text: str, symbols: Any, progress: Progress) -> Optional[FoundTurn]:
     """Returns the first turn after the present one at whose end the condition holds, and at whose beginning it did not: one
     that was made, or a new one. Returns None if there is none."""
     tape = Tape(session.history.tape.runs)
@@ -28,7 +28,7 @@ def next_found(session: Any, text: str, symbols: Any, progress: Progress) -> Opt
         return next(Search(run, parsed(text, symbols), progress).moments(session.history.turns), None)
 
 
-def last_before(session: Any, text: str, symbols: Any, progress: Progress) -> Optional[Moment]:
+def last_before(session: Any, text: str, symbols: Any, progress: Progress) -> Optional[FoundTurn]:
     """Returns what `next_found` does, of the last turn before the present one."""
     with closing(Session.of_tape(session.simulator.words, session.history.tape)) as run:
         return next(iter(last_moments(run, parsed(text, symbols), 1, 0, session.history.turns - 1, progress)), None)

@@ -7,14 +7,15 @@ nowhere. One with devices is an `Attached`."""
 
 from __future__ import annotations
 
+import contextlib
 import itertools
 import re
-from typing import Dict, Iterable, Iterator, List, Mapping, Optional, Sequence
+from typing import Iterable, Iterator, List, Optional, Sequence
 
 from ..failure import Failure
 from .console import Console
-from .forms import MOST_TURNS, Answers, Dump, hit_of, refused
-from .tape import STEP, Action, Counts, History, Tape, lines_of, room_of
+from .forms import MOST_TURNS, hit_of, refused
+from .tape import STEP, Action, History, Position, Tape, UnitCounts, Units, lines_of, room_of
 
 MOVE = re.compile(r"[ \t]*(BACK|FORWARD)(?:[ \t]+([0-7]{1,10}))?[ \t\r]*", re.I)
 REPLAYED = "replayed"  # the second line of an answer to a BACK
@@ -34,7 +35,7 @@ class Session(Console):
         """It begins at the beginning of the tape. A search counts the watches of the tape, and performs none."""
         super().__init__(words)
         self.history, self.is_search = History(room_of(self.words), tape), is_search
-        self.counts = Counts(self.history)
+        self.counts = UnitCounts(self.history)
         self.watched: List[str] = []  # places, beside those of the tape
         self.written: List[str] = []  # what the engine was sent since it began
         self.times_anew = 0
@@ -49,7 +50,7 @@ class Session(Console):
         return self.history.tape
 
     @property
-    def position(self) -> int:
+    def position(self) -> Position:
         return self.history.position
 
     @property
@@ -86,10 +87,10 @@ class Session(Console):
         asked = MOVE.fullmatch(line)
         count, counts = int(asked[2] or "1", 8) if asked else 0, self.counts
         if asked and asked[1].upper() == "BACK" and counts.kept < count <= counts.position:
-            self._go_anew(self.tape.after_units(counts.position - count))
+            self._go_anew(self.tape.after_units(Units(counts.position - count)))
             return [f"BACK {count:o} SLOT {self.next_slot:02o}", REPLAYED]
         if asked and asked[1].upper() == "FORWARD" and counts.ahead < count <= counts.to_redo:
-            self.goto(self.tape.after_units(counts.position + count))
+            self.goto(self.tape.after_units(Units(counts.position + count)))
             return [f"FORWARD {count:o} SLOT {self.next_slot:02o}"]
         return self.act(line)
 
@@ -108,16 +109,24 @@ class Session(Console):
 
     # ---- any position
 
-    def goto(self, position: int) -> None:
+    def goto(self, position: Position) -> None:
         """Goes to a position of the tape."""
         if position < self.history.oldest:
             self._go_anew(position)
         else:
             count = min(position - self.position, self.history.ahead)
-            if count and not self.is_search:
-                self.written.append(f"{'BACK' if count < 0 else 'FORWARD'} {abs(count):o}")
-            self.move(count)
+            if count:
+                self.move(count)
+                self.written += [] if self.is_search else [f"{'BACK' if count < 0 else 'FORWARD'} {abs(count):o}"]
             self._play(position)
+
+    @contextlib.contextmanager
+    def at(self, position: Position) -> Iterator[Session]:
+        """Goes to a position, and at the end of the block back to where it was."""
+        here = self.position
+        self.goto(position)
+        yield self
+        self.goto(here)
 
     def move(self, count: int) -> None:
         """Goes by so many actions that the engine keeps, back if it is negative. That is no line of the session."""
@@ -130,10 +139,10 @@ class Session(Console):
 
     def _watches_over(self, count: int) -> int:
         """Returns how many of the next so many actions are watches."""
-        first, last = sorted((self.position, self.position + count))
+        first, last = sorted((self.position, Position(self.position + count)))
         return sum(action.times for action in self.tape.actions(first, last) if action.is_watch)
 
-    def _play(self, position: int) -> None:
+    def _play(self, position: Position) -> None:
         """Performs the actions of the tape up to a position by their lines."""
         if self.watched or self.tape.watches and not self.is_search:
             for action in self.tape.actions(self.position, position):
@@ -164,7 +173,7 @@ class Session(Console):
             self.written += lines
         return answers
 
-    def _go_anew(self, position: int) -> None:
+    def _go_anew(self, position: Position) -> None:
         """Goes to a position from the beginning, in a fresh engine."""
         watched, self.watched, self.written = self.watched, [], []
         self.times_anew += 1
@@ -188,7 +197,7 @@ class Session(Console):
         self.watched = []
         self.history.kept = self.history.ahead = 0
 
-    def comes_to(self, position: int) -> bool:
+    def comes_to(self, position: Position) -> bool:
         """Makes the turns up to a position, or to a HIT. Returns whether there was none."""
         for made, answer in self.steps(position - self.position):
             self.history.performed(made)
@@ -196,16 +205,7 @@ class Session(Console):
                 return False
         return True
 
-    def cut(self, position: int) -> None:
+    def cut(self, position: Position) -> None:
         """Discards what comes after a position, which is not before the present one."""
         self.tape.cut(position)
         self.history.ahead = min(self.history.ahead, position - self.position)
-
-    def answers_at(self, wanted: Mapping[int, Iterable[Dump]]) -> Dict[int, Answers]:
-        """Returns the answers to dumps at some positions, of a search. It stays where it is."""
-        here, found = self.position, {}
-        for position in sorted(wanted):
-            self.goto(position)
-            found[position] = {dump: self.dump(dump) for dump in wanted[position]}
-        self.goto(here)
-        return found

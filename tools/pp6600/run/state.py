@@ -9,13 +9,13 @@ from itertools import zip_longest
 from typing import Dict, Iterable, Iterator, List, NamedTuple, Optional, Sequence, Tuple
 
 from ..failure import Failure
-from .forms import CELLS, CLOCK, FORMS, FRAME_WORDS, PROCESSORS, REGISTERS, ROW, ROWS, Place, fields, kind_of, registers_of
-from .console import Console, READER_DUMP
+from .forms import CELLS, CLOCK, FRAME_WORDS, PROCESSORS, REGISTERS, ROW, ROWS, Place, fields, kind_of, registers_of
+from .console import Console
 from .turn import Processor
 
 COUNTS = {"PP": PROCESSORS, "M": PROCESSORS * ROWS, "H": CLOCK + 1, "XP": FRAME_WORDS, "LP": 1, "CR": 1}  # lines of each form
 OF_READER, OF_PRINTER = ("CARD", "OF", "COLUMN", "MODE"), ("SYMBOLS", "COLUMN", "MODE")
-WORDS_FROM, WORD = FORMS["M"].columns["words"].start, len("0000 ")
+WORDS_FROM = WORD = len("0000 ")  # in a row of a dump
 
 Difference = Tuple[str, str, str]  # a place, and its numbers in two states
 
@@ -85,7 +85,7 @@ def questions(central: Optional[Tuple[int, int]] = None) -> List[str]:
     """Returns the lines that ask for a whole state, with the central words from a first to a last address."""
     lines = [line for number in range(PROCESSORS) for line in (f"DUMP PP {number:o}", f"DUMP M {number:o} 0 7777")]
     lines += ["DUMP H", "DUMP XP", "DUMP W", "DUMP LP"]
-    return [*lines, *([f"DUMP C {central[0]:o} {central[1]:o}"] if central else []), READER_DUMP.line]
+    return [*lines, *([f"DUMP C {central[0]:o} {central[1]:o}"] if central else []), "DUMP CR"]
 
 
 def state_of(console: Console, central: Optional[Tuple[int, int]] = None) -> State:

@@ -13,12 +13,14 @@ from __future__ import annotations
 
 import bisect
 import re
-from typing import Container, Dict, Iterable, Iterator, List, NamedTuple, Optional, Sequence, Tuple
+from typing import Container, Dict, Iterable, Iterator, List, NamedTuple, NewType, Optional, Sequence, Tuple
 
 from ..failure import Failure
 from .forms import MOST_TURNS, PROCESSORS
 
 MOST_KEPT = 10000  # decimal, without --history
+Position = NewType("Position", int)  # how many actions of a tape come before
+Units = NewType("Units", int)  # a number of actions as a user counts them
 STEP = "STEP"
 NOTE_OF_DEVICE = re.compile(r"\* DEVICE (\S+)\r?")  # the line after it is a reply of this device
 REPLY = "SET H "
@@ -119,8 +121,9 @@ class Tape:
 
     def __init__(self, actions: Iterable[Action] = ()) -> None:
         self.runs: List[Action] = []
-        self.starts, self.turns_before, self.units_before = [0], [0], [0]  # of each run of actions, and of the end
-        self.dead_starts: List[int] = []  # the positions after them
+        self.starts: List[Position] = [Position(0)]  # of each run of actions, and of the end; and the turns and units before them
+        self.turns_before, self.units_before = [0], [0]
+        self.dead_starts: List[Position] = []  # the positions after them
         self.watches = 0  # how many of them are WATCH or UNWATCH
         for line, times in actions:
             self.append(line, times)
@@ -132,14 +135,18 @@ class Tape:
         is_turn = line == STEP
         if is_turn and self.runs and self.runs[-1].line == STEP:
             times += self.runs.pop().times
-            for sums in (self.starts, self.turns_before, self.units_before):
-                sums.pop()
+            self._pop_sums()
         self.runs.append(Action(line, times))
-        self.starts.append(self.starts[-1] + times)
+        self.starts.append(Position(self.starts[-1] + times))
         self.turns_before.append(self.turns_before[-1] + times * is_turn)
         self.units_before.append(self.units_before[-1] + times * (type(line) is not ReplyLine))
         if not is_turn and type(line) is not ReplyLine:
             self._note_kind(self.runs[-1].word)
+
+    def _pop_sums(self) -> None:
+        self.starts.pop()
+        self.turns_before.pop()
+        self.units_before.pop()
 
     def _note_kind(self, word: str) -> None:
         if word in WATCH_WORDS:
@@ -147,11 +154,10 @@ class Tape:
         elif word == "DEADSTART":
             self.dead_starts.append(self.end)
 
-    def cut(self, position: int) -> None:
+    def cut(self, position: Position) -> None:
         """Removes what is after a position."""
         while self.starts[-1] > position:
-            for sums in (self.starts, self.turns_before, self.units_before):
-                sums.pop()
+            self._pop_sums()
             action = self.runs.pop()
             self.watches -= action.is_watch
             self.append(action.line, max(position - self.end, 0))
@@ -161,61 +167,65 @@ class Tape:
     # ---- how far
 
     @property
-    def end(self) -> int:
+    def end(self) -> Position:
         return self.starts[-1]
 
     @property
     def turns(self) -> int:
         return self.turns_before[-1]
 
-    def run_before(self, position: int) -> int:
+    def run_before(self, position: Position) -> int:
         """Returns the number of the run of actions that has the action before a position."""
         return bisect.bisect_left(self.starts, position) - 1
 
-    def run_after(self, position: int) -> int:
+    def run_after(self, position: Position) -> int:
         """Returns the number of the run that has the action after a position."""
         return bisect.bisect_right(self.starts, position) - 1
 
-    def turn(self, position: int) -> int:
+    def turn(self, position: Position) -> int:
         """Returns the number of turns before a position."""
         run = max(self.run_before(position), 0)
         passed = position - self.starts[run]
         return self.turns_before[run] + (passed if passed and self.runs[run].line == STEP else 0)
 
-    def slot(self, position: int) -> int:
+    def slot(self, position: Position) -> int:
         """Returns the slot at a position: that of the turn that begins there."""
         last = bisect.bisect_right(self.dead_starts, position)
         begun = self.turn(self.dead_starts[last - 1]) if last else 0
         return (self.turn(position) - begun) % PROCESSORS
 
-    def units(self, position: int) -> int:
+    def units(self, position: Position) -> Units:
         """Returns how many units are whole at a position, or begun: those whose own action is before it."""
         run = max(self.run_before(position), 0)
-        return min(self.units_before[run] + position - self.starts[run], self.units_before[min(run + 1, len(self.runs))])
+        return Units(min(self.units_before[run] + position - self.starts[run], self.units_before[min(run + 1, len(self.runs))]))
 
-    def whole_units(self, position: int) -> int:
+    def whole_units(self, position: Position) -> Units:
         """Returns how many units are whole at a position."""
         units = self.units(position)
-        return units if self.after_units(units) == position else units - 1
+        return units if self.after_units(units) == position else Units(units - 1)
 
-    def after_units(self, units: int) -> int:
+    def after_units(self, units: Units) -> Position:
         """Returns the position after so many units, with their replies."""
         run = bisect.bisect_right(self.units_before, units) - 1
-        return self.starts[run] + units - self.units_before[run]
+        return Position(self.starts[run] + units - self.units_before[run])
 
-    def after_turn(self, turn: int) -> int:
+    def after_turn(self, turn: int) -> Position:
         """Returns the position after so many turns, and after the other actions before the next turn."""
         if turn > self.turns:
             raise Failure(f"there is no turn {turn:o}: the run has {self.turns:o} turns, octal")
         run = bisect.bisect_right(self.turns_before, turn) - 1
-        return self.end if run == len(self.runs) else self.starts[run] + turn - self.turns_before[run]
+        return self.end if run == len(self.runs) else Position(self.starts[run] + turn - self.turns_before[run])
 
-    def at_turn(self, turn: int) -> int:
+    def at_turn(self, turn: int) -> Position:
         """Returns the position right after so many turns, before any other action."""
         run = bisect.bisect_left(self.turns_before, turn)
-        return self.starts[run] - (self.turns_before[run] - turn)
+        return Position(self.starts[run] - (self.turns_before[run] - turn))
 
-    def last_tick(self, position: int) -> int:
+    def before_turn(self, turn: int) -> Position:
+        """Returns the position before the turn with a number, from 1."""
+        return Position(self.at_turn(turn) - 1)
+
+    def last_tick(self, position: Position) -> Position:
         """Returns the position after the last turn before this one in which the clock changed; 0 if there is none."""
         while position:
             run = self.run_before(position)
@@ -223,37 +233,37 @@ class Tape:
             if self.runs[run].line == STEP:
                 passed = (self.slot(first) + position - first) % PROCESSORS  # turns since the last turn of the last processor
                 if position - passed > first:
-                    return position - passed
+                    return Position(position - passed)
             position = first
-        return 0
+        return position
 
     # ---- what
 
-    def actions(self, first: int = 0, last: int | None = None) -> Iterator[Action]:
+    def actions(self, first: Position = Position(0), last: Position | None = None) -> Iterator[Action]:
         """Yields the actions from a position to a later one, or to the end."""
         last = self.end if last is None else last
         while first < last:
             run = self.run_after(first)
             count = min(last, self.starts[run + 1]) - first
             yield Action(self.runs[run].line, count)
-            first += count
+            first = Position(first + count)
 
-    def lines(self, first: int, last: int) -> Iterator[str]:
+    def lines(self, first: Position, last: Position) -> Iterator[str]:
         """Yields the lines that perform the actions from a position to a later one, with the STEPs as long as they may be."""
         return (line for action in self.actions(first, last) for line in lines_of(action))
 
-    def stops(self, first: int = 0, processors: Container[int] = range(PROCESSORS)) -> Iterator[Tuple[int, str]]:
+    def stops(self, first: int = 0, processors: Container[int] = range(PROCESSORS)) -> Iterator[Tuple[Position, str]]:
         """Yields the position before each turn of some processors, with STEP, from turn number `first` on (from 0); and the position
         after each other action from there on, with its line."""
         for run, action in enumerate(self.runs):
             begin, end = self.starts[run] + max(first - self.turns_before[run], 0), self.starts[run + 1]
             if action.turns:
                 slot = self.slot(self.starts[run]) - self.starts[run]
-                yield from ((position, STEP) for position in range(begin, end) if (position + slot) % PROCESSORS in processors)
+                yield from ((Position(at), STEP) for at in range(begin, end) if (at + slot) % PROCESSORS in processors)
             elif begin == self.starts[run]:
                 yield end, action.line
 
-    def part(self, first: int, last: int) -> Tape:
+    def part(self, first: Position, last: Position) -> Tape:
         """Returns a tape of the actions from a position to a later one."""
         return Tape(self.actions(first, last))
 
@@ -278,7 +288,7 @@ class History:
     def __init__(self, room: int = MOST_KEPT, tape: Tape | None = None) -> None:
         """The simulator keeps so many actions; it is at the beginning of the tape."""
         self.room, self.tape = room, tape or Tape()
-        self.position = self.kept = self.ahead = 0
+        self.position, self.kept, self.ahead = Position(0), 0, 0
 
     # ---- how far
 
@@ -292,29 +302,29 @@ class History:
         return self.tape.slot(self.position)
 
     @property
-    def oldest(self) -> int:
+    def oldest(self) -> Position:
         """The first position to which the simulator can go back."""
-        return self.position - self.kept
+        return Position(self.position - self.kept)
 
     def in_effect(self) -> Tape:
         """Returns the actions that were not taken back, or were performed again."""
-        return self.tape.part(0, self.position)
+        return self.tape.part(Position(0), self.position)
 
     # ---- what the simulator did
 
     def restarted(self) -> None:
         """Notes that a fresh simulator is at the beginning of the tape."""
-        self.position = self.kept = self.ahead = 0
+        self.position, self.kept, self.ahead = Position(0), 0, 0
 
     def performed(self, count: int) -> None:
         """Notes that the simulator has performed the next so many actions of the tape by their lines."""
-        self.position += count
+        self.position = Position(self.position + count)
         self.kept = min(self.kept + count, self.room)
         self.ahead = 0
 
     def taken_back(self, made: int, count: int) -> None:
         """Notes that the simulator has performed so many new actions, and taken back so many of them."""
-        self.position += made - count
+        self.position = Position(self.position + made - count)
         self.kept = min(self.kept + made, self.room) - count
         self.ahead = 0
 
@@ -322,7 +332,7 @@ class History:
         """Notes that the simulator has gone forward by so many actions, or back if it is negative."""
         if count > self.ahead or -count > self.kept:
             raise Failure(f"what is run is not the simulator: it went by {abs(count):o} actions, and there are fewer")
-        self.position += count
+        self.position = Position(self.position + count)
         self.kept += count
         self.ahead -= count
 
@@ -333,7 +343,7 @@ class History:
         self.performed(times)
 
     def take(self, line: str, answer: Sequence[str]) -> bool:
-        """Counts a line of the user by the lines of its answer. Returns whether it changed the machine, the history or the list."""
+        """UnitCounts a line of the user by the lines of its answer. Returns whether it changed the machine, the history or the list."""
         kind, *rest = answer[0].split() if answer else ["NOTE"]
         if kind == "OK":
             self.added(line)
@@ -346,7 +356,7 @@ class History:
         return True
 
 
-class Counts:
+class UnitCounts:
     """A history as BACK and FORWARD of its user count it: in units."""
 
     def __init__(self, history: History, redo: Optional[History] = None) -> None:
@@ -354,12 +364,12 @@ class Counts:
         self.history, self.redo, self.tape = history, redo or history, history.tape
 
     @property
-    def position(self) -> int:
+    def position(self) -> Units:
         """How many units are in effect."""
         return self.tape.units(self.history.position)
 
     @property
-    def oldest(self) -> int:
+    def oldest(self) -> Units:
         """How many units come before what the simulator itself can undo."""
         return self.tape.units(self.history.oldest)
 
@@ -376,7 +386,7 @@ class Counts:
     @property
     def ahead(self) -> int:
         """How many units of the redo list are ahead."""
-        return self.tape.units(self.history.position + self.redo.ahead) - self.position
+        return self.tape.units(Position(self.history.position + self.redo.ahead)) - self.position
 
     @property
     def turns(self) -> int:
@@ -397,7 +407,7 @@ class Counts:
 
     def over(self, actions: int) -> int:
         """Returns how many units the last so many actions of the tape are."""
-        return self.position - self.tape.whole_units(self.history.position - actions)
+        return self.position - self.tape.whole_units(Position(self.history.position - actions))
 
     def back_over(self, turns: int) -> int:
         """Returns how many units in effect have the last so many turns; more than there are if these have fewer turns."""

@@ -16,6 +16,7 @@ from typing import Dict, Iterable, Iterator, List, NamedTuple, Optional, Tuple, 
 
 from ..engine.choice import HOME, NAMES, first_that_starts, handed_out, machine_here, of_checkout, verified
 from ..failure import Failure
+from .completions import filled
 from .files import checked_program
 
 TOP = os.path.dirname(os.path.dirname(os.path.dirname(os.path.dirname(os.path.realpath(__file__)))))  # the checkout, or OWN below a prefix
@@ -106,10 +107,10 @@ def packed(path: str) -> File:
 
 def completions(tools: Iterable[str]) -> Manifest:
     """Returns the completions of shells; bash and fish look for a file with the name of the command."""
-    share = os.path.join(TOP, "share")
     bash, fish = "share/bash-completion/completions", "share/fish/vendor_completions.d"
-    return {f"{bash}/pp6600": read(os.path.join(share, "completion.bash")), f"{fish}/pp6600.fish": read(os.path.join(share, "completion.fish")),
-            "share/zsh/site-functions/_pp6600": read(os.path.join(share, "completion.zsh")),
+    paths = {"bash": f"{bash}/pp6600", "fish": f"{fish}/pp6600.fish", "zsh": "share/zsh/site-functions/_pp6600"}
+    texts = {shell: read(os.path.join(TOP, "share", f"completion.{shell}")).data.decode() for shell in paths}
+    return {**{path: File(filled(shell, texts[shell]).encode()) for shell, path in paths.items()},
             **{f"{bash}/pp6600-{name}": Link("pp6600") for name in tools},
             **{f"{fish}/pp6600-{name}.fish": Link("pp6600.fish") for name in tools}}
 

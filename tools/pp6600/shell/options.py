@@ -5,7 +5,7 @@ import os
 import re
 import sys
 from functools import partial
-from typing import Any, List, NoReturn, Optional
+from typing import Any, List, NamedTuple, NoReturn, Optional, Sequence
 
 from ..engine.choice import HOME
 from ..engine.choose import default_engine
@@ -14,7 +14,23 @@ from ..run.forms import CELLS, CLOCK, PROCESSORS
 from .ending import write
 
 TOOLS = os.path.dirname(os.path.dirname(os.path.dirname(os.path.abspath(__file__))))
-OPTIONS = {"history": "N", "central": "K", "deck": "F", "reader": "C", "printer": "C", "panel": "F"}
+
+
+class Option(NamedTuple):
+    """An option of the simulator: what its value is called, what it is, and the values that there are; none if there are many."""
+
+    metavar: str
+    help: str
+    values: Sequence[str] = ()
+
+
+CHANNELS = tuple(f"{number:o}" for number in range(CLOCK))
+OPTIONS = {"history": Option("N", "the length of the undo history in actions, decimal (else 10000)"),
+           "central": Option("K", "the words of central memory in 1024, decimal (else 128)", ("32", "64", "128")),
+           "deck": Option("F", "the file of the card deck"),
+           "reader": Option("C", "the channel of the card reader, octal (else 12)", CHANNELS),
+           "printer": Option("C", "the channel of the printer, octal (else 13)", CHANNELS),
+           "panel": Option("F", "the file of the dead start panel")}
 PLAIN = "\0"  # before a word that is no option, though it begins like one; no word of a command line has this byte
 
 
@@ -134,8 +150,8 @@ def arguments(description: str, usage: Optional[str] = None) -> Parser:
     parser = Parser(description, usage)
     parser.add_argument("--program", metavar="FILE", help="the simulator (else $PP6600, else the one beside the tools)",
                         default=default_engine())
-    for name, value in OPTIONS.items():
-        parser.add_argument(f"--{name}", metavar=value, help="as the simulator has it")
+    for name, option in OPTIONS.items():
+        parser.add_argument(f"--{name}", metavar=option.metavar, help=option.help)
     return parser
 
 

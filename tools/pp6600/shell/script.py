@@ -6,7 +6,7 @@ from typing import Any, Callable, Iterable, List, Optional, Sequence, Tuple
 from ..run.console import Console
 from ..run.forms import is_refusal
 from ..run.session import Session
-from ..run.tape import History, Tape, counted, room_of
+from ..run.tape import History, Position, Tape, counted, room_of
 from .ending import complain, flush
 from .options import simulator
 from .text_files import script_lines, shown
@@ -74,4 +74,4 @@ def replayed(asked: Namespace, symbols: Any, path: Optional[str], turn: Optional
     words = simulator(asked)
     script = performed(words, symbols.loading(script_lines(path)))
     tape = script.tape
-    return Session.of_tape(words, tape if turn is None else tape.part(0, tape.after_turn(turn))), script
+    return Session.of_tape(words, tape if turn is None else tape.part(Position(0), tape.after_turn(turn))), script

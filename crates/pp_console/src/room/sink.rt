@@ -26,9 +26,10 @@ impl Sink for Room<'_> {
             self.failures = self.failures.saturating_add(1);
             return Err(Failed);
         }
-        let mut log = self.log.copied();
+        let at = self.count;
+        let mut log = self.log_of(at);
         log.note(from, count);
-        write_at(self.bytes, self.count, &from[..count]);
+        write_at(self.bytes, at, &from[..count]);
         self.count += count;
         self.log = log;
         Ok(count)

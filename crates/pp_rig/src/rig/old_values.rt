@@ -1,7 +1,7 @@
 //! Undo records as lists of places with their old numbers.
 #![tactic(auto, using(crate::proofs::OldValues::old_value_lists))]
 
-ghost use Rattle.std.specs.Prelude.{◌≡◌, ◌==◌, ◌+◌, ◌≤◌, ◌++◌, IsTrue, length, map, not};
+ghost use Rattle.std.specs.Prelude.{◌≡◌, ◌==◌, ◌+◌, ◌≤◌, ◌++◌, [], IsTrue, false, length, map, not};
 ghost use Rattle.arrayvec.specs.ArrayVec.{array_vec_len};
 ghost use Rattle.pp_history.specs.SessionValue.{AreNewest, AtEach};
 ghost use Rattle.pp_machine.specs.Machine.{Machine};
@@ -118,6 +118,7 @@ pub fn newest_old_values_into(session: &Session<Rig>, list: &mut WriteList) -> b
     ensures some { result ≡ not (length session.now.records == 0) }
     ensures old_values { IsTrue result → AtEach rules session.now (λ v.
         AreNewest rules v.start v.standing (write_list list.new.items)) }
+    ensures empty { result ≡ false → list.new.items ≡ [] }
 {
     list.clear();
     match session.newest() {

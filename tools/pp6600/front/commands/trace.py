@@ -6,7 +6,7 @@ from ...engine import interface as flat
 from ...language.names import AllSymbols
 from ...language.symbol_options import add_symbols, symbols_of
 from ...run.forms import CELLS, CLOCK, PROCESSORS
-from ...run.search import Looks, around, spans
+from ...run.search import Condition, Search, Test, around, spans
 from ...run.tape import STEP
 from ...run.turn import CHANNEL_CODES, TWO_WORDS, TurnKind, cells_written, kind_of_turn
 from ...shell.command_line import add_script, arguments, channel, count, processor, write_lines
@@ -92,54 +92,55 @@ class Code:
         self.is_sure = self.is_sure and all(cells is not None and self.words.keys().isdisjoint(cells) for cells in stored)
 
 
-class Touches:
-    """The turns of some processors that may have touched a channel."""
+class Touches(Test):
+    """Whether a turn of some processors may have touched a channel: whether it changed it, or its processor uses the channel by an
+    instruction that was in a cell at its P, or in a block transfer."""
 
-    def __init__(self, run, channel, processors):
-        self.run, self.channel, self.processors = run, channel, processors
+    is_change = True
+
+    def __init__(self, channel, processors):
+        self.channel, self.processors = channel, processors
         self.of_channel = [flat.REGISTERS + channel] + [flat.STATES + channel] * (channel < CLOCK)
 
-    def between(self, first, last):
-        """Yields the position before each of those after so many turns, up to a later one. A processor uses the channel by an instruction
-        that was in a cell at its P, or in a block transfer."""
-        run, tape = self.run, self.run.tape
-        run.goto(tape.after_turn(first))
-        while run.turn < last:
-            end = min(tape.starts[tape.run_after(run.position) + 1], tape.at_turn(last))
-            self.code = {number: Code(self.channel) for number in self.processors}
-            while run.position < end:
-                yield from self.in_turns(min(end - run.position, run.history.room))
-            run.goto(tape.after_turn(run.turn))
+    @property
+    def places(self):
+        return [*self.of_channel, *(flat.P + number for number in self.processors)]
 
-    def in_turns(self, most):
-        """Makes turns, at most so many, and yields the position before each of those that may have touched the channel."""
-        run = self.run
-        looked = [*self.of_channel, *(flat.P + number for number in self.processors)]
-        before = {place: run.engine.numbers(place, 1)[0] for place in looked}
-        phases = run.engine.numbers(flat.PHASE, PROCESSORS)
-        looks = Looks(run, looked, most)
-        here, found = run.position, set()
+    def begin(self, run):
+        self.code = {number: Code(self.channel) for number in self.processors}
+        self.look(run)
+        return False
+
+    def look(self, run):
+        """Looks at a run before some turns."""
+        self.before = {place: run.engine.numbers(place, 1)[0] for place in self.places}
+        self.phases = run.engine.numbers(flat.PHASE, PROCESSORS)
+
+    def verdicts(self, looks):
+        found = bytearray(looks.turns)
         for place in self.of_channel:
-            values = looks.columns[place]
-            if values.count(before[place]) < len(values):
-                found.update(at for at, (was, now) in enumerate(zip(chain((before[place],), values), values)) if was != now)
-        self.p = {number: [before[flat.P + number], *looks.own(number, flat.P + number)] for number in self.processors}
-        is_known = all(not phases[number] and self.code[number].knows({*p}) for number, p in self.p.items())
+            values, before = looks.columns[place], self.before[place]
+            if values.count(before) < len(values):
+                for at, (was, now) in enumerate(zip(chain((before,), values), values)):
+                    found[at] |= was != now and (looks.slot + at) % PROCESSORS in self.processors
+        self.p = {number: [self.before[flat.P + number], *looks.own(number, flat.P + number)] for number in self.processors}
+        is_known = all(not self.phases[number] and self.code[number].knows({*p}) for number, p in self.p.items())
         written = set() if is_known else looks.written()
         for number in self.processors:
-            found.update(self.of_processor(number, phases[number], written, looks.first_own(number)))
-        yield from (looks.position(at) for at in sorted(found) if (looks.slot + at) % PROCESSORS in self.processors)
-        run.goto(here)
+            for at in self.of_processor(looks.run, number, written, looks.first_own(number)):
+                found[at] = 1
+        self.look(looks.run)
+        return bytes(found)
 
-    def of_processor(self, number, phase, written, first):
+    def of_processor(self, run, number, written, first):
         """Returns the turns of a processor that may use the channel. Its P before each of its turns is known, and which cells were written
         in these turns, if any of those at P were."""
-        p, code, memory = self.p[number], self.code[number], flat.CELLS + CELLS * number
+        p, phase, code, memory = self.p[number], self.phases[number], self.code[number], flat.CELLS + CELLS * number
         addresses = {*p}
         users = addresses & code.users
         if not code.knows(addresses):
             low = min(addresses)
-            numbers = self.run.engine.numbers(memory + low, max(addresses) - low + 1)
+            numbers = run.engine.numbers(memory + low, max(addresses) - low + 1)
             words = {one: numbers[one - low] for one in addresses if memory + one not in written}
             code.add(words)
             code.is_sure = code.is_sure and not phase and len(words) == len(addresses)
@@ -153,7 +154,7 @@ def positions_of(asked, run, last):
     """Yields the positions before the turns that a command line asks for, up to a last turn; of a channel all that may touch it."""
     tape, processors, first = run.tape, asked.processor or range(PROCESSORS), asked.first - 1
     if asked.channel is not None:
-        return Touches(run, asked.channel, processors).between(min(first, last), last)
+        return positions_of_touches(asked, run, min(first, last), last)
     if asked.last is not None:
         first = max(last - asked.last * PROCESSORS, first)
     end = tape.at_turn(last)
@@ -161,11 +162,17 @@ def positions_of(asked, run, last):
     return found if asked.last is None else list(found)[-asked.last:]
 
 
+def positions_of_touches(asked, run, first, last):
+    """Yields the positions before the turns after one, and up to another, that may touch the channel."""
+    search = Search(run, Condition([Touches(asked.channel, asked.processor or range(PROCESSORS))]))
+    return (position for position, _ in search.found(first, last))
+
+
 def last_lines(asked, run, tracer, last):
     """Returns the lines of the last turns that touched the channel, as many as the command line asks for."""
-    touches, found = Touches(run, asked.channel, asked.processor or range(PROCESSORS)), []
+    found = []
     for start, end in spans(last, min(asked.first - 1, last)):
-        found[:0] = filter(None, map(tracer.line, list(touches.between(start, end))))
+        found[:0] = filter(None, map(tracer.line, list(positions_of_touches(asked, run, start, end))))
         if len(found) >= asked.last:
             break
     return found[-asked.last:]

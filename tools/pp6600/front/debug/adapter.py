@@ -1,6 +1,5 @@
 """The requests of an editor that begin, run and end a session."""
 
-import inspect
 import itertools
 
 from ...engine.choose import default_engine
@@ -14,7 +13,7 @@ from ...shell.options import OPTIONS, processor
 from ...shell.text_files import script_lines, shown
 from .breakpoints import DATA, Breakpoints
 from .listings import Listings
-from .machine import Machine, MachineWithDevices, latest_turn
+from .debugged import MachineWithDevices, MachineWithoutDevices, latest_turn
 from .own import OwnSources
 from .protocol import Refused
 from .requests import Requests
@@ -97,6 +96,7 @@ class Adapter(Requests, Setting):
 
     def fault_of(self, command, arguments):
         """Returns what is wrong with the arguments of a request: one that it needs is missing, or one is of a wrong kind."""
+        import inspect  # a request is seldom faulty
         kinds = inspect.signature(self.method(command)).parameters.values()
         needed = [one.name for one in kinds if one.default is one.empty and one.kind is one.POSITIONAL_OR_KEYWORD]
         missing = [name for name in needed if not isinstance(arguments, dict) or name not in arguments]
@@ -173,7 +173,7 @@ class Adapter(Requests, Setting):
         lines = script_lines(str(script)) if script else []
         symbols = symbols_from(*(pairs(arguments.get(name), name) for name in ("symbols", "sources")), arguments.get("text"))
         devices = devices_from(arguments.get("devices"))
-        own, machine = OwnSources(symbols), MachineWithDevices(words, devices) if devices else Machine(words)
+        own, machine = OwnSources(symbols), MachineWithDevices(words, devices) if devices else MachineWithoutDevices(words)
         self.end_simulator()
         self.machine, self.arguments, self.own = machine, arguments, own
         if self.listings is None:

@@ -9,7 +9,7 @@ from .protocol import Refused
 from .terms import Terms
 
 if TYPE_CHECKING:
-    from .own import File
+    from .own import SourceFile
 
 LINE_ID, INSTRUCTION_ID, DATA_ID, SOURCE_ID = 1 << 16, 1 << 17, 1 << 18, 1 << 19  # of breakpoints; the lower bits say which one
 LINE, INSTRUCTION, DATA = "breakpoint", "instruction breakpoint", "data breakpoint"  # why a run stops
@@ -73,7 +73,7 @@ class Point(NamedTuple):
     cells: Dict[Cell, Optional[FrozenSet[int]]] = {}
     places: Tuple[Place, ...] = ()
     terms: Terms = Terms()
-    file: Optional["File"] = None  # the source, and the line there
+    file: Optional["SourceFile"] = None  # the source, and the line there
     line: int = 0
 
     @property

@@ -1,15 +1,14 @@
 """Which breakpoints a stop is for: those on its cell or place whose conditions hold there.
 
-What they need is read by a scout, for all stops of a part at once. A condition is judged where the processor has come to the breakpoint,
+What they need is read by a scout. A condition is judged where the processor has come to the breakpoint,
 and of a data breakpoint after the change. That a number changes, or that a processor waits, is judged after the latest turn."""
 
 from typing import NamedTuple
 
 from ...run.conditions import Changes, Waits
-from ...run.forms import word_dumps, words_of
 from ...run.search import Column, Looks
 from .breakpoints import Cell, Point
-from .machine import latest_turn
+from .debugged import latest_turn
 
 OF_A_TURN = (Changes, Waits)  # tests that are about the latest turn
 
@@ -24,44 +23,30 @@ class Met(NamedTuple):
 class Judge:
     """Judges the stops of a search."""
 
-    def __init__(self, machine, points, own, places):
-        """The user watches places of their `own`. The places are all that are watched, in their order."""
+    def __init__(self, machine, points, own):
+        """The user watches places of their `own`."""
         self.scout = machine.scout("looks") if points else None
-        self.tape, self.points, self.own, self.places = machine.tape, points, own, places
+        self.tape, self.points, self.own = machine.tape, points, own
         self.by_cell = {}
         for point in points:
             for cell in point.cells:
                 self.by_cell.setdefault(cell, []).append(point)
-        self.has_terms = any(point.places and (point.terms.condition or point.terms.hits) for point in points)
 
     def arrived(self, stops):
         """Yields those stops at cells that are for a breakpoint, or due without one."""
-        pairs = [(stop, self.by_cell.get(Cell(stop.number, stop.address), ())) for stop in stops]
-        wanted = {}
-        for stop, points in pairs:
-            for point in points:
-                wanted.setdefault(stop.position, []).extend(self.dumps(point, stop))
-        found = self.scout.answers_at({position: dumps for position, dumps in wanted.items() if dumps}) if wanted else {}
-        for stop, points in pairs:
-            answers = found.get(stop.position, {})
-            met = tuple(Met(point, self.text(point, stop)) for point in points
-                        if self.is_its_line(point, stop, answers) and self.holds(point, stop.position))
+        for stop in stops:
+            met = tuple(Met(point, self.text(point, stop)) for point in self.by_cell.get(Cell(stop.number, stop.address), ())
+                        if self.is_its_line(point, stop) and self.holds(point, stop.position))
             if met or stop.is_due:
                 yield stop._replace(met=met)
 
-    def dumps(self, point, stop):
-        """Returns the dumps that are needed to judge a breakpoint at a stop."""
-        cell = Cell(stop.number, stop.address)
-        words = word_dumps(*cell) if point.cells and point.cells[cell] else []
-        return words
-
-    def is_its_line(self, point, stop, answers):
+    def is_its_line(self, point, stop):
         """Returns whether a cell is of a line of a breakpoint, or was."""
-        cell = Cell(stop.number, stop.address)
-        lines = point.cells[cell]
+        lines = point.cells[Cell(stop.number, stop.address)]
         if lines is None:
             return True
-        words = words_of(row for dump in word_dumps(*cell) for row in answers[dump])
+        with self.scout.at(stop.position) as scout:
+            words = scout.words_at(stop.number, stop.address)
         found = point.file.of[stop.number].source.line_of(stop.address, *words)
         return found is not None and found.number in lines
 
@@ -70,20 +55,16 @@ class Judge:
         log = point.terms.log
         if not log:
             return ""
-        here = self.scout.position
-        self.scout.goto(stop.position)
-        values = [Column(place).shown(self.scout)[0][1] for place in log.places[stop.number]]
-        self.scout.goto(here)
-        return log.said(stop.number, values)
+        with self.scout.at(stop.position) as scout:
+            return log.said(stop.number, [Column(place).shown(scout)[0][1] for place in log.places[stop.number]])
 
     def holds(self, point, position):
         """Returns whether the condition of a breakpoint holds at a position."""
-        condition, here = point.terms.condition, self.scout.position
+        condition = point.terms.condition
         if not condition:
             return True
-        held = all(self.test_holds(test, position) for test in condition.tests)
-        self.scout.goto(here)
-        return held
+        with self.scout.at(position):
+            return all(self.test_holds(test, position) for test in condition.tests)
 
     def test_holds(self, test, position):
         if not isinstance(test, OF_A_TURN):
@@ -101,32 +82,9 @@ class Judge:
         test.begin(self.scout)
         return bool(test.verdicts(Looks(self.scout, test.places, 1))[-1])
 
-    # ---- data breakpoints
-
     def changed(self, stops):
-        """Yields the stops at changes that are for a data breakpoint or a place of the user. If some have terms, each change is looked
-        at, and not only the first one of an action."""
-        for stop in self.all_changes(stops) if self.has_terms else stops:
-            points = [point for point in self.points if stop.place in point.places]
-            met = tuple(Met(point) for point in points if self.holds(point, stop.position))
+        """Yields the stops at changes that are for a data breakpoint or a place of the user."""
+        for stop in stops:
+            met = tuple(Met(point) for point in self.points if stop.place in point.places and self.holds(point, stop.position))
             if met or stop.place in self.own:
                 yield stop._replace(met=met, is_due=stop.place in self.own)
-
-    def all_changes(self, stops):
-        """Yields a stop for each change of an action, of one stop for it."""
-        last = None
-        for stop in stops:
-            if stop.position == last:
-                continue
-            last = stop.position
-            for place, was, now in zip(self.places, *map(self.numbers_at, (last - 1, last))):
-                if was != now:
-                    yield stop._replace(place=place, was=was, now=now)
-
-    def numbers_at(self, position):
-        """Returns the digits at all watched places at a position."""
-        here = self.scout.position
-        self.scout.goto(position)
-        found = [self.scout.number_at(place) for place in self.places]
-        self.scout.goto(here)
-        return found

@@ -4,7 +4,6 @@ import os
 from typing import NamedTuple
 
 from ...failure import Failure
-from ...language.sources import source_lines
 from ...run.forms import CELLS
 from .breakpoints import Cell
 
@@ -12,12 +11,12 @@ from .breakpoints import Cell
 class OwnLine(NamedTuple):
     """A line of a source, and the addresses at which its words may be."""
 
-    file: "File"
+    file: "SourceFile"
     number: int
     addresses: frozenset
 
 
-class Lines:
+class SourceLines:
     """The lines of a source: the rows with words before which a stop at a line is, and the addresses at which its words may be."""
 
     def __init__(self, source):
@@ -27,18 +26,22 @@ class Lines:
             self.addresses.setdefault(row.line.number, set()).update(cells)
 
 
-class File:
+class SourceFile:
     """A file with the source of some processors, as it was at the launch."""
 
     def __init__(self, path):
         self.path = os.path.abspath(path)
         self.source = {"name": os.path.basename(path), "path": self.path}
         self.of = {}  # the lines by processors
-        self.lines, self.seen = source_lines(path), stamp(path)
+        self.lines, self.seen = self.read(), stamp(path)
         self.is_told = False  # that it has changed
 
+    def read(self):
+        from ...language.sources import source_lines  # few editors have sources
+        return source_lines(self.path)
+
     def add(self, number, source):
-        self.of[number] = Lines(source)
+        self.of[number] = SourceLines(source)
 
     def is_at(self, path):
         return isinstance(path, str) and (path == self.path or os.path.realpath(path) == os.path.realpath(self.path))
@@ -62,7 +65,7 @@ class File:
             return False
         self.seen = stamp(self.path)
         try:
-            self.is_told = source_lines(self.path) != self.lines
+            self.is_told = self.read() != self.lines
         except Failure:
             self.is_told = True
         return self.is_told
@@ -78,7 +81,7 @@ class OwnSources:
         for number, source in self.of.items():
             file = self.file(source.path)
             if not file:
-                file = File(source.path)
+                file = SourceFile(source.path)
                 self.files.append(file)
             file.add(number, source)
             self.file_of[number] = file

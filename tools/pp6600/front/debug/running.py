@@ -7,8 +7,8 @@ import math
 
 from ...run.forms import MOST_TURNS, MOST_WATCHES
 from ...run.search import spans
-from .machine import NEAR
-from .search import Search, Wanted, change
+from .debugged import NEAR
+from .stops import StopSearch, Wanted, change
 
 
 class Runner:
@@ -39,11 +39,11 @@ class Runner:
         machine, tape, end = self.machine, self.machine.tape, self.machine.tape.end if end is None else end
         if not self.count_hits(wanted(), machine.position):
             return None
-        search = Search(machine, wanted(), machine.goto)
+        search = StopSearch(machine, wanted(), machine.goto)
         stop = self.due(search.stop_at(machine.position)) if tape.slot(machine.position) != shown else None
         while not stop and machine.position < last and self.goes_on():
             if search.wanted != wanted():
-                search = Search(machine, wanted(), machine.goto)
+                search = StopSearch(machine, wanted(), machine.goto)
             if not self.count_hits(search.wanted, machine.position):
                 break
             is_quick = machine.may_watch_itself and search.wanted.is_plain and len(search.places) <= MOST_WATCHES
@@ -109,12 +109,12 @@ class Runner:
         """Returns the latest stop before where the machine is, or None; and what log points write on the way there, the latest first."""
         here, said = self.machine.position, []
         for first, last in spans(here, span=NEAR):
-            stop, logs = self.last_of(Search(self.machine, wanted()), first, last, here)
+            stop, logs = self.last_of(StopSearch(self.machine, wanted()), first, last, here)
             said += reversed(logs)
             if stop or not self.goes_on():
                 return (stop, said) if self.goes_on() else (None, [])
         logs = []
-        stop = self.due(Search(self.machine, wanted()).stop_at(0), lambda *log: logs.append(log)) if here else None
+        stop = self.due(StopSearch(self.machine, wanted()).stop_at(0), lambda *log: logs.append(log)) if here else None
         return stop, said + logs
 
     def last_of(self, search, first, last, here):
@@ -173,7 +173,7 @@ class Runner:
         known = min((self.machine.tally(point).known for point in wanted.points), default=position)
         if known >= position:
             return True
-        search = Search(self.machine, wanted)
+        search = StopSearch(self.machine, wanted)
         if known < 0:
             stop, known = search.stop_at(0), 0
             self.note(stop) if stop else None

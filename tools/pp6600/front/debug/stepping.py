@@ -5,13 +5,11 @@ one that counts its return address up ends too."""
 
 from ...language.calls import call_of, has_returned
 from ...run.conditions import RJM
-from ...run.forms import CELLS, registers_dump, registers_of
-from .machine import NEAR, latest_turn
-from .search import Aim
+from ...run.forms import CELLS
+from .debugged import latest_turn
+from .stops import Aim
 
 OUTSIDE_BLOCKS = frozenset(f"{cell:04o}0000" for cell in range(CELLS))
-FARTHEST = 8000  # positions that are looked at, at once
-WIDER = 4
 
 
 class Stepper:
@@ -106,15 +104,11 @@ class Stepper:
 
     def turns_back(self, end):
         """Yields the turns of the processor before a position, the latest first: the position, P, and whether a block was on."""
-        tape, dump, span = self.machine.tape, registers_dump(self.number), NEAR
-        while end and self.runner.goes_on():
-            first = max(end - span, 0)
-            turns = [at for at in range(first, end) if tape.slot(at) == self.number and next(tape.actions(at)).turns]
-            answers = self.scout.answers_at({at: [dump] for at in turns})
-            for at in reversed(turns):
-                registers = registers_of(answers[at][dump][0])
-                yield at, int(registers["P"], 8), registers["PHASE"] != "0000"
-            end, span = first, min(WIDER * span, FARTHEST)
+        while (at := latest_turn(self.machine.tape, self.number, end)) is not None and self.runner.goes_on():
+            self.scout.goto(at)
+            processor = self.scout.processor(self.number)
+            yield at, processor.p, bool(processor.phase)
+            end = at
 
     @property
     def scout(self):

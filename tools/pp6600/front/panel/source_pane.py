@@ -3,21 +3,23 @@ lines without words, as notes. `Source.line_of` says whose line a cell is. A cel
 
 import functools
 import os
-from typing import NamedTuple, Optional
+from typing import TYPE_CHECKING, NamedTuple, Optional
 
 from ...language.source.statements import TAB, Line as SourceText
-from ...language.sources import CellLine
 from ...run.disassembly import Row, rows_above, rows_around, rows_from
 from ...run.forms import CELLS
 from .program import TEXT_FROM, cell_of, cells_line, head_line, program_of, row_line
 from .text import HERE, OVERWRITTEN, Line
+
+if TYPE_CHECKING:
+    from ...language.sources import CellLine
 
 
 class Entry(NamedTuple):
     """What a line of the pane shows: a row of cells, with the source line that it is of, or was; or a line without words before it."""
 
     row: Row
-    line: Optional[CellLine] = None
+    line: Optional["CellLine"] = None
     note: Optional[SourceText] = None
 
     def has(self, address):

@@ -2,14 +2,16 @@
 
 import re
 from dataclasses import dataclass
-from typing import Optional
+from typing import TYPE_CHECKING, Optional
 
 from ...failure import Failure
-from ...language.sources import Source
 from ...run.disassembly import moved
 from ...run.forms import CELLS, CLOCK, KINDS, PROCESSORS, ROW
 from .program import present, program_of, rows_of
 from .source_pane import Cells, window_of
+
+if TYPE_CHECKING:
+    from ...language.sources import Source
 
 PANES = ("processors", "channels", "memory", "central")
 REGISTERS = ("P", "A", "Q")  # those that can be watched
@@ -28,7 +30,7 @@ class View:
     as_program: bool = False  # the cells are shown as instructions
     has_display_code: bool = False  # and beside them as two symbols each
     as_source: bool = True  # they are shown as the source of their processor, if it has one
-    source: Optional[Source] = None  # that is shown
+    source: Optional["Source"] = None  # that is shown
     top_of_source: tuple = (0, 0)  # the address of the first row of it, and how many of its lines are above
     has_central: bool = False  # central memory is beside it
     program: tuple = ()  # the cells, and the addresses at which an instruction begins

@@ -1,9 +1,6 @@
-use Rattle.std.proofs.Common.{◌≡◌, arith, length, refl, rules, sym}
-use Rattle.std.proofs.lemmas.Result.{IfOk-weaker}
-use Rattle.pp_console.proofs.Fitting.{Tried, command_settled, same_length, tried}
-use Rattle.pp_console.specs.AnswerRoom.{change_room}
-use Rattle.pp_console.specs.Answering.{HasRoom, left_in}
-use Rattle.pp_console.specs.Commands.{answer, present}
+use Rattle.std.proofs.{Common.arith, Common.refl, Common.rules, lemmas.Result.IfOk-weaker}
+use Rattle.pp_console.proofs.Fitting.{command_settled, same_length, tried}
+use Rattle.pp_console.specs.{AnswerRoom.change_room, Answering.HasRoom, Answering.left_in, Commands.present}
 use Rattle.pp_console.proofs.answering.answer_command.Goals as goal
 
 pub settle-requires : goal.settle-requires

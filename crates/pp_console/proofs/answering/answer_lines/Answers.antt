@@ -1,8 +1,7 @@
-use Rattle.std.proofs.Common.{◌≡◌, ◌∙◌, ◌+◌, ◌-◌, ◌<◌, ◌≤◌, ◌⊎◌, [], ◌∷◌, arith, drop, inl, inr, length, length-drop, not, refl, rules, sym, take, take_all}
+use Rattle.std.proofs.Common.{◌≡◌, ◌-◌, arith, drop, inl, length, not, refl, rules, take}
 use Rattle.std.proofs.Math.Seq.{take-add}
-use Rattle.std.specs.Int.{from_bool}
-use Rattle.pp_console.proofs.Continuing.{answers_part, ends_after, next_lines, one_at_most, past_next, same_again, same_left, so_far_more, so_far_none, so_far_same, still_open}
-use Rattle.pp_console.specs.Answering.{IsSameSlice}
+use Rattle.pp_console.proofs.Continuing.{answers_part, ends_after, next_lines, one_at_most, past_next, same_again, same_left}
+use Rattle.pp_console.proofs.Continuing.{so_far_more, so_far_none, so_far_same, still_open}
 use Rattle.pp_console.specs.Script.{script}
 use Rattle.pp_lines.specs.Lines.{lines, unfinished}
 use Rattle.pp_console.proofs.answering.answer_lines.Goals as goal
@@ -20,33 +19,18 @@ loop-taken-init c = record {
 pub returns-then-is_past-clause-answers : goal.returns-then-is_past-clause-answers
 returns-then-is_past-clause-answers c = λ start at.
     let typed = c.args.typed.now in let taken = c.loop-taken.taken in let first = c.first_line-bytes in
-    let n = first.result.1 in
-    let whole : take (length typed - taken) (drop taken typed) ≡ drop taken typed = take_all (length typed - taken) (drop taken typed) (omega (arith, length-drop taken typed)) in
-    let fed : lines (take n (take (length typed - taken) (drop taken typed))) ≡ first.result.0.now ∷ [] = first.ensures.line in
-    let at_end : (unfinished (take n (take (length typed - taken) (drop taken typed))) ≡ []) ⊎ (n ≡ length (take (length typed - taken) (drop taken typed))) = first.ensures.ends in
-    let sized : (0 < n) × (n ≤ length (take (length typed - taken) (drop taken typed))) × (n ≤ length first.result.0.now + 1) = first.ensures.bytes in
-    let one = rw whole at fed in
-    let ends = rw whole at at_end in
-    let within = rw whole at sized in
-    let rest = next_lines (drop taken typed) first.result.0.now first.result.1 one ends in
-    let past = past_next c.loop-taken.lines taken first.result.1 (length first.result.0.now) (c.is_past.ensures.past c.if-is_past.true) within.2 in
+    let rest = next_lines (drop taken typed) first.result.0.now first.result.1 first.ensures.line first.ensures.ends in
+    let past = past_next c.loop-taken.lines taken first.result.1 (length first.result.0.now)
+    (c.is_past.ensures.past c.if-is_past.true) first.ensures.bytes.2 in
     answers_part c.loop-taken.session c.loop-taken.room typed start _ (c.loop-taken.invariant.so_far start at) c.loop-taken.invariant.ended
     c.loop-taken.invariant.within c.count.ensures.count (first.result.0.now, lines (drop first.result.1 (drop taken typed)), rest, past)
 
 pub returns-in_default-clause-answers : goal.returns-in_default-clause-answers
 returns-in_default-clause-answers c = λ start at.
     let typed = c.args.typed.now in let taken = c.loop-taken.taken in let first = c.first_line-bytes in
-    let n = first.result.1 in
-    let whole : take (length typed - taken) (drop taken typed) ≡ drop taken typed = take_all (length typed - taken) (drop taken typed) (omega (arith, length-drop taken typed)) in
-    let fed : lines (take n (take (length typed - taken) (drop taken typed))) ≡ first.result.0.now ∷ [] = first.ensures.line in
-    let at_end : (unfinished (take n (take (length typed - taken) (drop taken typed))) ≡ []) ⊎ (n ≡ length (take (length typed - taken) (drop taken typed))) = first.ensures.ends in
-    let sized : (0 < n) × (n ≤ length (take (length typed - taken) (drop taken typed))) × (n ≤ length first.result.0.now + 1) = first.ensures.bytes in
-    let one = rw whole at fed in
-    let ends = rw whole at at_end in
-    let within = rw whole at sized in
     let so_far = c.loop-taken.invariant.so_far start at in
     let (kept, same, less) = c.in_default.ensures.fits (script start (take taken typed)).value so_far.leaves in
-    let rest = next_lines (drop taken typed) first.result.0.now first.result.1 one ends in
+    let rest = next_lines (drop taken typed) first.result.0.now first.result.1 first.ensures.line first.ensures.ends in
     let left = same_left c.loop-taken.room c.answer_within.new.room _ same c.answer_within.ensures.same.length less in
     answers_part c.answer_within.new.session c.answer_within.new.room typed start _
     (so_far_same c.loop-taken.session c.answer_within.new.session c.loop-taken.room c.answer_within.new.room start (take taken typed) _ _ so_far kept same)
@@ -56,28 +40,20 @@ returns-in_default-clause-answers c = λ start at.
 pub loop-taken-preserved : goal.loop-taken-preserved
 loop-taken-preserved c =
     let typed = c.args.typed.now in let taken = c.loop-taken.taken in let first = c.first_line-bytes in
-    let n = first.result.1 in
-    let whole : take (length typed - taken) (drop taken typed) ≡ drop taken typed = take_all (length typed - taken) (drop taken typed) (omega (arith, length-drop taken typed)) in
-    let fed : lines (take n (take (length typed - taken) (drop taken typed))) ≡ first.result.0.now ∷ [] = first.ensures.line in
-    let at_end : (unfinished (take n (take (length typed - taken) (drop taken typed))) ≡ []) ⊎ (n ≡ length (take (length typed - taken) (drop taken typed))) = first.ensures.ends in
-    let sized : (0 < n) × (n ≤ length (take (length typed - taken) (drop taken typed))) × (n ≤ length first.result.0.now + 1) = first.ensures.bytes in
-    let one = rw whole at fed in
-    let ends = rw whole at at_end in
-    let within = rw whole at sized in
     let opened = still_open taken (length typed) (unfinished (take taken typed)) c.loop-taken.invariant.ended c.loop-taken-test.true in
     let counted = one_at_most (not c.in-Some.performed) in
     record {
-      within = omega (arith, within.1, length-drop taken typed, c.loop-taken-test.true);
+      within = omega (arith, first.ensures.bytes.1, c.loop-taken-test.true);
       line_limit = omega (arith, c.is_past.ensures.within c.if-is_past.false);
       refused = omega (arith, c.loop-taken.invariant.refused, c.from-refused.ensures, counted);
       same = same_again c.args.room.now c.loop-taken.room c.answer_within.new.room c.loop-taken.invariant.same c.answer_within.ensures.same;
-      ended = ends_after typed taken first.result.1 c.loop-taken.invariant.within opened ends;
+      ended = ends_after typed taken first.result.1 c.loop-taken.invariant.within opened first.ensures.ends;
       so_far = λ start at.
           let so_far = c.loop-taken.invariant.so_far start at in
           rw (take-add taken first.result.1 typed, c.from-refused.ensures)
           (so_far_more c.loop-taken.session c.answer_within.new.session c.loop-taken.room c.answer_within.new.room start (take taken typed)
           (take first.result.1 (drop taken typed)) first.result.0.now c.loop-taken.lines c.loop-taken.refused c.in-Some.performed so_far opened
-          one (c.in-Some.ensures.fits (script start (take taken typed)).value so_far.leaves));
+          first.ensures.line (c.in-Some.ensures.fits (script start (take taken typed)).value so_far.leaves));
     }
 
 pub returns-clause-answers : goal.returns-clause-answers

@@ -1,6 +1,5 @@
 use Rattle.std.proofs.Common.{◌≡◌, ◌-◌, ◌≤◌, ◌⊎◌, [], length, take}
-use Rattle.pp_console.proofs.Continuing.{SoFar}
-use Rattle.pp_console.proofs.Prelude.{IsAt, LINE_LIMIT, Value, rules}
+use Rattle.pp_console.proofs.{Continuing.SoFar, Prelude.IsAt, Prelude.LINE_LIMIT, Prelude.Value, Prelude.rules}
 use Rattle.pp_console.specs.Answering.{IsSameSlice}
 use Rattle.pp_lines.specs.Lines.{unfinished}
 use Rattle.pp_console.proofs.answering.answer_lines.Given as goal

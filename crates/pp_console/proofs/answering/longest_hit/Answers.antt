@@ -1,5 +1,4 @@
-use Rattle.std.proofs.Common.{◌≡◌, ◌+◌, ◌-◌, ◌<◌, ℕ, ◌∷◌, arith, drop, get_or, length, max}
-use Rattle.std.proofs.lemmas.List.{drop_more}
+use Rattle.std.proofs.{Common.◌≡◌, Common.◌+◌, Common.◌-◌, Common.◌<◌, Common.ℕ, Common.arith, Common.length, lemmas.List.drop_more}
 use Rattle.pp_actions.specs.declared.watched.Watched.TheVariants.{Cell}
 use Rattle.pp_console.proofs.answering.longest_hit.Goals as goal
 

@@ -1,5 +1,4 @@
-use Rattle.std.proofs.Common.{arith}
-use Rattle.std.proofs.lemmas.{Bool.Decides.nat_tests, List.nil_from_length}
+use Rattle.std.proofs.{Common.arith, lemmas.Bool.Decides.nat_tests, lemmas.List.nil_from_length}
 use Rattle.pp_console.proofs.Prelude.{err_from_is_err_and}
 use Rattle.pp_console.proofs.Gathered.{Gathers-after, Gathers-longer, Gathers-nothing}
 use Rattle.pp_console.proofs.paper.gather_paper.Goals as goal

@@ -1,10 +1,9 @@
-use Rattle.std.proofs.Common.{◌∷◌, ◌++◌, [], arith}
-use Rattle.std.proofs.lemmas.Bool.Decides.{nat_tests}
+use Rattle.std.proofs.{Common.◌∷◌, Common.◌++◌, Common.[], Common.arith, lemmas.Bool.Decides.nat_tests}
 use Rattle.pp_lines.specs.Lines.{finished, unfinished}
 use Rattle.pp_console.proofs.{Reading.HasRead-finishes, Pieces.Interrupts-lines, Pieces.Interrupts-bytes}
-use Rattle.pp_console.proofs.serving.feed_line.Goals as goal
 use Rattle.pp_console.proofs.serving.feed_line.Goals.{then-progress-eq-LINE_LIMIT-via-then-progress-eq-LINE_LIMIT}
 use Rattle.pp_console.proofs.serving.feed_line.Goals.{then-progress-eq-LINE_LIMIT-via-else-progress-eq-LINE_LIMIT+then-text-room}
+use Rattle.pp_console.proofs.serving.feed_line.Goals as goal
 
 pub returns-then-progress-eq-LINE_LIMIT-clause-has_read : goal.returns-then-progress-eq-LINE_LIMIT-clause-has_read
 returns-then-progress-eq-LINE_LIMIT-clause-has_read g c = λ origin bytes has_read.

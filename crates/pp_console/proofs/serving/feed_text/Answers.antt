@@ -1,9 +1,8 @@
-use Rattle.std.proofs.Common.{◌++◌, [], arith, append-nil}
-use Rattle.std.proofs.lemmas.Bool.Decides.{nat_tests}
+use Rattle.std.proofs.{Common.◌++◌, Common.[], Common.arith, Common.append-nil, lemmas.Bool.Decides.nat_tests}
 use Rattle.pp_console.proofs.{Prelude.LineLimit, Prelude.Interrupts, Pieces.Interrupts-lines, Pieces.Interrupts-bytes}
-use Rattle.pp_console.proofs.serving.feed_text.Goals as goal
 use Rattle.pp_console.proofs.serving.feed_text.Goals.{then-progress-eq-LINE_LIMIT-via-then-progress-eq-LINE_LIMIT}
 use Rattle.pp_console.proofs.serving.feed_text.Goals.{then-progress-eq-LINE_LIMIT-via-else-progress-eq-LINE_LIMIT+then-text-room}
+use Rattle.pp_console.proofs.serving.feed_text.Goals as goal
 
 pub returns-then-progress-eq-LINE_LIMIT-clause-has_read : goal.returns-then-progress-eq-LINE_LIMIT-clause-has_read
 returns-then-progress-eq-LINE_LIMIT-clause-has_read c = λ session written origin bytes has_read.

@@ -1,5 +1,4 @@
-use Rattle.std.proofs.Common.{[], arith, inr, append-nil}
-use Rattle.std.proofs.lemmas.Bool.Decides.{nat_tests}
+use Rattle.std.proofs.{Common.[], Common.arith, Common.inr, Common.append-nil, lemmas.Bool.Decides.nat_tests}
 use Rattle.pp_console.proofs.{Prelude.finished, Prelude.unfinished, Prelude.KEPT, Ending.Serves-ended, Reading.HasRead-within}
 use Rattle.pp_lines.proofs.Limits.{lines-whole, lines-last}
 use Rattle.pp_console.proofs.serving.finish.Goals as goal

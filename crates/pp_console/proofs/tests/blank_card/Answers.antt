@@ -1,5 +1,4 @@
-use Rattle.std.proofs.Common.{ℕ, ◌<◌, lit<}
-use Rattle.std.proofs.lemmas.List.Elements.{All-replicate}
+use Rattle.std.proofs.{Common.ℕ, Common.◌<◌, Common.lit<, lemmas.List.Elements.All-replicate}
 use Rattle.pp_console.proofs.tests.blank_card.Goals as goal
 
 pub returns : goal.returns

@@ -1,5 +1,4 @@
-use Rattle.std.proofs.Common.{◌++◌, ◌+◌, take, drop, rules}
-use Rattle.std.proofs.lemmas.Result.{err_from_is_err_and}
+use Rattle.std.proofs.{Common.◌++◌, Common.◌+◌, Common.take, Common.drop, Common.rules, lemmas.Result.err_from_is_err_and}
 use Rattle.pp_files.proofs.Loads.{FailsAfter-more}
 use Rattle.pp_lines.proofs.Reading.{piece_at, piece_next}
 use Rattle.pp_files.proofs.loading.feed.Goals as goal

@@ -1,5 +1,4 @@
-use Rattle.std.proofs.Common.{◌≡◌, ◌<◌, arith}
-use Rattle.std.proofs.lemmas.{Bool.Decides.nat_tests, Result.err_from_is_err_and}
+use Rattle.std.proofs.{Common.◌≡◌, Common.◌<◌, Common.arith, lemmas.Bool.Decides.nat_tests, lemmas.Result.err_from_is_err_and}
 use Rattle.pp_files.specs.declared.progress.TheConstants.{FILE_LIMIT}
 use Rattle.pp_files.proofs.Loads.{HasReadFile-fault}
 use Rattle.pp_files.proofs.loading.feed_byte.Goals as goal

@@ -1,5 +1,4 @@
-use Rattle.std.proofs.Common.{length, arith, ap}
-use Rattle.std.proofs.lemmas.Bool.Decides.{nat_tests}
+use Rattle.std.proofs.{Common.length, Common.arith, Common.ap, lemmas.Bool.Decides.nat_tests}
 use Rattle.pp_files.proofs.Loads.{file-last}
 use Rattle.pp_files.proofs.loading.finish.Goals as goal
 

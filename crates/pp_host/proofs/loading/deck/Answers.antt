@@ -1,5 +1,4 @@
-use Rattle.std.proofs.Common.{◌≡◌, arith, option_map, Some}
-use Rattle.std.proofs.lemmas.Grind.{common_steps}
+use Rattle.std.proofs.{Common.◌≡◌, Common.arith, Common.option_map, Common.Some, lemmas.Grind.common_steps}
 use Rattle.std.specs.String.{string_bytes}
 use Rattle.pp_files.specs.Files.{card_rule, deck_of_file}
 use Rattle.pp_lines.specs.Device.{all_bytes}

@@ -1,10 +1,7 @@
-use Rattle.std.proofs.Common.{◌≡◌, ◌∙◌, ◌+◌, ◌*◌, ap, arith, length, map, refl, rules, sym, take}
-use Rattle.pp_actions.specs.Watches.{watched_place, watches_of}
-use Rattle.pp_history.specs.Marks.{AreCovered}
+use Rattle.std.proofs.Common.{◌≡◌, ◌∙◌, ◌+◌, ◌*◌, ap, arith, length, refl, rules, sym, take}
 use Rattle.pp_machine.specs.Prelude.{number}
-use Rattle.pp_rig.proofs.TurnRuns.{covered_later, ends_with_hit, ends_without_hit, machine_more, moved_more, places_later, ran_more, ran_none, rows_after}
+use Rattle.pp_rig.proofs.TurnRuns.{ends_with_hit, ends_without_hit, machine_more, moved_more, places_later, ran_more, ran_none, rows_after}
 use Rattle.pp_rig.specs.Columns.{row, rows_of}
-use Rattle.pp_rig.specs.Inner.Marks.{marks_of}
 use Rattle.pp_rig.proofs.columns.look.Goals as goal
 
 pub loop-turns-init : goal.loop-turns-init
@@ -17,15 +14,10 @@ loop-turns-init c = record {
   rows = refl;
 }
 
-pub turn_once-hit-requires : goal.turn_once-hit-requires
-turn_once-hit-requires c =
-    let covered : AreCovered marks_of c.of-marks.result (map watched_place (watches_of c.args.session.now.machine)) = search rules in
-    record { covered = covered_later c.of-marks.result c.loop-turns.turns c.args.session.now c.loop-turns.session c.loop-turns.invariant.ran covered }
-
 pub write_row-requires-clause-has : goal.write_row-requires-clause-has
 write_row-requires-clause-has c =
     let machine = machine_more c.loop-turns.turns c.args.session.now c.loop-turns.session c.turn_once-hit.new.session c.loop-turns.invariant.ran c.turn_once-hit.ensures.machine in
-    rw c.machine-in-loop-turns.ensures.value
+    rw c.machine.ensures.value
     (places_later c.args.places.now (c.loop-turns.turns + 1) c.args.session.now c.turn_once-hit.new.session machine c.requires.has)
 
 pub returns-then-hit-clause-moves : goal.returns-then-hit-clause-moves
@@ -39,14 +31,14 @@ returns-then-hit-clause-stops c =
 pub returns-then-hit-clause-rows : goal.returns-then-hit-clause-rows
 returns-then-hit-clause-rows c =
     let machine = machine_more c.loop-turns.turns c.args.session.now c.loop-turns.session c.turn_once-hit.new.session c.loop-turns.invariant.ran c.turn_once-hit.ensures.machine in
-    rows_after c.loop-turns.turns c.loop-turns.used c.args.session.now.machine c.machine-in-loop-turns.result.now c.args.places.now c.loop-turns.into
-    c.write_row.new.into c.loop-turns.invariant.used c.loop-turns.invariant.rows c.write_row.ensures (c.machine-in-loop-turns.ensures.value ∙ machine)
+    rows_after c.loop-turns.turns c.loop-turns.used c.args.session.now.machine c.machine.result.now c.args.places.now c.loop-turns.into
+    c.write_row.new.into c.loop-turns.invariant.used c.loop-turns.invariant.rows c.write_row.ensures (c.machine.ensures.value ∙ machine)
 
 pub loop-turns-preserved : goal.loop-turns-preserved
 loop-turns-preserved c =
     let machine = machine_more c.loop-turns.turns c.args.session.now c.loop-turns.session c.turn_once-hit.new.session c.loop-turns.invariant.ran c.turn_once-hit.ensures.machine in
-    let rows = rows_after c.loop-turns.turns c.loop-turns.used c.args.session.now.machine c.machine-in-loop-turns.result.now c.args.places.now c.loop-turns.into
-    c.write_row.new.into c.loop-turns.invariant.used c.loop-turns.invariant.rows c.write_row.ensures (c.machine-in-loop-turns.ensures.value ∙ machine) in
+    let rows = rows_after c.loop-turns.turns c.loop-turns.used c.args.session.now.machine c.machine.result.now c.args.places.now c.loop-turns.into
+    c.write_row.new.into c.loop-turns.invariant.used c.loop-turns.invariant.rows c.write_row.ensures (c.machine.ensures.value ∙ machine) in
     let count : c.loop-turns.used + length c.args.places.now ≡ (c.loop-turns.turns + 1) * length c.args.places.now = grind (arith, c.loop-turns.invariant.used) in
     record {
       most = search rules;

@@ -1,12 +1,9 @@
-use Rattle.std.proofs.Common.{◌≡◌, ◌∙◌, ◌+◌, ◌<◌, ◌++◌, ap, arith, length, map, refl, replicate, rules, sym, take}
+use Rattle.std.proofs.Common.{◌≡◌, ◌∙◌, ◌+◌, ◌<◌, ◌++◌, ap, arith, length, refl, replicate, rules, sym, take}
 use Rattle.std.proofs.lemmas.List.{take_more_set}
-use Rattle.pp_actions.specs.Watches.{watched_place, watches_of}
 use Rattle.pp_actions.specs.declared.action.Action.TheVariants.{Turn}
-use Rattle.pp_history.specs.Marks.{AreCovered}
 use Rattle.pp_rig.proofs.Recordings.{moments_more, olds_more}
-use Rattle.pp_rig.proofs.TurnRuns.{covered_later, ends_with_hit, moved_more, ran_more, ran_none}
+use Rattle.pp_rig.proofs.TurnRuns.{ends_with_hit, moved_more, ran_more, ran_none}
 use Rattle.pp_rig.specs.Inner.ActionRecords.{old_values_of}
-use Rattle.pp_rig.specs.Inner.Marks.{marks_of}
 use Rattle.pp_rig.specs.Recording.{moment_of, moments_of, numbered, olds_of}
 use Rattle.pp_rig.specs.Stopping.{turned}
 use Rattle.pp_rig.proofs.recording.record.Goals as goal
@@ -21,11 +18,6 @@ loop-turns-init c = record {
   moments = refl;
   olds = refl;
 }
-
-pub record_turn-hit-requires-clause-covered : goal.record_turn-hit-requires-clause-covered
-record_turn-hit-requires-clause-covered c =
-    let covered : AreCovered marks_of c.of-marks.result (map watched_place (watches_of c.args.session.now.machine)) = search rules in
-    covered_later c.of-marks.result c.loop-turns.turns c.args.session.now c.loop-turns.session c.loop-turns.invariant.ran covered
 
 pub returns-then-hit-clause-moves : goal.returns-then-hit-clause-moves
 returns-then-hit-clause-moves c =

@@ -99,10 +99,13 @@ class LibrarySession {
     return this.view(BigUint64Array, into, count).slice();
   }
 
-  // Makes turns. Returns the status; for each its processor and how many old numbers it has; and these, a place and the number that was there.
-  turns(most, room = 4096, oldRoom = 8 * room) {
+  // Makes turns, or performs actions again. Returns the status; for each its processor, 10 if it is no turn, and how many old numbers it
+  // has; and these, a place and the number that was there.
+  turns = (...rooms) => this.recorded("turns", ...rooms);
+  again = (...rooms) => this.recorded("again", ...rooms);
+  recorded(call, most, room = 4096, oldRoom = 8 * room) {
     const made = this.room("made", 8 * room), olds = this.room("olds", 16 * oldRoom);
-    const status = this.call("turns", checked32(most), made, BigInt(room), olds, BigInt(oldRoom), ...this.outs(2));
+    const status = this.call(call, checked32(most), made, BigInt(room), olds, BigInt(oldRoom), ...this.outs(2));
     const [turns, used] = this.results(2);
     return { status, made: this.view(Uint32Array, made, 2 * turns).slice(), olds: this.view(BigUint64Array, olds, 2 * used).slice() };
   }

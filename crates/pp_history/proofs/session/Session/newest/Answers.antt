@@ -1,12 +1,7 @@
-use Rattle.pp_history.proofs.Names.{◌≡◌, Option, Some, IfSome, IsNone, option_map, List, length, slice_get, ap, arith, halves_in, in_tail, whole_record}
-use Rattle.pp_history.proofs.{Joins.item-at, Steps.newest-step}
+use Rattle.pp_history.proofs.Names.{List, length, slice_get, ap, arith, halves_in, in_tail, whole_record}
+use Rattle.pp_history.proofs.{Joins.handed_out, Joins.item-at, Steps.newest-step}
 use Rattle.std.proofs.lemmas.Option.{IfSome_then}
 use Rattle.pp_history.proofs.session.Session.newest.Goals as goal
-
--- the undo record of an item is handed out
-out : {A R X : Type 0} (f : X → R) (result : Option X) (item : A × R) → option_map f result ≡ Some item.1 →
-    IfSome result (λ back. item.1 ≡ f back) × (IsNone result → ⊥)
-out f result item is = grind arith
 
 pub returns : goal.returns
 returns g c =
@@ -14,7 +9,7 @@ returns g c =
     let log = c.self.inside.log in
     let found = c.get.ensures log.kept (omega (arith, c.if-self-eq0.false)) in
     let at = item-at T.unpacked in_tail 0 (halves_in log).kept log.tails.ring.items c.get.result.now (omega (arith, c.self.invariant.joined.kept.all)) found in
-    let handed = out (whole_record T.unpacked) c.undo_record.result at.item (rw at.is at (c.undo_record.ensures T.unpacked)) in
+    let handed = handed_out (whole_record T.unpacked) c.undo_record.result at.item.1 (rw at.is at (c.undo_record.ensures T.unpacked)) in
     let first = ap (λ (entries : List (_ × _)). slice_get entries 0) at.split in
     rw (← c.self.view_is) (record {
       fits = IfSome_then c.undo_record.result handed.0 (λ back is.

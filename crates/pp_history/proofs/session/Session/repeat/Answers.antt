@@ -1,4 +1,4 @@
-use Rattle.pp_history.proofs.Names.{◌≡◌, ◌+◌, ◌-◌, arith, refl, min, with_item}
+use Rattle.pp_history.proofs.Names.{◌≡◌, ◌+◌, arith, refl, min, with_item}
 use Rattle.pp_history.proofs.{Runs.act_next, Runs.acted, Runs.run_ends, Repeats.repeat_more, Repeats.repeat_none, Repeats.unmarked_more}
 use Rattle.pp_history.proofs.session.Session.repeat.Goals as goal
 

@@ -1,17 +1,16 @@
 -- `with_read` returns a value of size zero whose ghost list is longer by one.
-use Rattle.pp_lines.proofs.Walks.{refl, [], ◌∷◌, ◌++◌, Ura, named, Val, vptr, vstruct, vnil, SProp, emp, via, fst∗, Memory, Routine}
-use Rattle.pp_lines.proofs.Walks.{WpFn, Tables, Logic, Fun, tables, tables_of, WpFn-mono, ‵, raw, ◌$◌, ◌∵◌, !, qed, move, suffices}
-use Rattle.pp_lines.proofs.Walks.{done, no_more, returns, enter, agg, alloc_all, pass_all, free_all, look_at, sets, yes, owns}
-use Rattle.pp_lines.proofs.Walks.{shr_vals, shr_Tells, pure_i, plain, types_at, alive, Meets, triple_of, entered, says}
-use Rattle.pp_lines.proofs.Walks.{stay_none_ref, Stays, ends_at, walked, Goes-none_ref, walk_Meets}
+use Rattle.pp_lines.proofs.Walks.{refl, [], ◌∷◌, Ura, named, Val, vptr, vstruct, vnil, SProp, emp, via, fst∗, Memory, Routine, WpFn}
+use Rattle.pp_lines.proofs.Walks.{Tables, Logic, Fun, tables, tables_of, WpFn-mono, ‵, raw, ◌$◌, ◌∵◌, !, qed, move, suffices, done}
+use Rattle.pp_lines.proofs.Walks.{no_more, returns, enter, agg, alloc_all, pass_all, free_all, look_at, sets, yes, owns, shr_vals}
+use Rattle.pp_lines.proofs.Walks.{shr_Tells, pure_i, plain, types_at, alive, Meets, triple_of, entered, says, stay_none_ref, Stays}
+use Rattle.pp_lines.proofs.Walks.{ends_at, walked, Goes-none_ref, walk_Meets}
 use Rattle.pp_lines.specs.contracts.dialogue_log.DialogueLog.with_read.Key.{name as key}
 use Rattle.pp_lines.specs.contracts.dialogue_log.DialogueLog.with_read as f
 use Rattle.pp_lines.proofs.dialogue_log.DialogueLog.with_read.Statement as stated
 use Rattle.pp_lines.proofs.dialogue_log.DialogueLog.with_read.Code as code
 use Rattle.pp_lines.specs.contracts.dialogue_log.DialogueLog as trail
 use Rattle.pp_lines.specs.contracts.log.Log as moved
-use Rattle.pp_lines.specs.declared.dialogue_log.DialogueLog.{DialogueLog}
-use Rattle.pp_lines.specs.declared.log.Log.{Log}
+use Rattle.pp_lines.specs.{declared.dialogue_log.DialogueLog.DialogueLog, declared.log.Log.Log}
 
 abbrev stayed : Stays (f.ended).signature.params (f.ended).kept
 stayed = (

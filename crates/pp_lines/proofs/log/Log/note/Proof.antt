@@ -5,10 +5,9 @@ use Rattle.pp_lines.proofs.Walks.{qed, move, keep, drop, use1, split, join, fspl
 use Rattle.pp_lines.proofs.Walks.{done, unit_lit, of_opd, returns, enter, alloc_all, pass_all, free_all, look_at, sets, WpFn-mono}
 use Rattle.pp_lines.proofs.Walks.{owns, MutRef, mut_vals, mut_Tells, plain, opens, closes, Meets, triple_of, entered, says, Stays}
 use Rattle.pp_lines.proofs.Walks.{stay_ref, Goes-ref, ends_at, walked, walk_Meets, u8, yes, ShrSlice, slice_val, shr_slice_vals}
-use Rattle.pp_lines.proofs.Walks.{shr_slice_Tells, stay_none_slice, Goes-none_slice, take, stay_none, Goes-none, usize, w64, vint, uint_vals}
-use Rattle.pp_lines.proofs.Walks.{uint_Tells}
-use Rattle.pp_lines.specs.Device.{is_at_end}
-use Rattle.pp_lines.specs.declared.log.Log.{Log}
+use Rattle.pp_lines.proofs.Walks.{shr_slice_Tells, stay_none_slice, Goes-none_slice, take, stay_none, Goes-none, usize, w64, vint}
+use Rattle.pp_lines.proofs.Walks.{uint_vals, uint_Tells}
+use Rattle.pp_lines.specs.{Device.is_at_end, declared.log.Log.Log}
 use Rattle.pp_lines.specs.contracts.log.Log as T
 use Rattle.pp_lines.specs.contracts.log.Log.note.Key.{name as #it}
 use Rattle.pp_lines.specs.contracts.log.Log.note as it

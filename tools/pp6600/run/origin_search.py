@@ -10,7 +10,7 @@ from ..failure import Failure
 from .forms import CELLS, CLOCK, Place, fields
 from .recording import AT_ONCE, Recording, last_part_with
 from .session import Session
-from .tape import STEP
+from .tape import STEP, Position
 from .turn import Processor, Source, Turn, Write, device_put_a_word, places_of_setting
 
 FIRST_SIZE, WIDER, MOST_SIZE = 0o1000, 8, 0o2000000  # turns: those that are looked at, and at most those that are recorded at once
@@ -35,7 +35,7 @@ class Link:
 class Step:
     """A write of a place: what wrote it and when, and the sources."""
 
-    def __init__(self, place: Place, cause: int, position: int = 0, detail: Any = None) -> None:
+    def __init__(self, place: Place, cause: int, position: Position = Position(0), detail: Any = None) -> None:
         """The position is that after the action that wrote it. The detail: of a turn a pair of it and its write; of a SET or a
         DEADSTART a pair of its line and the number of the word, from 1, or None; of the reader a pair of card and column, or None."""
         self.place, self.cause, self.position, self.first_position, self.detail = place, cause, position, position, detail
@@ -66,11 +66,11 @@ class Step:
         return self.write.constants if self.cause == TURN else ()
 
 
-class Search:
+class OriginSearch:
     """Goes backwards from a place to the roots of its number."""
 
     def __init__(self, run: Session, most_steps: Optional[int] = None, with_addresses: bool = False,
-                 progress: Optional[Callable[[int], object]] = None,
+                 progress: Optional[Callable[[Position], object]] = None,
                  is_loaded: Callable[[int, int, str], bool] = lambda number, address, word: True) -> None:
         """After so many steps by processors the sources of a step are searched no more; None: there is no limit. The function
         `progress` is called with each position that is reached. The function `is_loaded` returns whether a word of an instruction may
@@ -81,7 +81,7 @@ class Search:
         self.steps: List[Step] = []
         self.count = 0  # of steps by processors
 
-    def origin(self, place: Place, position: int) -> Step:
+    def origin(self, place: Place, position: Position) -> Step:
         """Returns the step that wrote the number which is at a place at a position."""
         root = Link(None, place)
         if place.kind == "LP":
@@ -94,7 +94,7 @@ class Search:
 
     # ---- what is asked for
 
-    def _ask(self, link: Link, position: int) -> None:
+    def _ask(self, link: Link, position: Position) -> None:
         """Asks for the last write of a link's place before a position."""
         if link.place == CLOCK_PLACE:
             tick = self.tape.last_tick(position)
@@ -114,7 +114,7 @@ class Search:
             return None
         return {part for link in links for part in link.parts or ()}
 
-    def _follow(self, step: Step, parts: Optional[Set[int]], position: int) -> None:
+    def _follow(self, step: Step, parts: Optional[Set[int]], position: Position) -> None:
         """Asks for the sources of a step; of a central word or a word of the frame so many parts are asked for."""
         turn, write = step.turn, step.write
         if turn.processor.phase:
@@ -139,16 +139,16 @@ class Search:
 
     # ---- backwards
 
-    def _go_back(self, position: int) -> None:
+    def _go_back(self, position: Position) -> None:
         size = FIRST_SIZE
         while self.asked and position:
             self.progress(position)
             part = self.tape.run_before(position)
             if self.tape.runs[part].line != STEP:
-                position -= 1
-                self._look_at_line(self.tape.runs[part].line, position + 1)
+                self._look_at_line(self.tape.runs[part].line, position)
+                position = Position(position - 1)
                 continue
-            first = max(self.tape.starts[part], position - size)
+            first = max(self.tape.starts[part], Position(position - size))
             if position - first > MOST_SIZE:
                 written = last_part_with(self.run, first, position, [place_number(*place) for place in self.asked], self.progress)
                 position, size = written, WIDER * size if written == first else AT_ONCE
@@ -158,7 +158,7 @@ class Search:
         for place in list(self.asked):
             self._found(Step(place, START))
 
-    def _look_at_line(self, line: str, position: int) -> None:
+    def _look_at_line(self, line: str, position: Position) -> None:
         """Looks at a SET or a DEADSTART."""
         cause, places = DEADSTART if line.upper().split()[0] == "DEADSTART" else SET, places_of_setting(line)
         for place in self.asked.keys() & places.keys():
@@ -182,7 +182,7 @@ class Search:
             if any(writes.get(place) == at for place in self.asked):
                 self._look_at_turn(recording.turn(at), position)
 
-    def _look_at_device(self, recording: Recording, at: int, place: Place, position: int) -> None:
+    def _look_at_device(self, recording: Recording, at: int, place: Place, position: Position) -> None:
         """Looks whether a device wrote a place in a turn."""
         if place.kind == "LP":
             self._printed(recording, at, place, position)
@@ -194,7 +194,7 @@ class Search:
             read = (recording.number(CARD, at), recording.number(CARD_COLUMN, at)) if has_read else None
             self._found(Step(place, cause, position, read))
 
-    def _printed(self, recording: Recording, at: int, place: Place, position: int) -> None:
+    def _printed(self, recording: Recording, at: int, place: Place, position: Position) -> None:
         """Takes the turn that printed a symbol, which came from the printer's channel."""
         step = Step(place, PAPER, position, place.numbers[0] - recording.number(PAPER_LENGTH, at))
         self._found(step)
@@ -202,7 +202,7 @@ class Search:
         step.links = [link]
         self._ask(link, position)
 
-    def _look_at_turn(self, turn: Turn, position: int) -> None:
+    def _look_at_turn(self, turn: Turn, position: Position) -> None:
         """Looks at a turn: of all that it wrote and is asked for, the sources were read before."""
         written = [(Step(write.place, TURN, position, (turn, write)), write) for write in turn.writes() if write.place in self.asked]
         followed = []
@@ -210,7 +210,7 @@ class Search:
             if not self._is_counted_again(step):
                 followed.append((step, self._found(step)))
         for step, parts in followed:
-            self._follow(step, parts, position - 1)
+            self._follow(step, parts, Position(position - 1))
 
     def _is_counted_again(self, step: Step) -> bool:
         """Joins a step with the one that asks for it if the same instruction has counted the same place before, and asks for the
@@ -235,7 +235,7 @@ class Search:
 
     # ---- the paper, and the numbers
 
-    def _check_symbol(self, index: int, position: int) -> None:
+    def _check_symbol(self, index: int, position: Position) -> None:
         """Sees that the paper has a symbol."""
         self.run.goto(position)
         count = int(fields("LP", self.run.printer()[0])["SYMBOLS"], 8)

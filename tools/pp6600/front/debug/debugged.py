@@ -28,15 +28,6 @@ def next_turn(tape, number, position):
     return next((at for at in range(position, tape.end) if tape.slot(at) == number and next(tape.actions(at)).turns), after)
 
 
-def watch_from(scout, position, places):
-    """Has a scout go to a position, and watch places from there on."""
-    if scout.watched and (scout.watched != places or scout.position < position):
-        scout.unwatch()  # it would stop at each change on the way
-    scout.goto(position)
-    if not scout.watched:
-        scout.watch(places)
-
-
 class Debugged:
     """What a session that is debugged has beside its run: its scouts, the hits of its breakpoints, and its state as it was when it was last
     looked at."""
@@ -99,7 +90,7 @@ class Debugged:
         return min(self.tape.starts[run], position + most)
 
 
-class Machine(Debugged, Session):
+class MachineWithoutDevices(Debugged, Session):
     """A session without devices."""
 
     def add_turns(self, most):
@@ -161,10 +152,8 @@ class MachineWithDevices(Debugged, Attached):
 
     def add_turns(self, most):
         """Makes new turns at the end of the tape, at most so many."""
-        here = self.position
-        self.goto(self.tape.end)
-        self.act(f"STEP {min(most, MADE_AT_ONCE):o}")
-        self.goto(here)
+        with self.at(self.tape.end):
+            self.act(f"STEP {min(most, MADE_AT_ONCE):o}")
 
     def next_turn(self, number):
         while self.tape.turns - self.turn < PROCESSORS:
