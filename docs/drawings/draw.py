@@ -193,6 +193,7 @@ PLACES = {
     "pp_assembler": (790, "a source to words"),
     "pp_program": (560, "the program over a host"),
     "pp_console": (560, "answers to a script"),
+    "pp_loading": (350, "lines that load a program"),
     "pp_host": (770, "words and files"),
     "pp_command": (490, "what a line asks for"),
     "pp_trouble": (690, "what ends a run early"),

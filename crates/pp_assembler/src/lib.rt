@@ -1,10 +1,13 @@
 //! The language of PP programs, as docs/ASSEMBLER.md has it: a source to words.
 #![tactic(auto)]
 
+mod cells;
 mod digits;
 mod directives;
+mod disassembly;
 mod encoding;
 mod fields;
+mod flow;
 mod instructions;
 mod lines;
 mod listing;
@@ -17,6 +20,8 @@ mod passes;
 mod performing;
 mod places;
 mod program;
+mod source_text;
+mod statement;
 mod symbols;
 #[cfg(test)]
 mod tests;
@@ -24,10 +29,14 @@ mod texts;
 mod values;
 mod wording;
 
+pub use cells::are_cells;
+pub use disassembly::disassemble;
 pub use instructions::{Form, code_of, form_of, name_of, size_of};
 pub use listing::listing_lines;
 pub use message::{Fault, Field, Message};
 pub use pass::Row;
 pub use passes::assemble;
 pub use program::{Assembly, Cell, Program};
+pub use source_text::write_source;
+pub use statement::{Kind, Name, Operand, Operation, Statement};
 pub use wording::message_text;
