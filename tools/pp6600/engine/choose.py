@@ -8,11 +8,10 @@ import sys
 from typing import Optional, Sequence
 
 from ..failure import Failure
-from .choice import HOME, THIS_IS, machine_here
+from .choice import HOME, LIBRARIES, THIS_IS, machine_here
 from .interface import Engine
 
 PLAIN = "plain"  # names the simulator in plain Python
-LIBRARIES = {"x86_64": "libpp6600.so", "aarch64": "libpp6600-aarch64.so", "windows": "pp6600.dll"}  # for each machine
 SUFFIXES = (".so", ".dll", ".dylib")
 
 
@@ -43,7 +42,7 @@ def library_named(name: str) -> Optional[str]:
     is_own = os.path.join(folder, program) == os.path.join(HOME, "pp6600")
     if program.startswith("pp6600-python"):
         return None
-    library = LIBRARIES.get(machine_here(), "")
+    library = next(iter(LIBRARIES.get(machine_here(), ())), "")
     if not is_own and not os.path.exists(name):
         raise Failure(f"{name} is not the simulator: there is no {library or 'library'} beside it")
     led_to = os.path.dirname(os.path.realpath(name))  # by links
