@@ -1,7 +1,9 @@
 //! Assembles the sources of standard input, each ended by a line `----`, and writes what each one makes.
 #![tactic(auto)]
 
-use pp_assembler::{Assembly, Message, assemble, listing_lines, message_text};
+use pp_assembler::{
+    Assembly, Message, assemble, disassemble, listing_lines, message_text, write_source,
+};
 use std::alloc::{AllocError, Global};
 use std::io;
 use std::io::{Read, Write};
@@ -10,7 +12,12 @@ use std::io::{Read, Write};
 const END: &[u8; 5] = b"----\n";
 
 /// Writes the messages of a source, each with its line and column.
-fn put_messages(alloc: Global, out: &mut Vec<u8>, made: &Assembly, messages: &[Message]) -> Result<(), AllocError> {
+fn put_messages(
+    alloc: Global,
+    out: &mut Vec<u8>,
+    made: &Assembly,
+    messages: &[Message],
+) -> Result<(), AllocError> {
     for message in messages {
         let line = message.line;
         let column = message.column;
@@ -39,6 +46,17 @@ fn put_program(alloc: Global, out: &mut Vec<u8>, made: &Assembly) -> Result<(), 
     Ok(())
 }
 
+/// Writes a source that assembles to the words of a program. Its code is what a processor reaches from the start.
+fn put_source(alloc: Global, out: &mut Vec<u8>, made: &Assembly) -> Result<(), AllocError> {
+    let cells = made.program.cells();
+    let statements = match made.program.start() {
+        Some(start) => disassemble(alloc, cells, &[start])?,
+        None => disassemble(alloc, cells, &[])?,
+    };
+    let source = write_source(alloc, statements.as_slice())?;
+    out.extend_from_slice(source.as_slice())
+}
+
 /// Writes what a source makes.
 fn put(alloc: Global, out: &mut Vec<u8>, source: &[u8]) -> Result<(), AllocError> {
     let made = assemble(alloc, source)?;
@@ -48,6 +66,9 @@ fn put(alloc: Global, out: &mut Vec<u8>, source: &[u8]) -> Result<(), AllocError
     for row in &made.rows {
         let lines = listing_lines(alloc, &made, row)?;
         out.extend_from_slice(lines.as_slice())?;
+    }
+    if made.messages.is_empty() {
+        put_source(alloc, out, &made)?;
     }
     out.extend_from_slice(END.as_slice())
 }
