@@ -9,7 +9,7 @@ import unittest
 
 from tests.browser import found
 from tests.installing import InstallCase, alone
-from tests.support import TOOLS, TOP, names_of_codes, program, read
+from tests.support import TOOLS, TOP, lasting_room, names_of_codes, program, read, tool
 
 LINES = "| Line | What it does | Answer |"
 
@@ -37,19 +37,15 @@ class ManualPages(InstallCase):
         super().setUpClass()
         if not shutil.which("man"):
             raise unittest.SkipTest("there is no man here")
-
-    def setUp(self):
-        self.assertEqual(("", "", 0), alone(os.path.join(TOP, "share", "manual"), self.folder))
-
-    def shown(self, name):
-        """Returns a page as man shows it."""
-        env = {"MANWIDTH": "500", "LC_ALL": "C.UTF-8", "MAN_KEEP_FORMATTING": ""}
-        done = alone("man", "--warnings", "-l", self.path(f"{name}.1"), env=env)
-        self.assertEqual(("", 0), done[1:])
-        return re.sub(".\b", "", done.out)
+        folder = lasting_room()
+        cls.made = alone(os.path.join(TOP, "share", "manual"), folder)
+        paths, env = sorted(glob.glob(os.path.join(folder, "*.1"))), {"MANWIDTH": "500", "LC_ALL": "C.UTF-8", "MAN_KEEP_FORMATTING": ""}
+        cls.done = alone("man", "--warnings", "-l", *paths, env=env)
+        _, *parts = re.split(r"^(\S+)\(1\) +User Commands +\1\(1\)$", re.sub(".\b", "", cls.done.out), flags=re.M)
+        cls.shown = dict(zip(map(str.lower, parts[::2]), parts[1::2]))  # each page as man shows it
 
     def test_of_the_program(self):
-        page = self.shown("pp6600")
+        page = self.shown["pp6600"]
         plain = " ".join(page.split())
         for head in ("| Answer | Cause |", "| Text | Status | Cause |", LINES, "| Word | Meaning | Without it |"):
             for first, *_ in rows("CONSOLE.md", head):
@@ -66,7 +62,7 @@ class ManualPages(InstallCase):
                 self.assertIn(f"pp6600-{name}\n", page)
 
     def test_session(self):
-        page = self.shown("pp6600")
+        page = self.shown["pp6600"]
         lines = [line.strip() for line in page[page.index("EXAMPLE\n"):page.index("TOOLS\n")].splitlines()]
         lines = [line for line in lines[next(at for at, line in enumerate(lines) if line.startswith("> ")):] if line]
         script = "".join(f"{line[2:]}\n" for line in lines if line.startswith("> "))
@@ -74,12 +70,11 @@ class ManualPages(InstallCase):
         self.assertEqual(answers, alone(program(), script=script).out)
 
     def test_of_each_tool(self):
-        pages = sorted(os.path.basename(path) for path in glob.glob(self.path("*.1")))
-        self.assertEqual(sorted(["pp6600.1", "pp6600-python.1", *(f"pp6600-{name}.1" for name in TOOLS)]), pages)
+        self.assertEqual((("", "", 0), ("", 0)), (self.made, self.done[1:]))
+        self.assertEqual({"pp6600", "pp6600-python", *(f"pp6600-{name}" for name in TOOLS)}, set(self.shown))
         for name in TOOLS:
             with self.subTest(name):
-                options = options_in(alone(os.path.join(TOP, "tools", name), "--help").out)
-                page = self.shown(f"pp6600-{name}")
+                options, page = options_in(tool(name, "--help").out), self.shown[f"pp6600-{name}"]
                 self.assertEqual(set(), options - options_in(page))
                 line = re.search(r"^NAME\n +(.*)$", page, flags=re.M)[1]
                 self.assertRegex(line, rf"^pp6600-{name} - [a-z][^.:()]*$")
