@@ -1,7 +1,9 @@
 //! Assembles the sources of standard input, each ended by a line `----`, and writes what each one makes.
 #![tactic(auto)]
 
-use pp_assembler::{assemble, complaints_text, listing_text, words_text};
+use pp_assembler::{
+    Assembly, assemble, complaints_text, disassemble, listing_text, words_text, write_source,
+};
 use std::alloc::{AllocError, Global};
 use std::io;
 use std::io::{Read, Write};
@@ -9,12 +11,26 @@ use std::io::{Read, Write};
 /// The line after a source, and after what it makes.
 const END: &[u8; 5] = b"----\n";
 
+/// Writes a source that assembles to the words of a program. Its code is what a processor reaches from the start.
+fn put_source(alloc: Global, out: &mut Vec<u8>, made: &Assembly) -> Result<(), AllocError> {
+    let cells = made.program.cells();
+    let statements = match made.program.start() {
+        Some(start) => disassemble(alloc, cells, &[start])?,
+        None => disassemble(alloc, cells, &[])?,
+    };
+    let source = write_source(alloc, statements.as_slice())?;
+    out.extend_from_slice(source.as_slice())
+}
+
 /// Writes what a source makes.
 fn put(alloc: Global, out: &mut Vec<u8>, source: &[u8]) -> Result<(), AllocError> {
     let made = assemble(alloc, source)?;
     out.extend_from_slice(complaints_text(alloc, &made)?.as_slice())?;
     out.extend_from_slice(words_text(alloc, &made)?.as_slice())?;
     out.extend_from_slice(listing_text(alloc, &made)?.as_slice())?;
+    if made.messages.is_empty() {
+        put_source(alloc, out, &made)?;
+    }
     out.extend_from_slice(END.as_slice())
 }
 
