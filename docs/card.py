@@ -65,8 +65,9 @@ def facts():
     """Returns the list below the table of lines, and the places."""
     below = text_of("CONSOLE.md").split(LINES, 1)[1].split("\n\n", 2)[1]
     items = [item for item in re.split(r"^(?=- )", below, flags=re.M) if item and "leading zeros" not in item]
-    places = "; ".join(f"{first} {number}" for first, number, _ in rows("CONSOLE.md", "| Place | The number |"))
-    return without_links("".join(items).rstrip("\n")) + (f"\n- Places: {places}.\n- Tools, by their questions in [TOOLS](TOOLS.md): {tools()}.")
+    places = ", ".join(f"{first} ({number})" for first, number, _ in rows("CONSOLE.md", "| Place | The number |"))
+    said = re.sub(r"\*(\w+)\*", r"\1", without_links("".join(items))).rstrip("\n")
+    return f"{said}\n- Places: {places}.\n- Tools, by their questions in [TOOLS](TOOLS.md): {tools()}."
 
 
 def tools():

@@ -122,7 +122,7 @@ def answer(lines: Sequence[str]) -> str:
 
 def answer_lines(program: Program) -> Iterator[str]:
     yield from (f"{line}:{column}: {text}" for line, column, text in (*program.messages, *program.warnings))
-    yield from (f"{address:04o} {cell.word:04o} {cell.line}" for address, cell in sorted(program.cells.items()))
+    yield from (f"{address:04o} {cell.word:04o}" for address, cell in sorted(program.cells.items()))
     if program.start is not None:
         yield f"P {program.start:04o}"
     yield from listing(program)

@@ -101,7 +101,7 @@ class Machines(LibraryCase):
             session, kinds = self.open(history=500, central=32768), (BUSY, WATCHING)
             session.answer("\n".join(Maker(seed, kinds[seed % 2]).script()).encode())
             moments = []
-            for line, places in ((b"SET A 3 1", [40963]), (b"SET M 2 7777 1 2", [8192 + 4095, 8192]), (b"SET CM 5 6", [106592 + 5])):
+            for line, places in ((b"SET A 3 1", [40963]), (b"SET M 2 7777 1 2", [8192 + 4095, 8192]), (b"SET C 5 6", [106592 + 5])):
                 moments += session.turns(20 + seed)[0]
                 olds = [(place, session.numbers(place, 1)[0]) for place in places]
                 self.assertEqual(session.answer(line + b"\n").refused, 0)
@@ -111,7 +111,8 @@ class Machines(LibraryCase):
                 self.assertTrue(session.back(len(moments)))
                 self.assertIsNone(session.again(len(moments) + 1))
                 self.assertEqual(session.counts().ahead, len(moments))
-                self.assertEqual(session.again(15) + session.again(0) + session.again(len(moments) - 15), moments)
+                half = len(moments) // 2
+                self.assertEqual(session.again(half) + session.again(0) + session.again(len(moments) - half), moments)
                 self.assertEqual((session.numbers(0, PLACES), session.counts()), (after, counts))
             session.close()
 

@@ -1,2 +1,5 @@
+pub mod Continuing
+pub mod Distances
 pub mod LineLengths
 pub mod Programs
+pub mod RowCells

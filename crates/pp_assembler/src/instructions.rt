@@ -1,5 +1,6 @@
 //! The names of the 64 (decimal) instructions, and what each has as operand.
 ghost use Rattle.std.specs.Prelude.{◌≡◌, ◌<◌, ◌≤◌, IfSome};
+ghost use Rattle.pp_assembler.specs.Forms.{form};
 
 /// What an instruction has as operand.
 #[derive(Clone, Copy, Debug, PartialEq, Eq)]
@@ -52,7 +53,9 @@ pub fn code_of(name: &[u8]) -> Option<u8>
 }
 
 /// Returns what the instruction with a code, up to octal 77, has as operand.
-pub fn form_of(code: u8) -> Form {
+pub fn form_of(code: u8) -> Form
+    ensures { result ≡ form code }
+{
     match code {
         0o00 | 0o24..=0o27 => Form::Alone,
         0o03..=0o07 => Form::Target,

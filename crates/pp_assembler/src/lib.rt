@@ -1,10 +1,14 @@
 //! The language of PP programs, as docs/ASSEMBLER.md has it: a source to words.
 #![tactic(auto)]
 
+mod cells;
 mod digits;
 mod directives;
+mod disassembly;
 mod encoding;
 mod fields;
+mod flow;
+mod forms;
 mod instructions;
 mod lines;
 mod listing;
@@ -17,6 +21,8 @@ mod passes;
 mod performing;
 mod places;
 mod program;
+mod source_text;
+mod statement;
 mod symbols;
 #[cfg(test)]
 mod tests;
@@ -24,10 +30,14 @@ mod texts;
 mod values;
 mod wording;
 
+pub use cells::are_cells;
+pub use disassembly::disassemble;
+pub use forms::{complaints_text, listing_text, words_text};
 pub use instructions::{Form, code_of, form_of, name_of, size_of};
-pub use listing::listing_lines;
 pub use message::{Fault, Field, Message};
 pub use pass::Row;
 pub use passes::assemble;
 pub use program::{Assembly, Cell, Program};
+pub use source_text::write_source;
+pub use statement::{Kind, Name, Operand, Operation, Statement};
 pub use wording::message_text;

@@ -5,7 +5,8 @@ use crate::message::{Fault, Stop};
 pub const LONGEST: usize = 72;
 
 /// The symbols of display code, in the order of their codes.
-static SYMBOLS: &[u8; 64] = b":ABCDEFGHIJKLMNOPQRSTUVWXYZ0123456789+-*/()$= ,.#[]%\"_!&'?<>@\\^;";
+pub static SYMBOLS: &[u8; 64] =
+    b":ABCDEFGHIJKLMNOPQRSTUVWXYZ0123456789+-*/()$= ,.#[]%\"_!&'?<>@\\^;";
 
 /// The display code of a blank.
 const BLANK: u8 = 0o55;

@@ -115,9 +115,9 @@ class Session(Console):
             self._go_anew(position)
         else:
             count = min(position - self.position, self.history.ahead)
-            if count and not self.is_search:
-                self.written.append(f"{'BACK' if count < 0 else 'FORWARD'} {abs(count):o}")
-            self.move(count)
+            if count:
+                self.move(count)
+                self.written += [] if self.is_search else [f"{'BACK' if count < 0 else 'FORWARD'} {abs(count):o}"]
             self._play(position)
 
     @contextlib.contextmanager

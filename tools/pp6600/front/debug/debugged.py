@@ -28,15 +28,6 @@ def next_turn(tape, number, position):
     return next((at for at in range(position, tape.end) if tape.slot(at) == number and next(tape.actions(at)).turns), after)
 
 
-def watch_from(scout, position, places):
-    """Has a scout go to a position, and watch places from there on."""
-    if scout.watched and (scout.watched != places or scout.position < position):
-        scout.unwatch()  # it would stop at each change on the way
-    scout.goto(position)
-    if not scout.watched:
-        scout.watch(places)
-
-
 class Debugged:
     """What a session that is debugged has beside its run: its scouts, the hits of its breakpoints, and its state as it was when it was last
     looked at."""

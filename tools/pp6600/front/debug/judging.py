@@ -23,15 +23,14 @@ class Met(NamedTuple):
 class Judge:
     """Judges the stops of a search."""
 
-    def __init__(self, machine, points, own, places):
-        """The user watches places of their `own`. The places are all that are watched, in their order."""
+    def __init__(self, machine, points, own):
+        """The user watches places of their `own`."""
         self.scout = machine.scout("looks") if points else None
-        self.tape, self.points, self.own, self.places = machine.tape, points, own, places
+        self.tape, self.points, self.own = machine.tape, points, own
         self.by_cell = {}
         for point in points:
             for cell in point.cells:
                 self.by_cell.setdefault(cell, []).append(point)
-        self.has_terms = any(point.places and (point.terms.condition or point.terms.hits) for point in points)
 
     def arrived(self, stops):
         """Yields those stops at cells that are for a breakpoint, or due without one."""
@@ -83,29 +82,9 @@ class Judge:
         test.begin(self.scout)
         return bool(test.verdicts(Looks(self.scout, test.places, 1))[-1])
 
-    # ---- data breakpoints
-
     def changed(self, stops):
-        """Yields the stops at changes that are for a data breakpoint or a place of the user. If some have terms, each change is looked
-        at, and not only the first one of an action."""
-        for stop in self.all_changes(stops) if self.has_terms else stops:
-            points = [point for point in self.points if stop.place in point.places]
-            met = tuple(Met(point) for point in points if self.holds(point, stop.position))
+        """Yields the stops at changes that are for a data breakpoint or a place of the user."""
+        for stop in stops:
+            met = tuple(Met(point) for point in self.points if stop.place in point.places and self.holds(point, stop.position))
             if met or stop.place in self.own:
                 yield stop._replace(met=met, is_due=stop.place in self.own)
-
-    def all_changes(self, stops):
-        """Yields a stop for each change of an action, of one stop for it."""
-        last = None
-        for stop in stops:
-            if stop.position == last:
-                continue
-            last = stop.position
-            for place, was, now in zip(self.places, *map(self.numbers_at, (last - 1, last))):
-                if was != now:
-                    yield stop._replace(place=place, was=was, now=now)
-
-    def numbers_at(self, position):
-        """Returns the digits at all watched places at a position."""
-        with self.scout.at(position) as scout:
-            return list(map(scout.number_at, self.places))

@@ -3,19 +3,20 @@
 A position is the machine between two actions. At it a processor has come to a breakpoint if its turn is next, its P is there, it
 is in no block transfer, and before its latest turn it was elsewhere. So a processor that waits comes there once. A position after a
 setting, at which the same processor is where it was before that, is not another one. A place changes by a turn or by a setting:
-the stop is after that. Arrivals are polled: once in each round of the barrel a scout looks where the processors are. Changes by
-turns are seen by the watches of other scouts; what settings and few turns do is seen by a look after each."""
+the stop is after that. Scouts look where the processors are, and at the places, after each of many turns at once; what settings do is
+seen by a look after each."""
 
 import heapq
-from itertools import chain, starmap
+from itertools import chain
 from typing import FrozenSet, NamedTuple, Optional, Tuple
 
 from ...engine import interface as flat
-from ...run.forms import CELLS, MOST_TURNS, MOST_WATCHES, PROCESSORS, Place
+from ...engine.interface import place_number
+from ...run.forms import CELLS, MOST_TURNS, PROCESSORS, Place
 from ...run.search import Looks
 from .breakpoints import Point
 from .judging import Judge, Met
-from .debugged import NEAR, latest_turn, watch_from
+from .debugged import latest_turn
 
 POLLED = 0o5000  # turns at once
 
@@ -78,27 +79,23 @@ class StopSearch:
         """The function `meanwhile` is called with the position from which a scout makes turns, while it does."""
         self.machine, self.tape, self.wanted, self.meanwhile = machine, machine.tape, wanted, meanwhile
         self.targets, self.places, self.aim = wanted.targets(), wanted.places(), wanted.aim
-        # Turns between two requests of a client. A scout that watches keeps them, if a breakpoint is found among them after that.
+        # Turns between two requests of a client.
         self.at_once = (3 if self.places else 20) * POLLED if self.targets else MOST_TURNS if self.places else 2 * MOST_TURNS
-        self.scout = machine.scout("looks") if self.targets or self.places else None  # those that watch have numbers
+        self.scout = machine.scout("looks") if self.targets or self.places else None
         self.at = {number: {where_of(target) for target in self.targets[number]} for number in sorted(self.targets)}
         self.addresses = {number: {p for p, _ in self.at[number]} for number in self.at}
         self.aims = {where_of(target) for target in self.aim.targets} if self.aim else set()
         has_entry = self.aim and self.aim.entry is not None
         self.entry = flat.CELLS + CELLS * self.aim.number + self.aim.entry if has_entry else None
         self.looked = [*(flat.P + number for number in self.at), *([self.entry] if has_entry else [])]
-        self.judge = Judge(machine, wanted.points, wanted.own, self.places)
+        self.judge = Judge(machine, wanted.points, wanted.own)
 
     def stops(self, first, last):
         """Yields the stops after a position, up to a later one, in their order. The actions between are of one kind."""
         action = next(self.tape.actions(first, last))
         if action.turns:
-            groups = [self.places[at:at + MOST_WATCHES] for at in range(0, len(self.places), MOST_WATCHES)]
-            changes = [self.changes(name, group, first, last) for name, group in enumerate(groups)]
-            if self.places and last - first <= NEAR:
-                changes = [chain.from_iterable(starmap(self.changes_between, self.rows(first, last)))]
             arrivals = (stop for stop in self.arrivals(first, last) if stop.position > first)
-            changes = self.judge.changed(heapq.merge(*changes, key=lambda stop: stop.position))
+            changes = self.judge.changed(self.changes(first, last)) if self.places else ()
             yield from heapq.merge(changes, arrivals, key=lambda stop: (stop.position, not stop.place))
         elif not action.is_watch and (self.targets or self.places):
             yield from self.looks_at_settings(first, last)
@@ -173,16 +170,27 @@ class StopSearch:
         self.scout.goto(at)
         return self.where(number)
 
-    def changes(self, name, places, first, last):
-        """Yields the changes of places after a position, up to a later one, with turns alone between, by a scout's watches."""
-        scout = self.machine.scout(name)
-        watch_from(scout, first, [place.short for place in places])
+    def changes(self, first, last):
+        """Yields the changes of places after a position, up to a later one, with turns alone between."""
+        scout, flat_places = self.machine.scout("changes"), [place_number(*place) for place in self.places]
+        scout.goto(first)
+        self.meanwhile(first)
+        before = [scout.engine.numbers(place, 1)[0] for place in flat_places]
         while scout.position < last:
-            made, *hit = scout.demand(f"STEP {min(last - scout.position, MOST_TURNS):o}")
-            self.meanwhile(first)
-            scout.history.performed(int(made.split()[1], 8))
-            if hit:
-                yield change(self.tape, scout.position, hit[0])
+            looks = Looks(scout, flat_places, min(last - scout.position, scout.history.room))
+            here, found = scout.position, []
+            for order, (place, was) in enumerate(zip(flat_places, before)):
+                values = looks.columns[place]
+                if values.count(was) < len(values):
+                    found += [(at, order, *pair) for at, pair in enumerate(zip(chain((was,), values), values)) if pair[0] != pair[1]]
+                before[order] = values[-1]
+            for at, order, *pair in sorted(found):
+                yield self.changed_at(looks.position(at + 1), self.places[order], *pair)
+            scout.goto(here)
+
+    def changed_at(self, position, place, was, now):
+        """Returns the stop at a position after the change of a place."""
+        return Stop(position, self.tape.slot(position - 1), None, place, *(f"{number:0{place.digits}o}" for number in (was, now)))
 
     def looks_at_settings(self, first, last):
         """Yields the changes and the arrivals after a position, up to a later one, with settings alone between."""
@@ -193,9 +201,8 @@ class StopSearch:
                 yield from filter(None, [self.stop_at(at + 1)])
 
     def changes_between(self, at, was, now):
-        """Yields the first change of the action after a position."""
-        changed = [one for one in zip(self.places, was[1:], now[1:]) if one[1] != one[2]]
-        yield from (Stop(at + 1, self.tape.slot(at), None, *one) for one in changed[:1])
+        """Yields the changes of the action after a position."""
+        yield from (self.changed_at(at + 1, *one) for one in zip(self.places, was[1:], now[1:]) if one[1] != one[2])
 
     def rows(self, first, last):
         """Yields each position from the first one up to before the last one, with what is seen there and after the next action: P and
@@ -205,7 +212,7 @@ class StopSearch:
 
     def row(self, position):
         self.scout.goto(position)
-        return self.where(self.tape.slot(position)), *map(self.scout.number_at, self.places)
+        return self.where(self.tape.slot(position)), *(self.scout.engine.numbers(place_number(*place), 1)[0] for place in self.places)
 
 
 def change(tape, position, hit):
