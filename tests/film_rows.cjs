@@ -13,9 +13,9 @@ const code = `${scripts.map((name) => fs.readFileSync(path.join(folder, `${name}
 const page = vm.runInContext(code, vm.createContext({ WebAssembly, TextDecoder, TextEncoder, performance, console }));
 
 function changesOf(film, moment) {
-  const { layout } = page, isUpper = (place) => place >= layout.high && place < layout.issued;
+  const { layout } = page, isUpper = (place) => place >= layout.high && place < layout.deck;
   const words = (place) => (isUpper(place) ? (place - layout.high < 16 ? layout.frame + place - layout.high : place - 16 - layout.size) : place);
-  const places = [...new Set([...film.places.subarray(film.starts[moment], film.starts[moment + 1])].filter((place) => place < layout.issued).map(words))];
+  const places = [...new Set([...film.places.subarray(film.starts[moment], film.starts[moment + 1])].filter((place) => place < layout.deck).map(words))];
   const number = (place, row) => {
     const low = page.numberIn(moment, place, row);
     if ((place < layout.frame || place >= layout.reader) && place < layout.central) return String(low);

@@ -156,7 +156,7 @@ class Barrel(PageCase):
         got = self.value(PICTURE)
         self.assertEqual((["00", "IAM", "0106"], [[0o12, "←0027"]], [0o12, "H 12", "0030"]),
                          (got["circles"][0], got["word"], got["channels"][0]))
-        self.assertEqual(["PP 00 IAM 12", "in its block", "M 00 0106", "7512 → 0027"], got["middle"])
+        self.assertEqual(["PP 00 IAM 12 in its block", "A 000050 Q 0000", "M 00 0106", "7512 → 0027"], got["middle"])
         self.assertEqual(["card reader"], self.value("[...document.querySelectorAll('#barrel text.acted')].map((one) => one.textContent)"))
 
     def test_it_folds(self):

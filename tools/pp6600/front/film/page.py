@@ -10,7 +10,7 @@ import os
 import re
 import shlex
 import zlib
-from typing import Any, Dict, List, Mapping, NamedTuple, Optional, Sequence
+from typing import Any, Dict, Mapping, NamedTuple, Optional
 
 from ...engine.choice import HOME
 from ...failure import Failure
@@ -20,19 +20,18 @@ from ...language.sources import Source, words_of
 from ...language.source.statements import TAB
 from ...run import sentences
 from ...run.turn import (
-    AT_END_OF_BLOCK, AT_END_OF_INPUT, IN_BLOCK, INSTRUCTIONS, NAMES, RELATIVE_JUMPS, STATE_LETTERS, TWO_WORDS, WAITS_FOR, Effect,
-    Instruction)
+    AT_END_OF_BLOCK, AT_END_OF_INPUT, IN_BLOCK, INSTRUCTIONS, NAMES, RELATIVE_JUMPS, STATE_LETTERS, TWO_WORDS, WAITS_FOR)
 from ...shell.installation import PAGE_MODULE
 from ...shell.options import OPTIONS
 from ...shell.text_files import bytes_of
 from ..keys import for_page
 
 WEB = os.path.join(os.path.dirname(os.path.abspath(__file__)), "web")
-# The scripts, in the order in which they are joined: those of the page and of its worker, those of the worker, those of the page.
-SHARED = ("layout", "turns")
-ENGINE = ("library", "simulator", "recorder", "conditions", "session", "worker")
-VIEW = ("rows", "places", "engine", "machine", "program", "lines", "source", "pictures", "origin",
-        "lanes", "barrel", "exercises", "editing", "console", "keys", "controls")
+# The scripts, in the order in which they are joined: of the page and its worker, of the worker, of the page.
+SCRIPTS = {"shared": ("layout", "turns"),
+           "engine": ("library", "simulator", "recorder", "conditions", "session", "worker"),
+           "view": ("rows", "places", "engine", "machine", "program", "lines", "source", "pictures", "origin",
+                    "lanes", "barrel", "exercises", "editing", "console", "keys", "controls")}
 MODES = {"reader": ("IDLE", "READING", "STATUS", "SENT"), "printer": ("IDLE", "PRINTING", "STATUS", "SENT")}
 
 
@@ -46,21 +45,15 @@ class Files(NamedTuple):
 
 def page(title: str, module: bytes, about: Dict[str, Any]) -> str:
     """Returns the page; `module` is the simulator, and `about` what the page has to know, as JSON takes it."""
-    data = json.dumps(about, separators=(",", ":")).encode("ascii")
-    parts = {"<!--title-->": html.escape(title), "/*--style--*/": web("page.css"), "<!--film-->": packed(data),
-             "<!--simulator-->": packed(module), "/*--shared--*/": joined(SHARED), "/*--engine--*/": joined(ENGINE),
-             "/*--view--*/": joined(VIEW)}
-    marks = "|".join(map(re.escape, parts))
-    return re.sub(marks, lambda mark: parts[mark[0]], web("page.html")) + "\n"
+    parts = {"<!--title-->": html.escape(title), "/*--style--*/": web("page.css"), "<!--simulator-->": packed(module),
+             "<!--film-->": packed(json.dumps(about, separators=(",", ":")).encode("ascii")),
+             **{f"/*--{name}--*/": "\n\n".join(web(f"{one}.js") for one in names) for name, names in SCRIPTS.items()}}
+    return re.sub("|".join(map(re.escape, parts)), lambda mark: parts[mark[0]], web("page.html")) + "\n"
 
 
 def web(name: str) -> str:
     with open(os.path.join(WEB, name), encoding="utf-8") as file:
         return file.read().rstrip()
-
-
-def joined(names: Sequence[str]) -> str:
-    return "\n\n".join(web(f"{name}.js") for name in names)
 
 
 def packed(data: bytes) -> str:
@@ -74,8 +67,8 @@ def tables() -> Dict[str, Any]:
     """Returns what it has to know of every machine: the one table of instructions, and the sentences about turns."""
     return {"names": NAMES, "two_words": TWO_WORDS, "relative_jumps": list(RELATIVE_JUMPS), "symbols": SYMBOLS, "modes": MODES,
             "states": [(letter, name) for name, letter in STATE_LETTERS.items()], "waits_for": WAITS_FOR,
-            "meanings": meanings(), "keys": for_page(), "table": [instruction(one) for one in INSTRUCTIONS], "blocks": {code: instruction(one) for code, one in IN_BLOCK.items()},
-            "ends": {"block": effects(AT_END_OF_BLOCK), "input": effects(AT_END_OF_INPUT)},
+            "table": INSTRUCTIONS, "blocks": IN_BLOCK, "ends": {"block": AT_END_OF_BLOCK, "input": AT_END_OF_INPUT},
+            "meanings": meanings(), "keys": for_page(),
             "sentences": {"of": {code.rjust(2, "0") if code[0] != "b" else f"b{code[1:]:>02}": rows
                                  for code, rows in sentences.ROWS.items()},
                           "waits": sentences.WAITS, "waits_ever": sentences.WAITS_EVER}}
@@ -88,14 +81,6 @@ def meanings() -> Dict[str, str]:
     for names, text in (line.split(" | ", 1) for line in web("meanings.txt").splitlines()):
         found.update({name: "\n".join(filter(None, (found.get(name), text))) for name in names.split()})
     return found
-
-
-def instruction(one: Instruction) -> Dict[str, Any]:
-    return {"words": one.words, "states": one.goes_on_in, "effects": effects(one.effects)}
-
-
-def effects(all_of: Sequence[Effect]) -> List[Dict[str, Any]]:
-    return [{"place": one.place, "moved": one.is_moved, "sources": one.sources} for one in all_of]
 
 
 def options(asked: Any, devices: Mapping[int, str] = {}) -> Dict[str, Any]:
@@ -122,14 +107,11 @@ def run(asked: Any, files: Files) -> Dict[str, Any]:
 
 def of_symbols(symbols: AllSymbols) -> Dict[str, Any]:
     """Returns the labels of each processor that has some, and the lines and words of the sources."""
-    labels = {number: {**table, "addresses": addresses(symbols.of[number]), "entries": list(symbols.of[number].entries().items())}
+    labels = {number: {**table, "entries": list(symbols.of[number].entries().items()),
+                       "addresses": {name: address for address, name in symbols.of[number].names.firsts().items()}}
               for number, table in symbols.tables().items()}
     sources = {number: source_of(source) for number, source in symbols.sources()}
     return {"labels": labels, **({"sources": sources} if sources else {})}
-
-
-def addresses(names: Any) -> Dict[str, int]:
-    return {name: address for address, name in names.names.firsts().items()}
 
 
 def source_of(source: Source) -> Dict[str, Any]:
@@ -160,34 +142,23 @@ def heading(title: Optional[str], script: Optional[str]) -> str:
 
 def module_bytes() -> bytes:
     """Returns the simulator as WebAssembly: that of a checkout or of a class, whose folder has it in dist, or that of an installation."""
-    paths = [os.path.join(HOME, *folder, PAGE_MODULE) for folder in (["dist"], [])]
-    path = next(filter(os.path.exists, paths), None)
-    if path is None:
-        raise Failure(f"there is no {PAGE_MODULE} here, with which a page runs")
-    return bytes_of(path)
+    for path in (os.path.join(HOME, "dist", PAGE_MODULE), os.path.join(HOME, PAGE_MODULE)):
+        if os.path.exists(path):
+            return bytes_of(path)
+    raise Failure(f"there is no {PAGE_MODULE} here, with which a page runs")
 
 
 def write_page(path: str, text: str) -> None:
     """Writes a file whole, or leaves it as it was. What is no plain file, as a pipe, is written to as it is."""
-    data = text.encode("utf-8")
+    is_plain, target = not os.path.exists(path) or os.path.isfile(path), os.path.realpath(path)
+    fresh = f"{target}.{os.urandom(4).hex()}.part" if is_plain else path
     try:
-        if os.path.exists(path) and not os.path.isfile(path):
-            with open(path, "wb") as file:
-                file.write(data)
-        else:
-            replace_file(os.path.realpath(path), data)
+        with open(fresh, "xb" if is_plain else "wb") as file:
+            file.write(text.encode("utf-8"))
+        if is_plain:
+            os.replace(fresh, target)
     except OSError as error:
         raise Failure(f"can't write {path}: {error.strerror}") from error
-
-
-def replace_file(path: str, data: bytes) -> None:
-    """Puts a fresh file with these bytes in the place of a file."""
-    fresh = f"{path}.{os.urandom(4).hex()}.part"
-    with open(fresh, "xb") as file:
-        try:
-            file.write(data)
-            file.close()
-            os.replace(fresh, path)
-        except BaseException:
+    finally:
+        if is_plain and os.path.exists(fresh):
             os.remove(fresh)
-            raise

@@ -1,10 +1,9 @@
-"""What devices of one's own show at the moments of a film, as SVG. Each line of all pictures is kept once.
-
-The script that the page performs has the replies of the devices. So a device looks at its channel here, and what it would reply is
-there."""
+"""What devices of one's own show at the moments of a film, as SVG. Each line of all pictures is kept once. The script that the page performs
+has the replies of the devices, so a device only looks at its channel here."""
 
 from __future__ import annotations
 
+from itertools import chain
 from typing import Any, Dict, Iterator, List, Sequence, Tuple
 
 from ...devices.pictures import svg
@@ -31,17 +30,13 @@ def moments_of(console: Console, lines: Sequence[str]) -> Iterator[Tuple[str, Li
                 yield answer[0], []
 
 
-class Pictures:
-    """The devices that have a picture, with what each is by how many actions are in effect, and what it shows from which moment on."""
+class Devices:
+    """Devices with their values and the turns in effect, by how many actions are in effect."""
 
     def __init__(self, devices: Sequence[Device]) -> None:
-        self.devices = [device for device in devices if type(device).picture is not Device.picture]
-        self.values: List[Tuple[Value, ...]] = [tuple(map(value_at_start, self.devices))]
-        self.turns = [0]
+        self.devices = devices
+        self.values: List[Tuple[Tuple[Value, ...], int]] = [(tuple(map(value_at_start, devices)), 0)]
         self.position = 0
-        self.lines: Dict[str, int] = {}  # of all pictures, with their numbers
-        self.shown: List[List[Tuple[int, List[int]]]] = [[] for _ in self.devices]
-        self.states: List[Any] = [None] * len(self.devices)  # those of the last pictures
 
     def take(self, answer: str, rows: Sequence[str]) -> None:
         """Takes a moment: lets the devices look after a turn, or goes where a BACK or FORWARD leads."""
@@ -49,40 +44,33 @@ class Pictures:
         if kind in MOVES:
             self.position += MOVES[kind] * int(rest[0], 8)
             return
-        values, turn = self.values[self.position], self.turns[self.position] + bool(rows)
+        values, turn = self.values[self.position]
         if rows:
+            turn += 1
             values = tuple(looked(device, value, channel_of(rows[device.channel]), turn)[0] for device, value in zip(self.devices, values))
         self.position += 1
-        self.values[self.position:], self.turns[self.position:] = [values], [turn]
-
-    def show(self, moment: int) -> None:
-        """Notes what is seen from a moment on, if it is something else than before."""
-        for number, (device, value) in enumerate(zip(self.devices, self.values[self.position])):
-            if moment and value.state is self.states[number]:
-                continue
-            self.states[number] = value.state
-            text, shown = drawn(device, value.state, svg) or "", self.shown[number]
-            lines = [self.lines.setdefault(line, len(self.lines)) for line in text.splitlines()]
-            if not shown or shown[-1][1] != lines:
-                shown.append((moment, lines))
-
-    def table(self, moments: int, length: int) -> Dict[str, Any]:
-        """Returns what the page has to know of the pictures of so many moments, which a script of so many characters makes."""
-        devices = [{"name": type(device).__name__, "channel": device.channel, "shown": shown}
-                   for device, shown in zip(self.devices, self.shown)]
-        return {"devices": devices, "lines": list(self.lines), "moments": moments, "script": length}
+        self.values[self.position:] = [(values, turn)]
 
 
 def pictures_of(words: Sequence[str], devices: Sequence[Device], lines: Sequence[str]) -> Dict[str, Any]:
-    """Returns what the page has to know of the pictures of devices, while it performs the lines of a script for the simulator alone."""
-    pictures, moment = Pictures(devices), 0
-    if not pictures.devices:
-        return {}
-    pictures.show(0)
+    """Returns what the page has to know of the pictures of devices, while it performs the lines of a script for the simulator alone: of
+    each device which lines are seen from which moment on."""
+    seen = Devices([device for device in devices if type(device).picture is not Device.picture])
+    numbers: Dict[str, int] = {}
+    shown: List[List[Tuple[int, List[int]]]] = [[] for _ in seen.devices]
+    states: List[Any] = [None] * len(shown)
     with Console(words) as console:
-        for moment, (answer, rows) in enumerate(moments_of(console, lines), 1):
+        for moment, (answer, rows) in enumerate(chain([("BACK 0", [])], moments_of(console, lines)) if shown else ()):
             if moment >= MOST_MOMENTS:
                 raise Failure(f"with devices a film has at most {MOST_MOMENTS:o} (octal) moments, and this run has more")
-            pictures.take(answer, rows)
-            pictures.show(moment)
-    return {"pictures": pictures.table(moment + 1, sum(len(line) + 1 for line in lines))}
+            seen.take(answer, rows)
+            for at, (device, value) in enumerate(zip(seen.devices, seen.values[seen.position][0])):
+                if value.state is states[at] and moment:
+                    continue
+                states[at] = value.state
+                text = [numbers.setdefault(line, len(numbers)) for line in (drawn(device, value.state, svg) or "").splitlines()]
+                if not shown[at] or shown[at][-1][1] != text:
+                    shown[at].append((moment, text))
+    parts = [{"name": type(device).__name__, "channel": device.channel, "shown": own} for device, own in zip(seen.devices, shown)]
+    table = {"devices": parts, "lines": list(numbers), "script": sum(len(line) + 1 for line in lines)}
+    return {"pictures": {**table, "moments": moment + 1}} if parts else {}

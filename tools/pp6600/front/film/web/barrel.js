@@ -6,10 +6,7 @@ const CIRCLE = 2.2, RING = 7.3, BOX_WIDTH = 7.6, BOX_HEIGHT = 1.75, BOX_APART = 
 const STATE_CLASSES = ["inactive", "empty", "full", "function"];
 const barrel = { folded: false, all: [], channels: [], used: new Set() }; // channels: those of all used ones that have room
 
-function foldBarrel() {
-  barrel.folded = !barrel.folded;
-  show();
-}
+function foldBarrel() { barrel.folded = !barrel.folded; show(); }
 
 // The channels that the picture has: those with a device, and those that a turn has used or changed.
 function findChannels(first) {
@@ -48,10 +45,7 @@ function wordMoved(moment) {
   return null;
 }
 
-function channelAt(place) {
-  const { clock, words } = layout;
-  return place >= words && place <= clock ? place - words : -1;
-}
+function channelAt(place) { const { clock, words } = layout; return place >= words && place <= clock ? place - words : -1; }
 
 // ---- where things are
 
@@ -134,8 +128,8 @@ function drawSlot(picture, n, sizes) {
 }
 
 // The middle of the ring: the action, what it was, and the first cell or word that it changed.
-function drawMiddle(picture, { cx, cy }) {
-  const lines = middleLines();
+function drawMiddle(picture, { cx, cy, isFlat }) {
+  const lines = middleLines(isFlat);
   lines.forEach((text, at) => {
     const y = cy + 0.35 + (at - (lines.length - 1) / 2) * 1.3, width = LETTER * (text.length + 1);
     drawn(picture, "rect", { x: cx - width / 2, y: y - 0.95, width, height: 1.3, class: "under" });
@@ -143,18 +137,19 @@ function drawMiddle(picture, { cx, cy }) {
   });
 }
 
-function middleLines() {
+// After a turn also A and Q of its processor. A flat ring has room for longer lines.
+function middleLines(isFlat) {
   const change = film.at && film.kinds[film.at] !== JUMP ? changesOf(film.at).find(({ name }) => /^(M|C|XP) /.test(name)) : null;
   const changed = change ? [change.name, change.name[0] === "M" ? change.text : "another word"] : [];
   if (film.kinds[film.at] === SKIP) return [`${octal(film.skips.get(film.at))} turns`, "not filmed"];
   if (!isTurn(film.at)) return [inShort(film.at ? lineOf(film.at).text.trim() : "the beginning", 17), ...changed];
-  const { name, block } = turnOf(film.at);
-  const kind = [block ? "in its block" : "", film.kinds[film.at] === WAITING ? "waits" : ""].filter(Boolean).join(", ");
-  return [`PP ${two(film.processor[film.at])} ${name}`, ...(kind ? [kind] : []), ...changed];
+  const { name, isBlock } = turnOf(film.at), kinds = [...(isBlock ? ["in its block"] : []), ...(film.kinds[film.at] === WAITING ? ["waits"] : [])];
+  const n = film.processor[film.at], [a, q] = ["A", "Q"].map((one) => `${one} ${textAt(placeNamed(`${one} ${octal(n)}`))}`);
+  const head = [`PP ${two(n)} ${name}`, ...kinds];
+  return [...(isFlat ? [head.join(" ")] : head), `${a} ${q}`, ...changed];
 }
 
 const inShort = (text, length) => (text.length > length ? `${text.slice(0, length - 3)} ..` : text);
-
 const hasChanged = (c) => c < CHANNELS && [layout.words + c, layout.states + c].some((place) => changedIn(film.at, place, place));
 
 // The box of a channel: its state, or the word that is on it; below it its device, underlined if it did something in this turn.
@@ -196,5 +191,5 @@ function barrelText() {
   const waits = [...Array(PROCESSORS).keys()].filter((n) => nextOf(n).waits).map((n) => `PP ${two(n)} waits for ${nextOf(n).waits}`);
   const moved = wordMoved(film.at);
   const word = moved ? [`${four(moved.word)} goes ${moved.isOutput ? "to" : "from"} H ${two(moved.channel)}`] : [];
-  return `The barrel. ${[middleLines().join(", "), ...word, ...waits, `PP ${two(film.numbers[layout.slot])} is next`].join("; ")}.`;
+  return `The barrel. ${[middleLines(true).join(", "), ...word, ...waits, `PP ${two(film.numbers[layout.slot])} is next`].join("; ")}.`;
 }

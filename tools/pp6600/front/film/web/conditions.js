@@ -5,100 +5,64 @@ const FORM_OF_CONDITION = "a condition is PLACE = 105 (also != < > <= >=), PLACE
   + "conditions are joined by and";
 const COMPARES = { "=": (a, b) => a === b, "!=": (a, b) => a !== b, "<": (a, b) => a < b, ">": (a, b) => a > b, "<=": (a, b) => a <= b,
   ">=": (a, b) => a >= b };
+const ignore = () => {};
 
 // The number at a place; one of 60 bits is a BigInt.
 const numberAt = (numbers, place) => (isWord(place) ? (BigInt(numbers[upperOf(place)]) << 30n) | BigInt(numbers[place]) : numbers[place]);
 
-// Whether a number is as it must be.
-class NumberTest {
-  constructor(place, isRight) {
-    Object.assign(this, { place, isRight });
-  }
-
-  begin() {}
-  tell() {}
-  end(n, numbers) { return this.isRight(numberAt(numbers, this.place)); }
-}
+// A test is an observer: begin(n, numbers) before an action, by a processor or by none, tell(place) for each change, and end(n, numbers) after it,
+// which returns whether what is asked for holds. An event holds anew each time. This is whether a number is as it must be.
+const numberTest = (place, isRight) => ({ begin: ignore, tell: ignore, end: (n, numbers) => isRight(numberAt(numbers, place)) });
 
 // Whether a number has changed in an action at one of these places, each a first and a last one.
-class ChangeTest {
-  isEvent = true;
-
-  constructor(...places) {
-    this.places = places;
-  }
-
-  begin() { this.changed = false; }
-  tell(place) {
-    const one = place >= layout.high && place < layout.issued ? wordOfUpper(place) : place;
-    if (this.places.some(([first, last]) => one >= first && one <= last)) this.changed = true;
-  }
-  end() { return this.changed; }
+function changeTest(...places) {
+  let changed;
+  const tell = (place) => {
+    const one = place >= layout.high && place < layout.deck ? wordOfUpper(place) : place;
+    if (places.some(([first, last]) => one >= first && one <= last)) changed = true;
+  };
+  return { isEvent: true, begin: () => { changed = false; }, tell, end: () => changed };
 }
 
 // Whether the latest turn of a processor was a wait, and no line has changed its registers since.
-class WaitTest {
-  waits = false;
-
-  constructor(processor) {
-    this.processor = processor;
-  }
-
-  begin(n, numbers) {
-    this.one = n === this.processor ? turning.processor(numbers, n) : null;
-  }
-  tell(place) { if (!this.one && REGISTERS.some((first) => first + this.processor === place)) this.waits = false; }
-  end(n, numbers) {
-    if (this.one) this.waits = turning.kindOf(this.one, numbers) === WAITING;
-    return this.waits;
-  }
+function waitTest(processor) {
+  let waits = false, one = null;
+  return {
+    begin: (n, numbers) => { one = n === processor ? turning.processor(numbers, n) : null; },
+    tell: (place) => { if (!one && REGISTERS.some((first) => first + processor === place)) waits = false; },
+    end: (n, numbers) => (waits = one ? turning.kindOf(one, numbers) === WAITING : waits),
+  };
 }
 
 // Whether a subroutine of a processor has returned to another address than its return jump stored; entries has the cell of the return
 // address by the address of the jump back.
-class ReturnTest {
-  isEvent = true;
-  stored = new Map();
-
-  constructor(processor, entries) {
-    Object.assign(this, { processor, entries, jumpOf: new Map([...entries].map(([jump, cell]) => [cell + 1, jump])) });
-  }
-
-  begin(n, numbers) {
-    this.one = n === this.processor ? turning.processor(numbers, n) : null;
-  }
-  tell() {}
-  end(n, numbers) {
-    if (!this.one || this.one.phase) return false;
-    const { p, code, row } = this.one, now = numbers[register(n, 0)], jump = this.jumpOf.get(now);
-    if (code === 2 && jump !== undefined && now !== p) this.stored.set(jump, (p + row.words) & 0o7777);
-    if (!this.entries.has(p) || !this.stored.has(p)) return false;
-    const wanted = this.stored.get(p);
-    this.stored.delete(p);
-    return wanted !== now;
-  }
+function returnTest(processor, entries) {
+  const stored = new Map(), jumpOf = new Map([...entries].map(([jump, cell]) => [cell + 1, jump]));
+  let one = null;
+  const end = (n, numbers) => {
+    if (!one || one.phase) return false;
+    const { p, code, row } = one, now = numbers[register(n, 0)], jump = jumpOf.get(now);
+    if (code === 2 && jump !== undefined && now !== p) stored.set(jump, (p + row.words) & 0o7777);
+    const wanted = stored.get(p);
+    return entries.has(p) && stored.delete(p) && wanted !== now;
+  };
+  return { isEvent: true, begin: (n, numbers) => { one = n === processor ? turning.processor(numbers, n) : null; }, tell: ignore, end };
 }
 
 // Conditions that must hold together. As an observer it notes whether they hold after each action, and calls met() when they come to hold.
 class Condition {
   constructor(tests, met) {
-    Object.assign(this, { tests, met, holds: false });
-    this.isEvent = tests.some((test) => test.isEvent); // so that it holds anew each time
+    Object.assign(this, { tests, met, holds: false, isEvent: tests.some((test) => test.isEvent) });
   }
 
   // Begins with the numbers as they are.
   start(numbers) {
     this.numbers = numbers;
-    for (const test of this.tests) test.begin(NO_TURN, numbers);
+    this.begin(NO_TURN);
     this.holds = !this.isEvent && this.test(NO_TURN);
   }
 
-  test(n) {
-    let all = true;
-    for (const test of this.tests) all = test.end(n, this.numbers) && all;
-    return all;
-  }
-
+  test(n) { return this.tests.map((test) => test.end(n, this.numbers)).every(Boolean); }
   begin(n) { for (const test of this.tests) test.begin(n, this.numbers); }
   tell(place) { for (const test of this.tests) test.tell(place); }
   end(n) {
@@ -109,45 +73,36 @@ class Condition {
 }
 
 // Conditions of which any may come to hold.
-class Alternatives {
-  constructor(all) {
-    this.all = all;
-  }
-
-  start(numbers) { for (const one of this.all) one.start(numbers); }
-  begin(n) { for (const one of this.all) one.begin(n); }
-  tell(place) { for (const one of this.all) one.tell(place); }
-  end(n) { for (const one of this.all) one.end(n); }
+function alternatives(all) {
+  const each = (name) => (word) => { for (const one of all) one[name](word); };
+  return { start: each("start"), begin: each("begin"), tell: each("tell"), end: each("end") };
 }
 
 // ---- their texts; labels has of each processor the addresses by their names, and its subroutines
 
-function parseCondition(text, labels, met) {
-  const tests = text.trim().split(/\s+and\s+/i).map((part) => parseTest(part.split(/\s+/), labels));
-  return new Condition(tests, met);
-}
+const parseCondition = (text, labels, met) => new Condition(text.trim().split(/\s+and\s+/i).map((part) => parseTest(part.split(/\s+/), labels)), met);
 
 function parseTest(words, labels) {
   if (/^PP$/i.test(words[0])) return processorTest(words, labels);
   const { place, count, processor, limit } = placeIn(words, labels), rest = words.slice(count), kind = (rest[0] || "").toLowerCase();
-  const number = (word) => numberIn_(word, processor, labels, limit, words.slice(0, count).join(" "));
-  if (kind === "changes" && rest.length === 1) return new ChangeTest([place, place]);
-  if (kind === "changes" && /^H$/i.test(words[0]) && /^state$/i.test(rest[1])) return new ChangeTest(Array(2).fill(stateOfChannel(place)));
+  const number = (word) => numberIn_(word, processor, labels, limit, words.slice(0, count).join(" ")), isChannel = /^H$/i.test(words[0]);
+  if (kind === "changes" && rest.length === 1) return changeTest([place, place]);
+  if (kind === "changes" && isChannel && /^state$/i.test(rest[1])) return changeTest(Array(2).fill(stateOfChannel(place)));
   if (/^M$/i.test(words[0]) && rest.length === 2 && /^changes$/i.test(rest[1])) return cellsTest(place, number(rest[0]), rest[0], words);
-  if (kind === "is" && /^H$/i.test(words[0]) && rest.length === 2) return stateTest(place, rest[1].toUpperCase());
+  if (kind === "is" && isChannel && rest.length === 2) return stateTest(place, rest[1].toUpperCase());
   if (COMPARES[kind] && rest.length === 2) {
     const wanted = number(rest[1]);
-    return new NumberTest(place, (now) => COMPARES[kind](now, wanted));
+    return numberTest(place, (now) => COMPARES[kind](now, wanted));
   }
   if ((kind !== "outside" && kind !== "inside") || rest.length !== 3) throw new Error(FORM_OF_CONDITION);
   const [first, last] = [number(rest[1]), number(rest[2])];
   if (first > last) throw new Error(`${octal(first)} is over ${octal(last)}`);
-  return new NumberTest(place, (now) => (now >= first && now <= last) === (kind === "inside"));
+  return numberTest(place, (now) => (now >= first && now <= last) === (kind === "inside"));
 }
 
 function cellsTest(place, last, text, words) {
   if (last < place % CELLS) throw new Error(`${text} is before the first cell of ${words.slice(0, 3).join(" ").toUpperCase()}`);
-  return new ChangeTest([place, place - (place % CELLS) + last]);
+  return changeTest([place, place - (place % CELLS) + last]);
 }
 
 function stateOfChannel(place) {
@@ -158,36 +113,31 @@ function stateOfChannel(place) {
 function stateTest(place, letter) {
   const state = "IEFX".indexOf(letter);
   if (letter.length !== 1 || state < 0) throw new Error("a channel is I, E, F or X");
-  return new NumberTest(stateOfChannel(place), (now) => now === state);
+  return numberTest(stateOfChannel(place), (now) => now === state);
 }
 
 function processorTest(words, labels) {
-  const text = words.slice(2).join(" ").toLowerCase();
+  const text = words.slice(2).join(" ").toLowerCase(), n = parseInt(words[1], 8), { entries = [] } = labels[n] || {};
   if (words.length < 3 || !/^[0-7]+$/.test(words[1])) throw new Error(FORM_OF_CONDITION);
-  const n = parseInt(words[1], 8);
   if (n >= PROCESSORS) throw new Error(`${words[1]} is no processor: it is 0 to 11`);
-  if (text === "waits") return new WaitTest(n);
-  if (text === "in a block" || text === "not in a block") return new NumberTest(register(n, 3), (phase) => (phase !== 0) === (text[0] === "i"));
+  if (text === "waits") return waitTest(n);
+  if (text === "in a block" || text === "not in a block") return numberTest(register(n, 3), (phase) => (phase !== 0) === (text[0] === "i"));
   if (text !== "returns wrongly") throw new Error(FORM_OF_CONDITION);
-  const { entries } = labels[n] || {};
-  if (!entries || !entries.length) throw new Error(`PP ${words[1]} returns wrongly needs labels of a subroutine: NAMEX, and NAME at the cell after it`);
-  return new ReturnTest(n, new Map(entries));
+  if (!entries.length) throw new Error(`PP ${words[1]} returns wrongly needs labels of a subroutine: NAMEX, and NAME at the cell after it`);
+  return returnTest(n, new Map(entries));
 }
 
 // The place that the words begin with: how many words it has, its processor if it is of one, and the limit of its number.
 function placeIn(words, labels) {
   const kind = (words[0] || "").toUpperCase(), n = parseInt(words[1], 8), isOfProcessor = "MAPQ".includes(kind) && kind.length === 1;
-  const limits = { M: 0o10000, A: 0o1000000, P: 0o10000, Q: 0o10000, C: 1n << 60n, H: 0o10000 };
-  if (!limits[kind] || !/^[0-7]+$/.test(words[1] || "")) throw new Error(FORM_OF_CONDITION);
-  const made = (place, count) => ({ place, count, processor: isOfProcessor ? n : null, limit: limits[kind] });
+  const limit = { M: 0o10000, A: 0o1000000, P: 0o10000, Q: 0o10000, C: 1n << 60n, H: 0o10000 }[kind], count = kind === "M" ? 3 : 2;
+  if (!limit || !/^[0-7]+$/.test(words[1] || "") || words.length < count) throw new Error(FORM_OF_CONDITION);
+  const made = (place) => ({ place, count, processor: isOfProcessor ? n : null, limit });
   if (isOfProcessor && n >= PROCESSORS) throw new Error(`${words[1]} is no processor: it is 0 to 11`);
-  if (kind === "M") {
-    if (words.length < 3) throw new Error(FORM_OF_CONDITION);
-    return made(n * CELLS + numberIn_(words[2], n, labels, CELLS, `M ${words[1]}`), 3);
-  }
-  if (isOfProcessor) return made(register(n, "PAQ".indexOf(kind)), 2);
-  if (kind === "H" && n <= CLOCK) return made(n === CLOCK ? layout.clock : layout.words + n, 2);
-  if (kind === "C" && n < layout.size) return made(layout.central + n, 2);
+  if (kind === "M") return made(n * CELLS + numberIn_(words[2], n, labels, CELLS, `M ${words[1]}`));
+  if (isOfProcessor) return made(register(n, "PAQ".indexOf(kind)));
+  if (kind === "H" && n <= CLOCK) return made(n === CLOCK ? layout.clock : layout.words + n);
+  if (kind === "C" && n < layout.size) return made(layout.central + n);
   throw new Error(`there is no ${kind} ${words[1]}`);
 }
 

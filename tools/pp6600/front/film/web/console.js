@@ -46,13 +46,8 @@ function recall(event) {
 // ---- files
 
 const filesOf = (about) => ({ script: "", deck: "", panel: "", ...Object.fromEntries(about.files.map((file) => [file.kind, file.bytes])) });
-
 const nameOfSession = () => (exercises.now ? exercises.now.name : "session");
-
-async function saveScript() {
-  const { script } = await ask("script");
-  saveBytes(bytesOfText(script), nameOfSession());
-}
+async function saveScript() { const { script } = await ask("script"); saveBytes(bytesOfText(script), nameOfSession()); }
 
 // The page as one file, with the session so far in it.
 async function saveFilm() {

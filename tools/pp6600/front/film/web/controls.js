@@ -13,10 +13,7 @@ function choose(place) {
   show();
 }
 
-function chooseNone() {
-  choose(null);
-  followTurns();
-}
+function chooseNone() { choose(null); followTurns(); }
 
 // The latest change and the one to which "previous change" goes: that before it, at the moment of the change itself.
 function changesBack() {
@@ -104,11 +101,7 @@ function showPosition() {
 function showAction() {
   const action = byId("action"), changes = film.at && film.kinds[film.at] !== JUMP ? changesOf(film.at) : [];
   action.textContent = `${actionText(film.at)}${changes.length ? ":" : "."}`;
-  changes.slice(0, 12).forEach(({ name, text }) => {
-    const entry = document.createElement("span");
-    entry.textContent = `${name} ${text}`;
-    action.append(" ", entry);
-  });
+  for (const { name, text } of changes.slice(0, 12)) action.append(" ", make("span", { textContent: `${name} ${text}` }));
   if (changes.length > 12) action.append(" ..");
 }
 
@@ -160,10 +153,7 @@ function foundBy(line) {
   return { moment, name, text: name && `the next ${turn ? "turn" : "line"}, ${makerText(moment, placeNamed(name).places[0])}, changes ${name}` };
 }
 
-function watchesAt(moment) {
-  goTo(moment);
-  return watched();
-}
+function watchesAt(moment) { goTo(moment); return watched(); }
 
 // The latest change of the places that is in effect at a moment, and the place that changed; without one the last moment.
 function latestChange(names, moment, end) {
@@ -173,10 +163,7 @@ function latestChange(names, moment, end) {
 }
 
 // The first moment after so many turns, or the last moment.
-function momentOfTurn(turn) {
-  const moment = film.turn.indexOf(turn);
-  return moment >= 0 ? moment : film.count - 1;
-}
+function momentOfTurn(turn) { const moment = film.turn.indexOf(turn); return moment >= 0 ? moment : film.count - 1; }
 
 // What is wrong with the number of a turn, or "".
 function wrongTurn(text) {
@@ -251,10 +238,7 @@ function buildControls() {
 }
 
 // Says beside a field what is wrong with its text, and marks it; "" if it is right.
-function accept(name, wrong) {
-  setText(byId(`no-${name}`), wrong);
-  byId(name).setAttribute("aria-invalid", wrong !== "");
-}
+function accept(name, wrong) { setText(byId(`no-${name}`), wrong); byId(name).setAttribute("aria-invalid", wrong !== ""); }
 
 async function goToTyped() {
   const field = byId("turn"), text = field.value.trim();
@@ -321,7 +305,6 @@ function grew(first) {
 function rebuild() {
   forgetLanes();
   forgetTimes();
-  forgetParts();
   forgetLines();
   showPanel();
   buildReader();

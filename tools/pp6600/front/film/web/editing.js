@@ -5,15 +5,11 @@ const keyOfBreakpoint = (n, address) => `${n} ${address}`;
 
 // Makes a button of a text, by which a breakpoint is set and taken away: showBreakpoint() says where.
 function addBreakpoint(cell, text = "") {
-  const button = document.createElement("button");
-  Object.assign(button, { type: "button", className: "plain name break", textContent: text });
-  button.onclick = () => {
-    const { n, address } = button.dataset, key = keyOfBreakpoint(n, address);
+  return addTo(cell, makeButton("plain name break", text, ({ currentTarget }) => {
+    const { n, address } = currentTarget.dataset, key = keyOfBreakpoint(n, address);
     if (!breakpoints.delete(key)) breakpoints.set(key, `P ${octal(Number(n))} = ${octal(Number(address))}`);
     show();
-  };
-  cell.append(button);
-  return button;
+  }));
 }
 
 function showBreakpoint(button, n, address) {
@@ -55,10 +51,7 @@ function edit() {
   field.select();
 }
 
-function endEditing() {
-  byId("set-form").hidden = true;
-  byId("set-to").blur();
-}
+function endEditing() { byId("set-form").hidden = true; byId("set-to").blur(); }
 
 // Sets the chosen number to what the field has. If it is refused, the field stays.
 async function setChosen() {
@@ -108,11 +101,7 @@ const operationIn = (line) => (/^ ?[^*\s]?\S*\s+(\S+)/.exec(line) || [])[1];
 function buildMeanings() {
   const directives = Object.keys(film.meanings).filter((name) => !film.names.includes(name) && !/^\dx$/.test(name));
   for (const [list, names] of [["codes", film.names], ["directives", directives]]) {
-    for (const name of names) {
-      const button = document.createElement("button");
-      Object.assign(button, { type: "button", className: "plain", textContent: name, title: meaningOf(name) });
-      button.onclick = () => setText(byId("meaning"), meaningOf(name));
-      byId(list).append(button);
-    }
+    const say = (name) => setText(byId("meaning"), meaningOf(name));
+    byId(list).append(...names.map((name) => makeButton("plain", name, () => say(name), { title: meaningOf(name) })));
   }
 }

@@ -46,10 +46,7 @@ function failed(text) {
   say(text, true);
 }
 
-function setBusy(isBusy) {
-  engine.isBusy = isBusy;
-  byId("stop").hidden = !isBusy;
-}
+function setBusy(isBusy) { engine.isBusy = isBusy; byId("stop").hidden = !isBusy; }
 
 // Takes what the worker has delivered. While the pointer drags, the film does not change: another moment would be under the hand.
 async function received(data) {
@@ -73,14 +70,8 @@ function taken(data) {
   if (engine.isBuilt) grew(before);
 }
 
-function showProgress() {
-  say(`turn ${octal(film.turn[film.count - 1])} ..`, false);
-}
-
-function say(text, isWrong) {
-  setText(byId("said"), text);
-  byId("said").classList.toggle("wrong", Boolean(isWrong));
-}
+function showProgress() { say(`turn ${octal(film.turn[film.count - 1])} ..`, false); }
+function say(text, isWrong) { setText(byId("said"), text); byId("said").classList.toggle("wrong", Boolean(isWrong)); }
 
 // ---- the session
 
@@ -196,7 +187,4 @@ engine.unskip = async (at = film.at, turn = film.turn[at]) => {
 };
 
 // Shows the session that was opened anew at its end.
-function endOpening(place) {
-  choose(place ? placeNamed(place) : null);
-  moveTo(film.count - 1);
-}
+function endOpening(place) { choose(place ? placeNamed(place) : null); moveTo(film.count - 1); }

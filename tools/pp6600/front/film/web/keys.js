@@ -42,12 +42,8 @@ function chooseBeside(right, down) {
   return found[0] < Infinity ? choose(found[1].place) : null;
 }
 
-function chooseProcessor(distance) { chooseMemory((memory.processor + distance % PROCESSORS + PROCESSORS) % PROCESSORS); }
-
-function typeLine(text) {
-  byId("typed").value = text;
-  byId("typed").focus();
-}
+const chooseProcessor = (distance) => chooseMemory((memory.processor + distance % PROCESSORS + PROCESSORS) % PROCESSORS);
+function typeLine(text) { byId("typed").value = text; byId("typed").focus(); }
 
 function searchAgain(back) {
   if (shown.searched) engine.until(shown.searched, back);
@@ -68,10 +64,7 @@ function watch() {
   if (place && SETTABLE.includes(place.kind)) engine.act([`${watched().includes(place.name) ? "UNWATCH" : "WATCH"} ${place.name}`]);
 }
 
-function showAs(form, other) {
-  memory.as = memory.as === form ? other : form;
-  show();
-}
+const showAs = (form, other) => showMemoryAs({ as: memory.as === form ? other : form });
 
 const ACTIONS = {
   on: byHand((count) => onwards(count, () => film.at + 1, (left) => left)), back: byHand((count) => backwards(count, () => film.at - 1)),
@@ -81,7 +74,11 @@ const ACTIONS = {
     (left) => ((memory.processor - film.numbers[layout.slot] + PROCESSORS) % PROCESSORS) + 1 + ROUND * (left - 1))),
   "turn-before": byHand((count) => backwards(count, () => turnBeside(-1))),
   beginning: byHand(() => moveTo(0)), newest: byHand(() => moveTo(lastMoment())), "back-to-change": byHand(backToChange), watch,
-  turn: byHand((count, digits) => (digits ? goToTurn(count) : byId("turn").select())),
+  turn: byHand(async (count, digits) => {
+    if (!digits) return byId("turn").select();
+    await goToTurn(count);
+    return accept("turn", wrongTurn(digits));
+  }),
   until: () => typeLine("until "), "back-until": () => typeLine("back until "),
   again: byHand(() => searchAgain(false)), "back-again": byHand(() => searchAgain(true)),
   "next-change": byHand(() => moveToChange(1)), "change-before": byHand(() => moveToChange(-1)),
@@ -100,8 +97,7 @@ const ACTIONS = {
 
 // The key of an action, as the help names it.
 const keyOf = (action) => Object.keys(film.keys.actions).find((key) => film.keys.actions[key] === action).replace(/^ $/, "Space");
-
-function showHelp(on) { byId("help").hidden = !on; }
+const showHelp = (on) => { byId("help").hidden = !on; };
 
 // Octal digits before a key say how often, or before the key of a turn which one.
 function addDigit(digit) {

@@ -32,8 +32,9 @@ function growLanes(first) {
       lane.seen.add(film.kinds[moment]);
     }
     for (let at = film.starts[moment]; at < film.starts[moment + 1]; at++) {
-      const c = film.places[at] - layout.states;
+      const c = film.places[at] - layout.states, n = film.places[at] - layout.phase;
       if (c >= 0 && c < CHANNELS) goOn(lanes.channels[c], moment, film.now[at]);
+      if (n >= 0 && n < PROCESSORS && film.kinds[moment] !== JUMP) film.phases[n].push(moment);
     }
   }
   chooseLanes();
@@ -290,22 +291,15 @@ function showHead() {
 const LOOKS = ["passes", "waits", "busy", "block transfer"]; // each also the state of a channel
 
 function buildLegend() {
-  LOOKS.forEach((text, kind) => {
-    const canvas = document.createElement("canvas"), entry = document.createElement("span");
-    canvas.width = 22;
-    canvas.height = LANE;
-    canvas.dataset.kind = kind;
-    entry.append(canvas, ` ${text}, or ${film.states[kind][1]}`);
-    byId("legend").append(entry);
-  });
+  byId("legend").append(...LOOKS.map((text, kind) => make("span", {}, make("canvas", { width: 22, height: LANE }), ` ${text}, or ${film.states[kind][1]}`)));
 }
 
 function drawLegend() {
   const colours = coloursOf(document.body);
-  for (const canvas of document.querySelectorAll("#legend canvas")) {
-    const context = canvas.getContext("2d"), kind = Number(canvas.dataset.kind);
+  document.querySelectorAll("#legend canvas").forEach((canvas, kind) => {
+    const context = canvas.getContext("2d");
     context.clearRect(0, 0, 22, LANE);
     drawMark(context, colours, kind, 0, 0, 22);
     if (kind === 1) drawEnds(context, -LABEL, 22 - LABEL, 0);
-  }
+  });
 }

@@ -3,8 +3,8 @@
 const PROCESSORS = 10, CHANNELS = 12, CLOCK = 12, CELLS = 4096, FRAME_WORDS = 16, WATCHES = 8, COLUMNS = 80;
 const CENTRAL_ADDRESSES = 0o1000000, HALF = 30; // a number of 60 bits is kept in halves
 
-// The first place of each part. Behind the library's places come the upper halves of the numbers of 60 bits; of each processor where the
-// block transfer began that it is in, plus 1; and the columns of the deck, which have no number but are where one came from.
+// The first place of each part. Behind the library's places come the upper halves of the numbers of 60 bits; and the columns of the deck,
+// which have no number but are where one came from.
 const layout = {
   cells: 0, A: 40960, P: 40970, Q: 40980, phase: 40990, states: 41000, words: 41012, clock: 41024, frame: 41025, reader: 41041,
   printer: 41044, paper: 41047, slot: 106583, watches: 106584, central: 106592,
@@ -12,8 +12,8 @@ const layout = {
 
 // Sets the parts that depend on the size of central memory. Returns how many numbers the row has.
 function setLayout(size) {
-  const high = layout.central + size, issued = high + FRAME_WORDS + size, deck = issued + PROCESSORS;
-  Object.assign(layout, { size, high, issued, deck });
+  const high = layout.central + size, deck = high + FRAME_WORDS + size;
+  Object.assign(layout, { size, high, deck });
   return deck;
 }
 
@@ -25,7 +25,6 @@ const isCentral = (place) => place >= layout.central && place < layout.high;
 const isWord = (place) => isFrame(place) || isCentral(place); // whether its number has 60 bits
 const upperOf = (place) => layout.high + (isFrame(place) ? place - layout.frame : FRAME_WORDS + place - layout.central);
 const wordOfUpper = (place) => (place - layout.high < FRAME_WORDS ? layout.frame + place - layout.high : place - FRAME_WORDS - layout.size);
-
 const octal = (number, digits = 1) => number.toString(8).padStart(digits, "0");
 const two = (number) => octal(number, 2);
 const four = (number) => octal(number, 4);

@@ -124,10 +124,7 @@ class LibrarySession {
     const [kept, ahead, capacity, changed] = this.results(4);
     return { kept, ahead, capacity, changed: changed === 1 };
   }
-  close() {
-    this.call("close");
-    this.release();
-  }
+  close() { this.call("close"); this.release(); }
 }
 
 if (typeof module !== "undefined") module.exports = { STATUS, LibraryError, LibrarySession, openLibrary };

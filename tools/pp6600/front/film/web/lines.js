@@ -38,13 +38,13 @@ function lineAt(n, address, cell) {
 // The line of a processor's next turn; in a block transfer that which began it.
 function lineOfNext(n) {
   const { block } = nextOf(n), p = film.numbers[register(n, 0)];
-  return lineAt(n, block ? block.address ?? block.issued : p, (address) => cellOf(n, address));
+  return lineAt(n, block ? block.address ?? issuedAt(n, film.at) : p, (address) => cellOf(n, address));
 }
 
 // The line of a turn that was made; its words are those of its instruction.
 function lineOfMoment(moment) {
-  const { word, second, block } = turnOf(moment), p = film.p[moment];
-  if (block) return NO_LINE;
+  const { word, second, isBlock } = turnOf(moment), p = film.p[moment];
+  if (isBlock) return NO_LINE;
   return lineAt(film.processor[moment], p, (address) => (address === p ? word : second === "" ? -1 : parseInt(second, 8)));
 }
 

@@ -2,12 +2,22 @@
 
 const numberButtons = []; // each a button with the place that it shows
 
+// Makes an element, with what is in it.
+function make(kind, properties, ...parts) {
+  const element = Object.assign(document.createElement(kind), properties);
+  element.append(...parts);
+  return element;
+}
+
+const makeButton = (className, textContent, onclick, more = {}) => make("button", { type: "button", className, textContent, onclick, ...more });
+const addTo = (parent, element) => { parent.append(element); return element; };
+const setText = (element, text) => { if (element.textContent !== text) element.textContent = text; };
+const tableOf = (id) => document.querySelector(`#${id} table`);
+const addHead = (table, words) => table.createTHead().insertRow().append(...words.map((word) => make("th", { scope: "col", textContent: word })));
+
 // Adds a button that shows the number at a place.
 function addNumber(parent, name) {
-  const button = document.createElement("button");
-  button.className = "number";
-  button.type = "button";
-  parent.append(button);
+  const button = addTo(parent, makeButton("number", "", null));
   numberButtons.push(button);
   setPlace(button, name);
   return button;
@@ -20,20 +30,13 @@ function setPlace(button, name) {
   button.title = button.place.name;
 }
 
-function setText(element, text) {
-  if (element.textContent !== text) element.textContent = text;
-}
-
 // Shows an instruction; what it does is said to who points at it.
 function setInstruction(element, text) {
-  if (element.textContent === text) return;
-  element.textContent = text;
-  element.title = meaningOf(text.slice(0, 3));
+  if (element.textContent !== text) Object.assign(element, { textContent: text, title: meaningOf(text.slice(0, 3)) });
 }
 
 function showNumbers() {
-  const changed = new Set(film.places.subarray(film.starts[film.at], film.starts[film.at + 1]));
-  const chosen = shown.chosen && shown.chosen.name;
+  const changed = new Set(film.places.subarray(film.starts[film.at], film.starts[film.at + 1])), chosen = shown.chosen && shown.chosen.name;
   for (const button of numberButtons) {
     if (button.hidden) continue;
     setText(button, textAt(button.place));
@@ -42,23 +45,13 @@ function showNumbers() {
   }
 }
 
-function addRow(table, cells) {
+// Adds a row of texts to a table; those of these cells are names.
+function addRow(table, cells, ...names) {
   const row = table.insertRow();
   for (const text of cells) row.insertCell().textContent = text;
+  for (const at of names) row.cells[at].className = "name";
   return row;
 }
-
-function addHead(table, words) {
-  const row = table.createTHead().insertRow();
-  for (const word of words) {
-    const cell = document.createElement("th");
-    cell.scope = "col";
-    cell.textContent = word;
-    row.append(cell);
-  }
-}
-
-const tableOf = (id) => document.querySelector(`#${id} table`);
 
 // ---- processors and channels
 
@@ -70,13 +63,11 @@ function buildProcessors() {
   addHead(table, PROCESSOR_HEADS);
   const body = table.createTBody();
   for (let n = 0; n < PROCESSORS; n++) {
-    const row = addRow(body, ["", `PP ${two(n)}`, "", "", "", "", "", "", ""]);
-    const cells = [...row.cells];
+    const row = addRow(body, ["", `PP ${two(n)}`, "", "", "", "", "", "", ""], 1), cells = [...row.cells];
     cells.forEach((cell, at) => { cell.dataset.head = PROCESSOR_HEADS[at]; });
-    cells[1].className = "name";
     cells[1].onclick = () => chooseMemory(n);
     addNumber(cells[2], `P ${two(n)}`);
-    const words = [addNumber(cells[3], `M ${two(n)} 0000`), addNumber(cells[3], `M ${two(n)} 0001`)];
+    const words = [0, 1].map((at) => addNumber(cells[3], `M ${two(n)} ${four(at)}`));
     [["A", 5], ["Q", 6], ["PHASE", 7]].forEach(([name, at]) => addNumber(cells[at], `${name} ${two(n)}`));
     processorRows.push({ row, words, mark: cells[0], name: cells[4], wait: cells[8] });
   }
@@ -84,8 +75,7 @@ function buildProcessors() {
 
 function showProcessors() {
   processorRows.forEach(({ row, words, mark, name, wait }, n) => {
-    const p = film.numbers[register(n, 0)], next = nextOf(n);
-    const isNext = film.numbers[layout.slot] === n;
+    const p = film.numbers[register(n, 0)], next = nextOf(n), isNext = film.numbers[layout.slot] === n;
     words.forEach((button, at) => setPlace(button, `M ${two(n)} ${four((p + at) % CELLS)}`));
     words[1].hidden = !next.second;
     setText(mark, isNext ? ">" : "");
@@ -102,10 +92,8 @@ function buildChannels() {
   addHead(table, ["", "state", "", "register", ""]);
   const body = table.createTBody();
   for (let c = 0; c <= CHANNELS; c++) {
-    const row = addRow(body, [`H ${two(c)}`, "", "", "", c === CLOCK ? "clock" : film.devices[c] || ""]);
-    row.cells[0].className = "name";
+    const row = addRow(body, [`H ${two(c)}`, c < CHANNELS ? "" : "F", "", "", c === CLOCK ? "clock" : film.devices[c] || ""], 0);
     if (c < CHANNELS) addNumber(row.cells[1], `STATE ${two(c)}`);
-    else row.cells[1].textContent = "F";
     addNumber(row.cells[3], `H ${two(c)}`);
     channelRows.push({ row, state: row.cells[2] });
   }
@@ -123,47 +111,43 @@ function showChannels() {
 
 // The window of memory; it follows the turns until a processor or a cell is chosen.
 const memory = { rows: [], processor: 0, follows: true, from: "P", first: 0, at: 0, as: "numbers" };
-const MEMORY_ROWS = 16;
+const MEMORY_ROWS = 16, CENTRAL_ROWS = 8;
 
-function buildMemory() {
-  const table = tableOf("cells"), body = table.createTBody();
-  addHead(table, ["", ..."01234567", "display code"]);
-  for (let at = 0; at < MEMORY_ROWS; at++) {
-    const row = addRow(body, Array(10).fill(""));
-    row.cells[0].className = "name";
-    row.cells[9].className = "text";
-    const buttons = [...row.cells].slice(1, 9).map((cell) => addNumber(cell, "M 00 0000"));
-    memory.rows.push({ row, buttons });
-  }
-  const select = byId("memory-of");
-  select.add(new Option("", ""));
-  for (let n = 0; n < PROCESSORS; n++) select.add(new Option(`PP ${two(n)}`, n));
-  select.onchange = () => (select.value ? chooseMemory(Number(select.value)) : followTurns());
-  byId("memory-from").onchange = () => { memory.from = byId("memory-from").value; show(); };
-  byId("memory-form").onsubmit = (event) => {
+// Calls a function with the octal number that is typed in a field, if it has at most so many digits.
+function onOctal(form, field, digits, act) {
+  byId(form).onsubmit = (event) => {
     event.preventDefault();
-    const at = byId("memory-at").value;
-    if (/^[0-7]{1,4}$/.test(at)) showCell(memory.processor, parseInt(at, 8), true);
+    if (new RegExp(`^[0-7]{1,${digits}}$`).test(byId(field).value)) act(parseInt(byId(field).value, 8));
   };
 }
 
-function chooseMemory(processor) {
-  Object.assign(memory, { processor, follows: false });
-  show();
+const setField = (id, text) => { if (document.activeElement !== byId(id)) byId(id).value = text; };
+
+function buildMemory() {
+  const table = tableOf("cells"), body = table.createTBody(), select = byId("memory-of");
+  addHead(table, ["", ..."01234567", "display code"]);
+  for (let at = 0; at < MEMORY_ROWS; at++) {
+    const row = addRow(body, Array(10).fill(""), 0);
+    row.cells[9].className = "text";
+    memory.rows.push({ row, buttons: [...row.cells].slice(1, 9).map((cell) => addNumber(cell, "M 00 0000")) });
+  }
+  select.add(new Option("", ""));
+  for (let n = 0; n < PROCESSORS; n++) select.add(new Option(`PP ${two(n)}`, n));
+  select.onchange = () => (select.value ? chooseMemory(Number(select.value)) : followTurns());
+  byId("memory-from").onchange = () => showMemoryAs({ from: byId("memory-from").value });
+  onOctal("memory-form", "memory-at", 4, (at) => showCell(memory.processor, at, true));
 }
 
-function followTurns() {
-  Object.assign(memory, { follows: true, from: "P" });
-  show();
-}
+const showMemoryAs = (changed) => { Object.assign(memory, changed); show(); };
+const chooseMemory = (processor) => showMemoryAs({ processor, follows: false });
+const followTurns = () => showMemoryAs({ follows: true, from: "P" });
 
 // Keeps the window at a processor, and moves it so that it has a cell.
 function showCell(processor, address, always) {
-  const shownNow = memory.processor === processor && ((address - memory.first + CELLS) % CELLS) < 8 * MEMORY_ROWS;
+  const isShown = memory.processor === processor && ((address - memory.first + CELLS) % CELLS) < 8 * MEMORY_ROWS;
   if (always) memory.first = address & 0o7770;
-  else if (!shownNow) memory.first = (address - 0o40 + CELLS) & 0o7770;
-  Object.assign(memory, { processor, follows: false, from: "at", at: address });
-  show();
+  else if (!isShown) memory.first = (address - 0o40 + CELLS) & 0o7770;
+  showMemoryAs({ processor, follows: false, from: "at", at: address });
 }
 
 // The processor whose cell or register a line has set, or -1.
@@ -179,51 +163,41 @@ function showMemory() {
   if (memory.from === "P") memory.first = (p - 0o40 + CELLS) & 0o7740;
   byId("memory-of").value = memory.follows ? "" : n;
   byId("memory-from").value = memory.from;
-  if (document.activeElement !== byId("memory-at")) byId("memory-at").value = four(memory.first);
+  setField("memory-at", four(memory.first));
   setText(document.querySelector("#memory .on-paper"), ` of PP ${two(n)}`);
   setText(byId("memory-of").options[0], memory.follows ? `PP ${two(n)}, follows the turns` : "follow the turns");
   memory.rows.forEach(({ row, buttons }, at) => {
-    const first = (memory.first + 8 * at) % CELLS;
+    const first = (memory.first + 8 * at) % CELLS, addresses = buttons.map((_, index) => (first + index) % CELLS);
     setText(row.cells[0], four(first));
-    let text = "";
     buttons.forEach((button, index) => {
-      const address = (first + index) % CELLS;
       button.hidden = memory.as !== "numbers";
-      setPlace(button, `M ${two(n)} ${four(address)}`);
-      button.classList.toggle("at-p", address === p);
-      text += displayCode(film.numbers[n * CELLS + address]);
+      setPlace(button, `M ${two(n)} ${four(addresses[index])}`);
+      button.classList.toggle("at-p", addresses[index] === p);
     });
-    setText(row.cells[9], text);
+    setText(row.cells[9], addresses.map((address) => displayCode(cellOf(n, address))).join(""));
   });
   showProgram();
 }
 
 const central = { rows: [], first: 0 };
-const CENTRAL_ROWS = 8;
 
 function buildCentral() {
   const body = tableOf("central").createTBody();
   for (let at = 0; at < CENTRAL_ROWS; at++) {
-    const row = addRow(body, ["", ""]);
-    row.cells[0].className = "name";
+    const row = addRow(body, ["", ""], 0);
     central.rows.push({ row, button: addNumber(row.cells[1], "C 000000") });
   }
-  byId("central-form").onsubmit = (event) => {
-    event.preventDefault();
-    const at = byId("central-at").value;
-    if (/^[0-7]{1,6}$/.test(at)) showCentralWord(parseInt(at, 8), true);
-  };
+  onOctal("central-form", "central-at", 6, (at) => showCentralWord(at, true));
 }
 
 function showCentralWord(address, always) {
-  const last = layout.size - CENTRAL_ROWS;
-  if (always || address < central.first || address >= central.first + CENTRAL_ROWS) central.first = Math.min(address, last);
+  if (always || address < central.first || address >= central.first + CENTRAL_ROWS) central.first = Math.min(address, layout.size - CENTRAL_ROWS);
   byId("central").hidden = false;
   show();
 }
 
 function showCentral() {
-  if (document.activeElement !== byId("central-at")) byId("central-at").value = octal(central.first, 6);
+  setField("central-at", octal(central.first, 6));
   central.rows.forEach(({ row, button }, at) => {
     setText(row.cells[0], octal(central.first + at, 6));
     setPlace(button, `C ${octal(central.first + at, 6)}`);
@@ -231,20 +205,18 @@ function showCentral() {
 }
 
 function buildFrame() {
-  const table = tableOf("frame");
   for (let at = 0; at < FRAME_WORDS / 2; at++) {
-    const row = addRow(table, [two(at), "", two(at + 8), ""]);
-    row.cells[0].className = row.cells[2].className = "name";
-    addNumber(row.cells[1], `XP ${two(at)}`);
-    addNumber(row.cells[3], `XP ${two(at + 8)}`);
+    const row = addRow(tableOf("frame"), [two(at), "", two(at + 8), ""], 0, 2);
+    [at, at + 8].forEach((word, half) => addNumber(row.cells[1 + 2 * half], `XP ${two(word)}`));
   }
 }
 
 // The parts of the machine that the film uses, of those that not every run uses.
-const parts = { frame: false, reader: false, printer: false, central: -1 };
+let parts;
 
-// Shows those that the moments from a first one on use.
+// Shows those that the moments from a first one on use; with 0 the film is another one.
 function showParts(first) {
+  if (!first) parts = { frame: false, reader: false, printer: false, central: -1 };
   for (let at = film.starts[first]; at < film.places.length; at++) {
     const place = film.places[at];
     if (place < layout.frame || place === layout.slot) continue;
@@ -256,15 +228,9 @@ function showParts(first) {
   byId("frame").hidden = !parts.frame;
   byId("reader").hidden = film.deck.length === 0 && !parts.reader;
   byId("printer").hidden = !parts.printer;
-  if (parts.central < 0 || !byId("central").hidden) return;
-  central.first = Math.min(parts.central & ~7, layout.size - CENTRAL_ROWS);
-  byId("central").hidden = false;
-}
-
-// Forgets what another session used.
-function forgetParts() {
-  Object.assign(parts, { frame: false, reader: false, printer: false, central: -1 });
-  byId("central").hidden = true;
+  if (first && (parts.central < 0 || !byId("central").hidden)) return;
+  central.first = Math.min(Math.max(parts.central, 0) & ~7, layout.size - CENTRAL_ROWS);
+  byId("central").hidden = parts.central < 0;
 }
 
 // ---- devices and watches
@@ -286,23 +252,17 @@ function showPanel() {
 }
 
 function buildReader() {
-  for (const name of [".cards", ".columns", ".device"]) document.querySelector(`#reader ${name}`).textContent = "";
+  const [cards, columns, line] = [".cards", ".columns", ".device"].map((name) => document.querySelector(`#reader ${name}`));
+  cards.textContent = columns.textContent = line.textContent = "";
   cardRows.length = columnCells.length = 0;
-  const line = document.querySelector("#reader .device");
   addLine(line, `H ${two(film.reader)} CARD @CARD OF ${four(film.deck.length)} COLUMN @CARD-COLUMN MODE @CARD-MODE`);
-  const cards = document.querySelector("#reader .cards");
   film.deck.forEach((card, at) => {
-    const row = document.createElement("div");
-    row.textContent = `  ${four(at)} ${card.map(displayCode).join("").trimEnd()}`;
-    row.title = row.textContent.trim(); // all of a text that is cut
-    cards.append(row);
-    cardRows.push(row);
+    const title = `${four(at)} ${card.map(displayCode).join("").trimEnd()}`; // all of a text that is cut
+    cardRows.push(addTo(cards, make("div", { title, textContent: `  ${title}` })));
   });
-  const columns = document.querySelector("#reader .columns");
-  for (let at = 0; at < (film.deck.length ? 80 : 0); at++) {
-    const cell = document.createElement("span");
-    columns.append(cell, " ");
-    columnCells.push(cell);
+  for (let at = 0; at < (film.deck.length ? COLUMNS : 0); at++) {
+    columnCells.push(addTo(columns, make("span", {})));
+    columns.append(" ");
   }
 }
 
@@ -322,8 +282,7 @@ function showReader() {
 }
 
 function buildPrinter() {
-  const line = document.querySelector("#printer .device");
-  addLine(line, `H ${two(film.printer)} SYMBOLS @SYMBOLS COLUMN @PAPER-COLUMN MODE @PAPER-MODE`);
+  addLine(document.querySelector("#printer .device"), `H ${two(film.printer)} SYMBOLS @SYMBOLS COLUMN @PAPER-COLUMN MODE @PAPER-MODE`);
 }
 
 function showPrinter() {
@@ -336,71 +295,44 @@ function showPrinter() {
 let watchesShown = null;
 
 function showWatches() {
-  const watches = watchesIn(film.numbers).map(({ name }) => name), text = watches.join(", ") || "NONE";
-  byId("watches").hidden = !watches.length && !film.lines.some((line) => /^\s*watch\b/i.test(line.text));
+  const names = watched(), text = names.join(", ") || "NONE", list = document.querySelector("#watches .list");
+  byId("watches").hidden = !names.length && !film.lines.some((line) => /^\s*watch\b/i.test(line.text));
   if (text === watchesShown) return;
   watchesShown = text;
-  const list = document.querySelector("#watches .list");
-  list.textContent = "";
+  list.textContent = names.length ? "" : "NONE";
   for (let at = numberButtons.length - 1; at >= 0; at--) if (numberButtons[at].isWatch) numberButtons.splice(at, 1);
-  for (const watch of watches) {
-    const line = document.createElement("div");
-    line.append(`${watch}  `);
-    addNumber(line, watch).isWatch = true;
-    list.append(line);
-  }
-  if (!watches.length) list.textContent = "NONE";
+  for (const name of names) addNumber(addTo(list, make("div", {}, `${name}  `)), name).isWatch = true;
 }
 
 // ---- the script and the other files of the run
 
 const lineRows = [];
+let lineShown = -1;
 
 // Adds the lines that are not in the list yet.
 function addLines() {
-  const list = document.querySelector("#script ol");
-  for (const line of film.lines.slice(lineRows.length)) {
-    const number = lineRows.length;
-    const item = document.createElement("li"), button = document.createElement("button");
-    button.type = "button";
-    button.textContent = line.text || " ";
-    button.className = "line";
-    button.onclick = () => moveTo(film.lines[number].moment);
-    item.append(button);
-    item.className = line.text.trim().startsWith("*") ? "note" : line.acts ? "acts" : "";
-    if (line.answer.length) {
-      const answer = document.createElement("pre");
-      answer.textContent = [...line.answer, ...(line.why ? [`  ${line.why}`] : [])].join("\n");
-      item.append(answer);
-    }
-    list.append(item);
-    lineRows.push(item);
-  }
+  film.lines.slice(lineRows.length).forEach((line) => {
+    const answer = line.answer.length ? [make("pre", { textContent: line.answer.join("\n") })] : [];
+    const className = line.text.trim().startsWith("*") ? "note" : line.acts ? "acts" : "";
+    const item = make("li", { className }, makeButton("line", line.text || " ", () => moveTo(line.moment)), ...answer);
+    lineRows.push(addTo(document.querySelector("#script ol"), item));
+  });
 }
 
 // A button for each file of the run, which saves it; and how one runs them again.
 function buildFiles() {
   for (const file of film.files) {
-    const button = document.createElement("button");
-    button.type = "button";
-    button.textContent = file.name === file.kind ? `save ${file.kind}` : `save ${file.kind}: ${file.name}`;
-    button.onclick = () => saveFile(file);
-    byId("files").append(button);
+    const text = file.name === file.kind ? `save ${file.kind}` : `save ${file.kind}: ${file.name}`;
+    byId("files").append(makeButton("", text, () => saveBytes(bytesOfText(file.bytes), file.name)));
   }
   setText(byId("again"), film.again && `To run it again: ${film.again}`);
 }
 
-const saveFile = (file) => saveBytes(Uint8Array.from(file.bytes, (letter) => letter.charCodeAt(0)), file.name);
-
-function saveBytes(bytes, name) {
-  const link = document.createElement("a");
-  link.href = URL.createObjectURL(new Blob([bytes], { type: "application/octet-stream" }));
-  link.download = name;
-  link.click();
-  setTimeout(() => URL.revokeObjectURL(link.href), 60000);
+function saveBytes(bytes, download) {
+  const href = URL.createObjectURL(new Blob([bytes], { type: "application/octet-stream" }));
+  make("a", { href, download }).click();
+  setTimeout(() => URL.revokeObjectURL(href), 60000);
 }
-
-let lineShown = -1;
 
 function forgetLines() {
   lineRows.length = 0;
@@ -409,26 +341,21 @@ function forgetLines() {
 }
 
 function showScript() {
-  const at = film.lineAt[film.at];
+  const at = film.lineAt[film.at], row = lineRows[at];
   if (at === lineShown) return;
   if (lineRows[lineShown]) lineRows[lineShown].removeAttribute("aria-current");
   lineShown = at;
-  const row = lineRows[at];
   if (!row) return;
   row.setAttribute("aria-current", "true");
-  const list = row.parentElement;
-  list.scrollTop = row.offsetTop - list.clientHeight / 3;
+  row.parentElement.scrollTop = row.offsetTop - row.parentElement.clientHeight / 3;
 }
 
 // To the line of the script before or after that does something.
 function moveLine(direction) {
-  const lines = film.lines.filter((line) => line.acts);
-  const at = lines.indexOf(lineOf(film.at));
-  const onLast = at >= 0 && film.at === lines[at].moment;
+  const lines = film.lines.filter((line) => line.acts), at = lines.indexOf(lineOf(film.at)), target = lines[at + direction];
   if (direction < 0 && at >= 0 && film.at > lines[at].first) return moveTo(lines[at].first - 1);
-  if (direction > 0 && at >= 0 && !onLast) return moveTo(lines[at].moment);
-  const target = lines[at + direction];
-  moveTo(target ? target.moment : direction < 0 ? 0 : film.count - 1);
+  if (direction > 0 && at >= 0 && film.at !== lines[at].moment) return moveTo(lines[at].moment);
+  return moveTo(target ? target.moment : direction < 0 ? 0 : lastMoment());
 }
 
 // ---- what is cut
@@ -436,9 +363,7 @@ function moveLine(direction) {
 // Above each part that may be wider or higher than its room a line says on which sides there is more.
 function buildSigns() {
   for (const box of document.querySelectorAll(".wide")) {
-    const sign = document.createElement("p");
-    sign.className = "sign";
-    box.before(sign);
+    box.before(make("p", { className: "sign" }));
     box.addEventListener("scroll", () => showSign(box));
   }
 }

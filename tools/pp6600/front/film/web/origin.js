@@ -38,7 +38,7 @@ function isAgain(step) {
   if (sources.length !== 1 || sources[0].place !== step.place || !isTurnStep(before) || is(before, MOVED | BY_DEVICE)) return null;
   const isSame = film.processor[before.moment] === film.processor[step.moment] && film.turned[before.moment] === film.turned[step.moment];
   if (!isSame) return null;
-  if (turnOf(step.moment).block) return phaseChanged(before.moment, step.moment) ? null : before;
+  if (turnOf(step.moment).isBlock) return phaseChanged(before.moment, step.moment) ? null : before;
   return film.p[before.moment] === film.p[step.moment] ? before : null;
 }
 
@@ -162,27 +162,18 @@ function findOrigin() {
   if (!place || !HAVE_AN_ORIGIN.includes(place.kind)) return;
   if (shown.origin) return showNoOrigin();
   shown.origin = linesOfOrigin(originOf(writtenPlace(place), film.at));
-  const list = byId("origin");
-  list.textContent = "";
-  for (const { step, depth, text } of shown.origin) {
-    const item = document.createElement("li"), button = document.createElement("button");
-    button.type = "button";
-    button.className = "line";
-    button.textContent = text;
-    button.disabled = step.moment <= 0;
-    button.onclick = byHand(() => moveTo(step.moment));
+  byId("origin").replaceChildren(...shown.origin.map(({ step, depth, text }) => {
+    const item = make("li", {}, makeButton("line", text, byHand(() => moveTo(step.moment)), { disabled: step.moment <= 0 }));
     item.style.marginLeft = `${depth}em`;
-    item.append(button);
-    list.append(item);
-  }
-  list.hidden = false;
-  markOrigin();
-  drawLanes();
+    return item;
+  }));
+  showOrigin();
 }
 
-function showNoOrigin() {
-  shown.origin = null;
-  byId("origin").hidden = true;
+function showNoOrigin() { shown.origin = null; showOrigin(); }
+
+function showOrigin() {
+  byId("origin").hidden = !shown.origin;
   markOrigin();
   drawLanes();
 }

@@ -8,11 +8,8 @@ function buildPictures() {
   document.body.classList.toggle("pictured", devices.length > 0);
   document.body.style.setProperty("--pictures", devices.length);
   for (const { name, channel } of devices) {
-    const figure = document.createElement("figure"), title = document.createElement("figcaption"), element = document.createElement("div");
-    const line = document.createElement("p");
-    title.textContent = `${name} on channel ${two(channel)}`;
-    figure.append(title, line, element);
-    byId("pictures").append(figure);
+    const element = make("div", {}), line = make("p", {});
+    byId("pictures").append(make("figure", {}, make("figcaption", { textContent: `${name} on channel ${two(channel)}` }), line, element));
     pictures.push({ element, line, lines: null });
   }
 }

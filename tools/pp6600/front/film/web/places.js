@@ -51,7 +51,7 @@ const textAt = (place) => textOf(place.kind, place.places.map((at) => film.numbe
 
 // The name of the place with this number in the row; "" of one that has none.
 function nameOf(place) {
-  if (place >= layout.issued) return "";
+  if (place >= layout.deck) return "";
   if (place >= layout.high) return nameOf(wordOfUpper(place));
   if (place >= layout.central) return `C ${octal(place - layout.central, 6)}`;
   if (place >= layout.watches) return "";
@@ -72,9 +72,15 @@ function nameOf(place) {
 const turnOf = (moment) => film.next[film.turned[moment]];
 
 function turnText(moment) {
-  const n = film.processor[moment], { name, second, block } = turnOf(moment);
-  if (!block) return `PP ${two(n)}, ${`${name} ${second}`.trim()} at ${named(n, film.p[moment])}${lineOfSource(n, lineOfMoment(moment))}`;
-  return `PP ${two(n)}, in the block of ${name}` + (block.issued === null ? "" : ` at ${named(n, block.issued)}`);
+  const n = film.processor[moment], { name, second, isBlock } = turnOf(moment), issued = isBlock ? issuedAt(n, moment - 1) : null;
+  if (!isBlock) return `PP ${two(n)}, ${`${name} ${second}`.trim()} at ${named(n, film.p[moment])}${lineOfSource(n, lineOfMoment(moment))}`;
+  return `PP ${two(n)}, in the block of ${name}` + (issued === null ? "" : ` at ${named(n, issued)}`);
+}
+
+// Where the block transfer was issued that a processor is in after a moment; null if no turn that is known issued it.
+function issuedAt(n, moment) {
+  const at = changeBefore(film.phases[n], moment);
+  return at > 0 && isTurn(at) && film.processor[at] === n ? film.p[at] : null;
 }
 
 // Who changed a place.

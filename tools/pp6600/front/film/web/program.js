@@ -38,11 +38,11 @@ function programWindow(n, top, address, count, heads) {
   return more.slice(at - before, at - before + count);
 }
 
-// What the next turn of a processor does: its instruction, in a block transfer where that was issued, where it is if it is still there, and
-// where it goes on; and for which channel it waits.
+// What the next turn of a processor does: its instruction, in a block transfer where that is if it is still there, and where it
+// goes on; and for which channel it waits.
 function nextOf(n) {
-  const one = turning.processor(film.numbers, n), address = turning.addressOf(one), issued = film.numbers[layout.issued + n];
-  const block = one.phase ? { issued: issued ? issued - 1 : null, address, back: (turning.cell(one, 0) + 1) & 0o7777 } : null;
+  const one = turning.processor(film.numbers, n), address = turning.addressOf(one);
+  const block = one.phase ? { address, back: (turning.cell(one, 0) + 1) & 0o7777 } : null;
   return { name: turning.nameOf(one), second: turning.secondOf(one), block, waits: turning.waits(one), one };
 }
 
@@ -73,7 +73,7 @@ function buildProgram() {
     const buttons = [0, 1].map(() => addNumber(row.cells[2], "M 00 0000"));
     program.rows.push({ row, buttons, point: addBreakpoint(row.cells[1]) });
   }
-  byId("memory-as").onchange = () => { memory.as = byId("memory-as").value; show(); };
+  byId("memory-as").onchange = () => showMemoryAs({ as: byId("memory-as").value });
 }
 
 function showProgram() {

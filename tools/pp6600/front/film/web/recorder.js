@@ -2,10 +2,7 @@
 
 // A row of numbers that grows.
 class Row {
-  constructor(Kind) {
-    this.numbers = new Kind(1024);
-    this.length = 0;
-  }
+  constructor(Kind) { this.numbers = new Kind(1024); this.length = 0; }
 
   push(number) {
     if (this.length === this.numbers.length) {
@@ -37,9 +34,7 @@ class Recorder {
     this.instructions = new Map(); // the number of its row in `next` of each instruction
     this.sent = { next: 0, constants: 0 };
     this.next = [];
-    this.issued = { positions: [], processors: [], were: [], are: [] }; // each change of where a block transfer began
     this.count = 0; // moments
-    this.position = 0; // actions in effect
     this.endMoment(LINE, 0, 0, 0);
   }
 
@@ -50,7 +45,7 @@ class Recorder {
     const { numbers } = this.simulator;
     this.one = turning.processor(numbers, n);
     this.states = [numbers[layout.states + this.reader], numbers[layout.states + this.printer]];
-    this.row = this.rowOf(this.one, numbers[layout.issued + n]);
+    this.row = this.rowOf(this.one);
   }
 
   tell(place, was, now) {
@@ -60,16 +55,10 @@ class Recorder {
   }
 
   end(n) {
-    this.position++;
-    if (n === NO_TURN) {
-      if (this.isDeadStart) this.forgetIssued();
-      return this.endMoment(LINE, 0, 0, 0);
-    }
+    if (n === NO_TURN) return this.endMoment(LINE, 0, 0, 0);
     const { numbers } = this.simulator, { one } = this, add = (...write) => this.addWrite(...write);
     const kind = turning.kindOf(one, numbers), made = turning.writes(one, numbers, add);
     this.addWritesOfDevices(made);
-    const phase = numbers[register(n, 3)];
-    if (phase !== one.phase) this.noteIssued(n, phase ? one.p + 1 : 0);
     return this.endMoment(kind, n, one.p, this.row);
   }
 
@@ -111,41 +100,13 @@ class Recorder {
     return this.readerModes[mode] === "READING" ? [layout.deck + COLUMNS * card + column - 1, 0] : [];
   }
 
-  // ---- where block transfers began, which is no number of the machine
-
-  noteIssued(n, address) {
-    const place = layout.issued + n, { positions, processors, were, are } = this.issued;
-    positions.push(this.position);
-    processors.push(n);
-    were.push(this.simulator.numbers[place]);
-    are.push(address);
-    this.simulator.note(place, address, this);
-  }
-
-  // Puts them back to what they were after so many actions, or forward again.
-  moveIssued(from, to) {
-    const { positions, processors, were, are } = this.issued, put = (at, all) => this.simulator.note(layout.issued + processors[at], all[at], this);
-    if (to < from) {
-      for (let at = positions.length - 1; at >= 0 && positions[at] > to; at--) if (positions[at] <= from) put(at, were);
-    } else {
-      for (let at = 0; at < positions.length && positions[at] <= to; at++) if (positions[at] > from) put(at, are);
-    }
-  }
-
-  // Forgets what was ahead: another action takes its place.
-  cut() {
-    const { positions, processors, were, are } = this.issued;
-    while (positions.length && positions[positions.length - 1] > this.position) for (const one of [positions, processors, were, are]) one.pop();
-  }
-
   // ---- the rows of instructions
 
-  // The number of the row for an instruction that a processor is about to perform; in a block transfer that began at an address, or 0.
-  rowOf(one, issued) {
-    const second = turning.secondOf(one), key = `${one.word} ${second} ${one.phase ? issued : "-"}`;
+  // The number of the row for an instruction that a processor is about to perform, or that began its block transfer.
+  rowOf(one) {
+    const second = turning.secondOf(one), isBlock = one.phase !== 0, key = `${one.word} ${second} ${isBlock}`;
     if (!this.instructions.has(key)) {
-      const block = one.phase ? { issued: issued ? issued - 1 : null } : null;
-      this.instructions.set(key, this.next.push({ name: turning.nameOf(one), word: one.word, second, block }) - 1);
+      this.instructions.set(key, this.next.push({ name: turning.nameOf(one), word: one.word, second, isBlock }) - 1);
     }
     return this.instructions.get(key);
   }
@@ -153,24 +114,10 @@ class Recorder {
   // ---- other actions
 
   // A line that is one action: what it writes, each place with the number of its word (of the panel at a dead start), or 0.
-  addWritesOfLine(words) {
-    this.isDeadStart = words[0] === "DEADSTART"; // which puts processors into blocks that no instruction began
-    for (const [place, word] of placesOfSetting(words)) this.addWrite(place, word, []);
-  }
+  addWritesOfLine(words) { for (const [place, word] of placesOfSetting(words)) this.addWrite(place, word, []); }
 
   // Reads all numbers after a BACK or FORWARD, or after turns that were not recorded.
-  readAll(kind, position) {
-    this.simulator.readAll((place, was, now) => this.tell(place, was, now));
-    if (kind === JUMP) this.moveIssued(this.position, position);
-    else this.forgetIssued();
-    this.position = position;
-    this.endMoment(kind, 0, 0, 0);
-  }
-
-  // After turns that were not recorded it is not known where the block transfers began.
-  forgetIssued() {
-    for (let n = 0; n < PROCESSORS; n++) if (this.simulator.numbers[layout.issued + n]) this.noteIssued(n, 0);
-  }
+  readAll(kind) { this.simulator.readAll((place, was, now) => this.tell(place, was, now)); this.endMoment(kind, 0, 0, 0); }
 
   // What has come since the last delivery.
   take() {

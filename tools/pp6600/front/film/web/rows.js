@@ -7,7 +7,6 @@ const RATES = [1, 8, 64, 512, 4096];
 
 let film; // what the page is made of; see openRows
 let shown = { moment: -1, chosen: null, playing: null };
-
 const byId = (name) => document.getElementById(name);
 const isTurn = (moment) => film.kinds[moment] < LINE;
 
@@ -32,6 +31,7 @@ const emptyRows = () => ({
   writes: { starts: new Uint32Array(1), places: new Int32Array(0), whats: new Int32Array(0), firsts: new Uint32Array(1),
     sources: new Int32Array(0), parts: new Uint8Array(0) },
   lines: [], next: [], constants: [], jumps: new Map(), skips: new Map(), breaks: [], // breaks: the moments of jumps and skips
+  phases: Array.from({ length: PROCESSORS }, () => []), // of each processor the moments that changed its phase
   highestTurn: 0, position: 0,
 });
 
@@ -110,10 +110,7 @@ function goTo(moment) {
 }
 
 // The moment that a BACK or FORWARD leads to, else the moment itself; -1 if it lies in turns that were not recorded.
-function resolve(moment) {
-  while (moment > 0 && film.kinds[moment] === JUMP) [moment] = film.jumps.get(moment);
-  return moment;
-}
+function resolve(moment) { while (moment > 0 && film.kinds[moment] === JUMP) [moment] = film.jumps.get(moment); return moment; }
 
 // Returns the moments that changed one of the places, in their order.
 const momentsThatChanged = (places) => addChanges([], places, 1);

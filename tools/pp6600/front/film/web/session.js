@@ -51,10 +51,7 @@ class Positions {
   ends = new Row(Uint32Array);
   moments = new Row(Uint32Array);
 
-  add(position, moment) {
-    this.ends.push(position);
-    this.moments.push(moment);
-  }
+  add(position, moment) { this.ends.push(position); this.moments.push(moment); }
 
   // How many moments perform actions up to a position.
   upTo(position) { return firstNot(this.ends.length, (at) => this.ends.numbers[at] <= position); }
@@ -137,11 +134,7 @@ class Session {
   }
 
   // What was ahead is gone.
-  cut() {
-    this.tape.cut(this.position);
-    this.positions.cut(this.position);
-    this.recorder.cut();
-  }
+  cut() { this.tape.cut(this.position); this.positions.cut(this.position); }
 
   // The recorder has performed so many actions, each in a moment of its own.
   noted(count) {
@@ -210,7 +203,7 @@ class Session {
     this.tape.addTurns(made);
     session.back(recorded);
     this.skips.push([this.recorder.count, made - recorded]);
-    this.recorder.readAll(SKIP, this.position + made - recorded);
+    this.recorder.readAll(SKIP);
     this.position += made - recorded;
     this.positions.add(this.position, this.recorder.count - 1);
     for (let left = recorded; left > 0;) {
@@ -241,7 +234,7 @@ class Session {
   async backToChange(answer) {
     const watched = this.watchedPlaces();
     if (!watched.length || this.position <= this.simulator.session.counts().kept) return answer;
-    const found = await this.search((met) => new Condition([new ChangeTest(...watched.map((place) => [place, place]))], met), 0, this.position);
+    const found = await this.search((met) => new Condition([changeTest(...watched.map((place) => [place, place]))], met), 0, this.position);
     if (found === null) return answer;
     return this.replayTo(found - 1, `BACK ${octal(this.position - found + 1)}`);
   }
@@ -276,7 +269,7 @@ class Session {
   moved(position) {
     const target = this.positions.momentAt(position);
     this.jumps.set(this.recorder.count, [target, this.tape.turnsAt(position)]);
-    this.recorder.readAll(JUMP, position);
+    this.recorder.readAll(JUMP);
     this.position = position;
   }
 
@@ -327,10 +320,7 @@ class Session {
   // A simulator at a position, with a condition that observes it: where it was met first and last.
   async scout(conditionOf, position) {
     const found = { at: position, first: null, last: null };
-    const condition = conditionOf(() => {
-      found.first = found.first ?? found.at;
-      found.last = found.at;
-    });
+    const condition = conditionOf(() => { found.first = found.first ?? found.at; found.last = found.at; });
     const scout = new Simulator(this.calls, this.options);
     for (const part of this.tape.between(0, position)) await this.replay(scout.session, part);
     scout.readAll(() => {});
@@ -364,9 +354,7 @@ class Session {
 }
 
 // The turns that a STEP asks for, or 0 if the line is none that the simulator takes.
-function turnsOf(words) {
-  return words[0] === "STEP" ? countOf(words) : 0;
-}
+const turnsOf = (words) => (words[0] === "STEP" ? countOf(words) : 0);
 
 // The count of a line with one count at most, or 0.
 function countOf(words) {

@@ -30,10 +30,7 @@ function buildSource() {
 }
 
 // Notes the times of the moments that came to the film after so many.
-function growSource(first) {
-  for (const one of source.of.values()) addTimes(one, Math.max(first, 1));
-  noteLoaded(first);
-}
+function growSource(first) { for (const one of source.of.values()) addTimes(one, Math.max(first, 1)); noteLoaded(first); }
 
 function forgetTimes() {
   for (const one of source.of.values()) {
@@ -60,43 +57,30 @@ function noteLoaded(first) {
 function addTimes(one, first) {
   for (let moment = first; moment < film.count; moment++) {
     if (!isTurn(moment) || film.processor[moment] !== one.processor) continue;
-    const { block } = turnOf(moment), waited = film.kinds[one.last] === WAITING && film.p[one.last] === film.p[moment];
-    const line = block || waited ? NO_LINE : lineOfMoment(moment);
+    const { isBlock } = turnOf(moment), waited = film.kinds[one.last] === WAITING && film.p[one.last] === film.p[moment];
+    const line = isBlock || waited ? NO_LINE : lineOfMoment(moment);
     if (line.number && !line.note) one.times[line.number - 1].push(moment);
     one.last = moment;
   }
   one.rows.forEach(({ button }, at) => { button.disabled = !one.times[at].length; });
 }
 
-// A row of a line: of one with words the address of the first too.
+// A row of a line: of one with words the address of the first too, which chooses its cell.
 function addSourceRow(one, number, text, address) {
-  const element = addRow(one.body, ["", "", "", "", ""]), cells = [...element.cells];
-  const button = document.createElement("button"), written = document.createElement("span");
-  const blanks = text.slice(0, text.length - text.trimStart().length);
-  button.type = "button";
-  button.className = "line";
-  written.textContent = text.trimStart();
-  button.append(text ? blanks : " ", written);
-  button.onclick = (event) => { one.line = number; moveToTime(one, event.shiftKey ? -1 : 1); };
-  cells[4].append(button);
-  button.title = meaningOf(operationIn(text));
-  if (address === undefined) cells[1].textContent = number;
-  else addAddress(cells[2], one.processor, address);
-  const point = address === undefined ? null : addBreakpoint(cells[1], number);
-  cells[1].className = cells[2].className = "name";
-  cells[3].className = "mark";
-  cells[3].append("", " ");
-  element.classList.toggle("note", text.trim().startsWith("*"));
+  const element = addRow(one.body, ["", "", "", "", ""], 1, 2), [at, count, cell, mark, line] = element.cells, written = text.trimStart();
+  const button = addTo(line, makeButton("line", text ? text.slice(0, text.length - written.length) : " ", (event) => {
+    one.line = number;
+    moveToTime(one, event.shiftKey ? -1 : 1);
+  }, { title: meaningOf(operationIn(text)) }));
+  button.append(make("span", { textContent: written }));
+  const point = address === undefined ? null : addBreakpoint(count, number), place = `M ${octal(one.processor)} ${octal(address || 0)}`;
+  if (point) cell.append(makeButton("plain name", four(address), () => choose(placeNamed(place))));
+  else count.textContent = number;
+  mark.className = "mark";
+  mark.append("", " ");
+  element.classList.toggle("note", written.startsWith("*"));
   const words = (film.sources[one.processor].index.ofLine.get(number) || []).filter(({ isSecondWord }) => !isSecondWord);
-  return { element, button, at: cells[0], text: cells[3].firstChild, mark: cells[3], words, point, address, loadedAt: -1, number: null, shown: "" };
-}
-
-// The address of a line chooses its cell.
-function addAddress(cell, n, address) {
-  const button = document.createElement("button");
-  Object.assign(button, { type: "button", className: "plain name", textContent: four(address) });
-  button.onclick = () => choose(placeNamed(`M ${octal(n)} ${octal(address)}`));
-  cell.append(button);
+  return { element, button, at, text: mark.firstChild, mark, words, point, address, loadedAt: -1, number: null, shown: "" };
 }
 
 // It is that of the chosen processor, if this has one.

@@ -8,8 +8,12 @@ const turning = (() => {
   const STATE_LETTERS = "IEFX", NAMED_CONSTANTS = new Set(["d", "m", "dm", "return", "word", "zero", ...Object.keys(STATES)]);
   let tables, constants;
 
+  // Takes the tables as they come: a row has a name, its words, the states in which it goes on, and its effects.
   function open(about) {
-    tables = about;
+    const effectOf = ([place, moved, sources]) => ({ place, moved, sources });
+    const rowOf = ([, words, states, effects]) => ({ words, states, effects: effects.map(effectOf) });
+    const each = (all, made) => Object.fromEntries(Object.entries(all).map(([key, one]) => [key, made(one)]));
+    tables = { ...about, table: about.table.map(rowOf), blocks: each(about.blocks, rowOf), ends: each(about.ends, (some) => some.map(effectOf)) };
     constants = new Map([["", 0]]);
   }
 

@@ -58,7 +58,7 @@ const REQUESTS = {
 
   // Goes on to where one of some conditions comes to hold, or back.
   async until({ texts, back, at, labels }) {
-    const { session } = worker, conditionOf = (met) => new Alternatives(texts.map((text) => parseCondition(text, labels, met)));
+    const { session } = worker, conditionOf = (met) => alternatives(texts.map((text) => parseCondition(text, labels, met)));
     conditionOf(() => {});
     session.checkRoom();
     if (!(await session.goToMoment(at))) return { isGone: true };
