@@ -44,7 +44,7 @@ def arguments_of(words):
 
 
 def is_argument(word):
-    return re.match(r"[A-Za-z][\w.]*:?=", word) is not None
+    return re.match(r"[A-Za-z_][\w.]*:?=", word) is not None
 
 
 def reference(scope):

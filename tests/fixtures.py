@@ -30,6 +30,12 @@ SET M 0 110 7510 7710 7020 7410 7010 7510 3420 300
 SET M 0 120 6000 7400 1411 624
 SET P 0 100
 """
+# Each tool with words that are right, and what those without a simulator read.
+WITH_SIMULATOR = {"changes": ["M", "0", "106"], "origin": ["M", "0", "106"], "save": ["0", "0", "1"],
+                  "compare": ["--other-panel", "examples/dead-start/panel"], "show": [], "state": [], "talk": [], "trace": [],
+                  "until": ["P", "0", "=", "1"], "waits": [], "film": ["-o", "FILM"]}  # FILM is a file in the room of the test
+WITHOUT = {"assemble": [], "deck": [], "disassemble": [], "load": ["0", "100"], "symbols": [], "words": ["--dump", "0"]}
+GIVEN = {"assemble": "  LDN 5\n", "deck": "HELLO.\n", "disassemble": "0100 1405\n", "load": "1405\n", "symbols": "A 5\n", "words": "0100 1405\n"}
 # By the tables of docs/MACHINE.md: in which states of its channel each instruction completes, and each block goes on or ends, and
 # what it waits for.
 COMPLETES = {0o70: ("F", "full"), 0o72: ("E", "empty"), 0o74: ("I", "inactive"), 0o75: ("EFX", "active"), 0o76: ("I", "inactive"),

@@ -64,20 +64,21 @@ def tool(name, *words, script="", **how):
     return run(*PYTHON, os.path.join(TOP, "tools", name), *words, script=script, **how) if how else tool_here(name, *words, script=script)
 
 
-def tool_here(name, *words, script=""):
+def tool_here(name, *words, **how):
     """Runs a tool in this process."""
     from pp6600 import __main__ as tools
     from pp6600.shell import ending
-    return called(lambda: ending.run(lambda: tools.main_of(name)()), name, *words, script=script)
+    return called(lambda: ending.run(lambda: tools.main_of(name)()), name, *words, **how)
 
 
-def called(task, *words, script=""):
-    """Calls what a program does with these words, in this process, with streams of its own, at the top of the repository."""
-    streams, before, folder = (sys.stdin, sys.stdout, sys.stderr), sys.argv, os.getcwd()
+def called(task, *words, script="", folder=TOP, is_one=False):
+    """Calls what a program does with these words, in this process, with streams of its own; the two that are written may be one."""
+    streams, before, here = (sys.stdin, sys.stdout, sys.stderr), sys.argv, os.getcwd()
     handler, named, status = signal.getsignal(signal.SIGINT), os.environ.get("PP6600"), None
     made = [io.TextIOWrapper(io.BytesIO(data), encoding="utf-8", write_through=True) for data in (script.encode("latin-1"), b"", b"")]
+    made[2] = made[1 if is_one else 2]
     sys.argv, os.environ["PP6600"] = list(words), program()
-    os.chdir(TOP)
+    os.chdir(folder)
     try:
         sys.stdin, sys.stdout, sys.stderr = made
         task()
@@ -86,7 +87,7 @@ def called(task, *words, script=""):
     finally:
         sys.stdin, sys.stdout, sys.stderr = streams
         sys.argv = before
-        os.chdir(folder)
+        os.chdir(here)
         signal.signal(signal.SIGINT, handler)
         os.environ.pop("PP6600") if named is None else os.environ.update(PP6600=named)
     return Done(*(stream.buffer.getvalue().decode("utf-8", "replace") for stream in made[1:]), status or 0)

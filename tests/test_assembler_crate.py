@@ -1,4 +1,4 @@
-"""The crate pp_assembler against the assembler in Python.
+"""The crate pp_assembler against the assembler and the disassembler in Python.
 
 crates/test_assembler/stdin has sources, each ended by a line `----`: those of the repository, and others made at random. The program
 test_assembler must write crates/test_assembler/stdout for them, which rt ci compares. This module says whether the two files are what
@@ -14,6 +14,7 @@ from typing import Iterator, List, Optional, Sequence
 
 from .support import TOP, Case, read
 
+from pp6600.language.source.disassembler import Disassembler
 from pp6600.language.source.forms import listing
 from pp6600.language.source.machine import CODES, MNEMONICS
 from pp6600.language.source.messages import Fault
@@ -122,10 +123,13 @@ def answer(lines: Sequence[str]) -> str:
 
 def answer_lines(program: Program) -> Iterator[str]:
     yield from (f"{line}:{column}: {text}" for line, column, text in (*program.messages, *program.warnings))
-    yield from (f"{address:04o} {cell.word:04o} {cell.line}" for address, cell in sorted(program.cells.items()))
+    yield from (f"{address:04o} {cell.word:04o}" for address, cell in sorted(program.cells.items()))
     if program.start is not None:
         yield f"P {program.start:04o}"
     yield from listing(program)
+    if not program.messages:
+        entries = [] if program.start is None else [program.start]
+        yield from Disassembler({address: cell.word for address, cell in program.cells.items()}, entries).lines()
 
 
 class Crate(Case):

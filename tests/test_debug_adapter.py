@@ -7,12 +7,11 @@ import stat
 import subprocess
 import unittest
 
-from tests.debug_client import ADAPTER, HAS_GO, SCOPES, Client, DebugCase, Refusal
+from tests.debug_client import ADAPTER, HAS_GO, Client, DebugCase, Refusal
 from tests.debug_dialogue import FOLDER, cases, files, performed, text_of
 from tests.support import PATIENCE, PYTHON, add_tests, read
 
 LOOPS = read(FOLDER, "loops").splitlines()
-PUT, FIRST, SECOND, INPUT, ROUND, COUNTED = 3, 8, 9, 11, 12, 15  # lines of counts.pp
 
 
 @unittest.skipUnless(HAS_GO, "there is no go or no go-dap: no message of a session is decoded by it")
@@ -130,8 +129,9 @@ class BadHands(DebugCase):
     def test_arguments_that_are_none(self):
         """An editor may leave them out, and write null; others are refused."""
         client = self.session(LOOPS)
-        client.write(json.dumps({"seq": 900, "type": "request", "command": "threads", "arguments": None}).encode())
-        self.assertEqual(10, len(client.answer(900)["threads"]))
+        for number, arguments in (899, {}), (900, {"arguments": None}):
+            client.write(json.dumps({"seq": number, "type": "request", "command": "threads", **arguments}).encode())
+            self.assertEqual(10, len(client.answer(number)["threads"]))
         client.write(json.dumps({"seq": 901, "type": "request", "command": "threads", "arguments": [1]}).encode())
         with self.assertRaises(Refusal):
             client.answer(901)
@@ -175,69 +175,3 @@ class BadHands(DebugCase):
         client.process.stdin.flush()
         self.assertEqual(2, client.process.wait(PATIENCE))
         self.assertIn("is no message", client.end()[1])
-
-
-class VSCode(DebugCase):
-    """What VS Code sends, in its order and with all that it adds."""
-
-    def bare(self, client, command):
-        """Sends a request without arguments, and returns the body of the answer."""
-        client.seq += 1
-        client.write(json.dumps({"command": command, "type": "request", "seq": client.seq}).encode())
-        return client.answer(client.seq)
-
-    def begin_as_it_does(self, client, points):
-        """Begins a session. Returns the answer to the breakpoints, and the first stop."""
-        self.source = self.file(read(FOLDER, "counts.pp"), "counts.pp")
-        self.configuration = {"type": "pp6600", "request": "launch", "name": "PP source", "sources": {"0": self.source}, "processor": "0",
-                              "script": self.script(["SET H 5 F 7"]), "__configurationTarget": 6,
-                              "__sessionId": "3b0a6c9f-0000-4000-8000-000000000000"}
-        client.ask("initialize", clientID="vscode", clientName="Visual Studio Code", adapterID="pp6600", pathFormat="path",
-                   linesStartAt1=True, columnsStartAt1=True, supportsVariableType=True, supportsVariablePaging=True,
-                   supportsRunInTerminalRequest=True, locale="en",
-                   supportsProgressReporting=True, supportsInvalidatedEvent=True, supportsMemoryReferences=True, supportsMemoryEvent=True,
-                   supportsArgsCanBeInterpretedByShell=True, supportsStartDebuggingRequest=True, supportsANSIStyling=True)
-        client.ask("launch", **self.configuration)
-        client.event("initialized")
-        answers = client.ask("setBreakpoints", source={"name": "counts.pp", "path": self.source, "sources": [], "checksums": []},
-                             lines=[one["line"] for one in points], breakpoints=points, sourceModified=False)["breakpoints"]
-        client.ask("setInstructionBreakpoints", breakpoints=[])
-        client.ask("setDataBreakpoints", breakpoints=[])
-        client.ask("setExceptionBreakpoints", filters=[], filterOptions=[])
-        self.bare(client, "configurationDone")
-        return answers, client.event("stopped")
-
-    def look(self, client, stop):
-        """Looks at the machine after a stop. Returns the name of the frame and its line."""
-        self.assertEqual(10, len(self.bare(client, "threads")["threads"]))
-        top, = client.ask("stackTrace", threadId=stop["threadId"], startFrame=0, levels=1)["stackFrames"]
-        self.assertEqual([], client.ask("stackTrace", threadId=stop["threadId"], startFrame=1, levels=19)["stackFrames"])
-        for scope in client.ask("scopes", frameId=top["id"])["scopes"]:
-            self.assertTrue(client.ask("variables", variablesReference=scope["variablesReference"]) is not None)
-        return top["name"], top["line"]
-
-    def test_a_session(self):
-        client = self.client()
-        points, stop = self.begin_as_it_does(client, [{"line": PUT}, {"line": COUNTED, "condition": "M 0 COUNT = 0"}])
-        self.assertEqual([(True, PUT), (True, COUNTED)], [(one["verified"], one["line"]) for one in points])
-        self.assertEqual(("entry", ("P 0100 LDN 01", FIRST)), (stop["reason"], self.look(client, stop)))
-        found = []
-        for command in ("next", "continue", "stepOut", "stepIn", "stepBack", "reverseContinue"):
-            stop = client.stop_after(command, threadId=1, **({"singleThread": False} if command != "continue" else {}))
-            found.append((stop["reason"], self.look(client, stop)[1]))
-        self.assertEqual([("breakpoint", SECOND), ("breakpoint", COUNTED), ("step", INPUT), ("step", ROUND), ("step", INPUT),
-                          ("breakpoint", COUNTED)], found)
-        self.assertEqual("000002", client.ask("evaluate", expression="A", frameId=1, context="watch")["result"])
-        self.assertEqual("0022  0000  PSN 00", client.ask("evaluate", expression="COUNT", frameId=1, context="hover",
-                                                            line=COUNTED, column=18, source={"path": self.source})["result"])
-        info = client.ask("dataBreakpointInfo", variablesReference=SCOPES["registers"], name="A", frameId=1)
-        points = client.ask("setDataBreakpoints", breakpoints=[{"dataId": info["dataId"], "accessType": "write",
-                                                                "condition": "A 0 = 1"}])["breakpoints"]
-        self.assertTrue(points[0]["verified"])
-        client.ask("disassemble", memoryReference="0x000094", offset=0, instructionOffset=-200, instructionCount=400, resolveSymbols=True)
-        client.ask("restart", arguments=self.configuration)
-        self.assertEqual("entry", client.event("stopped")["reason"])
-        client.ask("terminate", restart=False)
-        client.event("terminated")
-        client.ask("disconnect", restart=False, terminateDebuggee=True)
-        self.assertEqual((0, ""), client.end())

@@ -120,9 +120,6 @@ class BadHands(Case):
 
 @unittest.skipUnless(shutil.which("mypy"), "there is no mypy here")
 class Types(Case):
-    def test_package(self):
-        self.assertEqual(("", 0), run("mypy", "--no-error-summary")[::2])
-
     def test_script(self):
         """A script of a user, with the types of the calls of docs/PYTHON.md."""
         script = """from typing import Dict, List

@@ -15,10 +15,13 @@ that the program must then write), args, and solution, a folder with the files t
 import glob
 import os
 import re
+import shlex
 import shutil
+import subprocess
 
 from tests.fixtures import PAGES, sessions
-from tests.support import EXAMPLES, TOP, Case, add_tests, blocks, program, read, run, write
+from tests.installing import read_bytes
+from tests.support import EXAMPLES, PATIENCE, TOP, Case, add_tests, blocks, program, read, run, tool_here, write
 
 from pp6600 import Console
 
@@ -74,6 +77,38 @@ exec python3 -c 'import pty, sys; sys.exit(pty.spawn(sys.argv[1:]) >> 8)' "$@" <
 """
 COMMAND = re.compile(r"^\$ (.*<<END.*\n(?:.*\n)*?END|.*)\n", re.M)  # with its own lines
 MARK = "====\n"
+# A tool with words that need no shell, on a file or nothing, and whether its status is shown. Such a tool runs in the tests' own process.
+ALONE = re.compile(r"tools/(?!talk|panel|debug)([\w-]+)((?: (?:[\w./:=,+@%-]+|'[^']*'))*)(?: <([\w./-]+))?(; echo \$\?)?")
+
+
+class Shell:
+    """A bash in a folder."""
+
+    def __init__(self, folder):
+        self.folder = folder
+        self.process = subprocess.Popen(["bash"], cwd=folder, stdin=subprocess.PIPE, stdout=subprocess.PIPE, stderr=subprocess.STDOUT,
+                                        env={**os.environ, "PP6600": program(), "PATH": f"{folder}/bin:{os.environ['PATH']}"})
+
+    def perform(self, command):
+        """Performs a command. Returns what it writes, standard error too."""
+        found = ALONE.fullmatch(command)
+        if found and ".py" not in command:
+            name, words, path, shows_status = found.groups()
+            script = read_bytes(self.folder, path).decode("latin-1") if path else ""
+            done = tool_here(name, *shlex.split(words), script=script, folder=self.folder, is_one=True)
+            return done.out + (f"{done.status}\n" if shows_status else "")
+        self.process.stdin.write(f"{{\n{command}\n}} </dev/null\n{{ status=$?; echo; echo '{MARK}'; (exit $status); }}\n".encode())
+        self.process.stdin.flush()
+        written = b""
+        while not written.endswith(f"\n{MARK}\n".encode()):
+            line = self.process.stdout.readline()
+            if not line:
+                raise EOFError(written.decode())
+            written += line
+        return written[:-len(MARK) - 2].decode("utf-8", "replace")
+
+    def end(self):
+        self.process.communicate(timeout=PATIENCE)
 
 
 class Transcripts(Case):
@@ -87,13 +122,11 @@ class Transcripts(Case):
             os.symlink(os.path.join(TOP, name), self.path(name))
         os.symlink(program(), self.path("pp6600"))
         write(self.path("bin", "at-terminal"), AT_TERMINAL, 0o755)
-        commands = "".join(f"{command}\n{{ status=$?; echo; echo -n '{MARK}'; (exit $status); }}\n" for command in parts[::2])
-        done = run("bash", "-c", f"exec 2>&1; PATH=$PWD/bin:$PATH\n{commands}", cwd=self.folder)
-        written = done.out.split(f"\n{MARK}")
-        for command, wanted, got in zip(parts[::2], parts[1::2], written):
+        shell = Shell(self.folder)
+        self.addCleanup(shell.end)
+        for command, wanted in zip(parts[::2], parts[1::2]):
             with self.subTest(command):
-                self.assertEqual(wanted, re.sub("^\n", "", got, flags=re.M))
-        self.assertEqual(len(parts[::2]) + 1, len(written))
+                self.assertEqual(wanted, re.sub("^\n", "", shell.perform(command), flags=re.M))
 
 
 class Exercises(Case):

@@ -6,15 +6,10 @@ import subprocess
 import sys
 import time
 
+from tests.fixtures import GIVEN, WITH_SIMULATOR, WITHOUT
 from tests.support import PYTHON, TOOLS, TOP, Case, program, run, tool, write
 from tests.terminal import Terminal
 
-# Each tool with words that are right.
-WITH_SIMULATOR = {"changes": ["M", "0", "106"], "origin": ["M", "0", "106"], "save": ["0", "0", "1"],
-                  "compare": ["--other-panel", "examples/dead-start/panel"], "show": [], "state": [], "talk": [], "trace": [],
-                  "until": ["P", "0", "=", "1"], "waits": [], "film": ["-o", "FILM"]}  # a file in the room of the test
-WITHOUT = {"assemble": [], "deck": [], "disassemble": [], "load": ["0", "100"], "symbols": [], "words": ["--dump", "0"]}
-GIVEN = {"assemble": "  LDN 5\n", "deck": "HELLO.\n", "disassemble": "0100 1405\n", "load": "1405\n", "symbols": "A 5\n", "words": "0100 1405\n"}
 STEP = "STEP\n"
 # More words, with which no tool does anything, and what the message says.
 WORDS = ((["--nonsense"], "--help shows what may be given"), (["A", "B", "C"], "not also B C|not also C|unrecognized arguments|takes one file"),

@@ -5,26 +5,19 @@ import os
 import shutil
 
 from tests.debug_client import Client
+from tests.fixtures import GIVEN, WITH_SIMULATOR, WITHOUT
 from tests.support import PYTHON, TOOLS, TOP, Case, run, tool, write
 
-WITHOUT = (*PYTHON, os.path.join(TOP, "tests", "without_unix.py"))
+WITHOUT_UNIX = (*PYTHON, os.path.join(TOP, "tests", "without_unix.py"))
 SAID = "pp6600: the proved program does not start here; this is pp6600-python, which is not proved\n"
 SCRIPT, DECK = (f"examples/overwritten-loader/{name}" for name in ("script", "deck"))
 LOADER = ["--deck", DECK, SCRIPT]
 NO_LIBRARY = "pp6600: there is no library of the proved program for this machine; this is pp6600-python, which is not proved\n"
-# The words of each tool that runs the simulator; standard input is empty.
-WITH_SIMULATOR = {"changes": ["M", "0", "106", *LOADER], "compare": ["--other-panel", "examples/dead-start/panel", *LOADER],
-                  "film": ["-o", "FILM", *LOADER],
-                  "origin": ["M", "0", "50", "exercises/first-program/solution/script"], "save": ["0", "100", "110", *LOADER],
-                  "show": LOADER, "state": LOADER, "talk": LOADER, "trace": LOADER,
-                  "until": ["M", "0", "106", "=", "27", *LOADER], "waits": ["exercises/hanging-channel/script"]}
-WITHOUT_SIMULATOR = {"assemble": ["exercises/first-program/solution/first-program.pp"], "deck": [SCRIPT], "disassemble": [DECK],
-                     "load": ["0", "100", DECK], "symbols": [SCRIPT], "words": ["--dump", "0", DECK]}
 
 
 def outcome(words, **how):
     """Returns what a command does as on Windows."""
-    return run(*WITHOUT, *words, env={"PP6600": "", "PP6600_ENGINE": ""}, **how)
+    return run(*WITHOUT_UNIX, *words, env={"PP6600": "", "PP6600_ENGINE": ""}, **how)
 
 
 class Tools(Case):
@@ -32,19 +25,20 @@ class Tools(Case):
         return [self.path("film.html") if word == "FILM" else word for word in words]
 
     def test_each_is_here(self):
-        self.assertEqual(sorted([*WITH_SIMULATOR, *WITHOUT_SIMULATOR, "debug-adapter", "panel"]), TOOLS)
+        self.assertEqual(sorted([*WITH_SIMULATOR, *WITHOUT, "debug-adapter", "panel"]), TOOLS)
 
     def test_with_simulator(self):
         for name, words in WITH_SIMULATOR.items():
             with self.subTest(name):
-                wanted, got = tool(name, *self.words(words)), outcome([f"tools/{name}", *self.words(words)])
+                words = self.words([*words, *LOADER])
+                wanted, got = tool(name, *words), outcome([f"tools/{name}", *words])
                 self.assertEqual((wanted.out, NO_LIBRARY + wanted.err, wanted.status), got)
                 self.assertNotEqual(2, got.status, got.err)
 
     def test_without_simulator(self):
-        for name, words in WITHOUT_SIMULATOR.items():
+        for name, words in WITHOUT.items():
             with self.subTest(name):
-                self.assertEqual(tool(name, *words), outcome([f"tools/{name}", *words]))
+                self.assertEqual(tool(name, *words, script=GIVEN[name]), outcome([f"tools/{name}", *words], script=GIVEN[name]))
 
     def test_panel(self):
         self.assertEqual(("", "panel: this Python has no module curses, so it can't draw on a terminal; the tool talk needs none\n", 2),
@@ -56,7 +50,7 @@ class Tools(Case):
         self.assertEqual(tool("show", script=script).out, outcome(["tools/show"], script=script).out)
 
     def test_debug_adapter(self):
-        client = Client(environment={"PP6600": "", "PP6600_ENGINE": ""}, before=WITHOUT[-1:])
+        client = Client(environment={"PP6600": "", "PP6600_ENGINE": ""}, before=WITHOUT_UNIX[-1:])
         self.addCleanup(client.end)
         client.launch(script=SCRIPT, deck=DECK)
         listing = client.ask("stackTrace", threadId=1)["stackFrames"][0]["source"]["path"]

@@ -117,6 +117,13 @@ uint32_t pp6600_looks(pp6600 *session, uint32_t most, const uint32_t *places, si
 /* Closes the session, and gives its memory back. The handle can be opened again. */
 uint32_t pp6600_close(pp6600 *session);
 
+/* Assembles a source, and writes into `into` what form asks for. 0: a line for each fault and each warning, as "3:18: LATER is not defined".
+ * 1: a line for each word, as "0100 1405", and "P 0100" if END says where the program begins. 2: the listing. *count: the bytes of it.
+ * *messages: how many faults the source has; if there is one, its words are not to be used. ROOM: `into` has room for fewer than *count
+ * bytes, and nothing is written. REFUSED: no such form. No session is needed. */
+uint32_t pp6600_assemble(const uint8_t *source, size_t source_bytes, uint32_t form, uint8_t *into, size_t room, size_t *count,
+    size_t *messages);
+
 #ifdef __cplusplus
 }
 #endif

@@ -193,7 +193,7 @@ PLACES = {
     "pp_assembler": (790, "a source to words"),
     "pp_program": (560, "the program over a host"),
     "pp_console": (560, "answers to a script"),
-    "pp_loading": (350, "lines that load a program"),
+    "pp_loading": (140, "lines that load a program"),
     "pp_host": (770, "words and files"),
     "pp_command": (490, "what a line asks for"),
     "pp_trouble": (690, "what ends a run early"),
@@ -206,7 +206,7 @@ PLACES = {
     "pp_lines": (620, "bytes, lines, words"),
     "pp_machine": (360, "the machine, its places"),
     "pp_arith": (750, "one's complement, octal"),
-    "test_assembler": (110, "sources assembled"),
+    "test_assembler": (790, "sources assembled"),
     "test_memory": (110, "running out of memory"),
     "test_client": (110, "a client of the crates"),
     "pp_worked": (110, "rows worked by hand"),
@@ -216,7 +216,7 @@ LAYERS_KEY = [
     "Left out are arrows that others imply,",
     "and the crates of the kit.",
 ]
-# the crates for tests, each in a row of the column on the left
+# the crates for tests, each in a row: of the column on the left, or above the one that it uses
 TESTS = {"test_assembler": 0, "test_memory": 1, "test_client": 2, "pp_worked": 3}
 
 
@@ -272,8 +272,10 @@ def points_of(rows, user, used):
 
 
 def from_test(rows, user, used):
-    """Returns the arrow from a crate for tests to the left side of one that it uses."""
+    """Returns the arrow from a crate for tests to the left side of one that it uses, or down to one below it."""
     (x, y), (x_end, y_end) = middle(rows, user), middle(rows, used)
+    if x == x_end:
+        return line([(x, y + BOX_HEIGHT / 2), (x, y_end - BOX_HEIGHT / 2 - 3)], dashed=True)
     y_end += (rows[user] - rows[used]) * 12
     side = x + BOX_WIDTH / 2
     return line([(side, y), (side + 26, y), (side + 26, y_end), (x_end - BOX_WIDTH / 2 - 3, y_end)], dashed=True)
@@ -315,7 +317,7 @@ def layers():
         52 + max(rows.values()) * ROW + 44,
         title,
         [
-            lines(28, 20, LAYERS_KEY, anchor="start"),
+            lines(28, max(rows.values()) * ROW + 34, LAYERS_KEY, anchor="start"),
             text(110, 52 + ROW - 42, "only for tests", 13, True, SOFT),
             [use(rows, user, used) for user in uses for used in uses[user]],
             [crate_box(rows, crate) for crate in uses],

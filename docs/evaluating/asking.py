@@ -15,15 +15,16 @@ from evaluating.kit import KIT, NONE, text_of
 from evaluating.lists import NIL, Stuck, items, listed, replicate
 
 # Of several definitions with one name, the only one of the first crate has it alone, or else the only one outside of the second;
-# those of inner files count as the second's, and a definition comes before the constructors with its name.
-MAIN, WORKED = "pp_machine", "pp_worked"
+# those of inner files count as the second's, and a definition comes before the constructors with its name. What the crates
+# beside the program define comes last.
+MAIN, WORKED, BESIDE = "pp_machine", "pp_worked", ("pp_assembler", "pp_loading")
 
 
 def rank(one: Any) -> int:
     """Returns the rank of what has a name: the first has it alone, if it is the only one of its rank."""
     owner = getattr(one, "type", one)
-    is_far = owner.crate == WORKED or "/Inner" in owner.place
-    return 3 * (owner is not one) + (2 if is_far else owner.crate != MAIN)
+    is_far = owner.crate in (WORKED, *BESIDE) or "/Inner" in owner.place
+    return 6 * (owner.crate in BESIDE) + 3 * (owner is not one) + (2 if is_far else owner.crate != MAIN)
 
 
 class Definitions:

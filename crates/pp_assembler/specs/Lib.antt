@@ -1,5 +1,5 @@
 pub mod Cells
-pub mod Forms
+pub mod Instructions
 pub mod Places
 pub mod Rows
 pub mod Statements

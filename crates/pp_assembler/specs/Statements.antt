@@ -1,7 +1,7 @@
 -- The words of the statements that a disassembler writes.
 use Rattle.std.specs.Prelude.{◌≡◌, ◌≤◌, ⊤, MatchOption, take, ℕ, ◌+◌, ◌-◌, ◌*◌, ◌/◌, ◌%◌, ◌==◌, ◌||◌, nat_le, Bool, true, if◌then◌else◌, List, [], ◌∷◌, ◌++◌}
 use Rattle.std.specs.Prelude.{Option, Some, None, fold, length, map, replicate}
-use Rattle.pp_assembler.specs.Forms.{form}
+use Rattle.pp_assembler.specs.Instructions.{form}
 use Rattle.pp_assembler.specs.Rows.{IsRow, first_address, words_in}
 use Rattle.pp_assembler.specs.declared.instructions.Form.{Form}
 use Rattle.pp_assembler.specs.declared.instructions.Form.TheVariants.{Alone, D, Target, Constant, Indexed, Both}

@@ -1,6 +1,6 @@
 //! The names of the 64 (decimal) instructions, and what each has as operand.
 ghost use Rattle.std.specs.Prelude.{◌≡◌, ◌<◌, ◌≤◌, IfSome};
-ghost use Rattle.pp_assembler.specs.Forms.{form};
+ghost use Rattle.pp_assembler.specs.Instructions.{form};
 
 /// What an instruction has as operand.
 #[derive(Clone, Copy, Debug, PartialEq, Eq)]

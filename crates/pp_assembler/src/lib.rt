@@ -8,6 +8,7 @@ mod disassembly;
 mod encoding;
 mod fields;
 mod flow;
+mod forms;
 mod instructions;
 mod lines;
 mod listing;
@@ -31,8 +32,8 @@ mod wording;
 
 pub use cells::are_cells;
 pub use disassembly::disassemble;
+pub use forms::{complaints_text, listing_text, words_text};
 pub use instructions::{Form, code_of, form_of, name_of, size_of};
-pub use listing::listing_lines;
 pub use message::{Fault, Field, Message};
 pub use pass::Row;
 pub use passes::assemble;

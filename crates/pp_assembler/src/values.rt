@@ -211,7 +211,13 @@ impl<'a> Expression<'a> {
             name: self.part(self.at, end),
             is_from_above: self.scope.is_from_above,
         };
-        let symbol = self.scope.symbols.look_up(name, place, self.scope.is_last)?;
+        let symbol = match self.scope.symbols.look_up(name, place, self.scope.is_last) {
+            Ok(symbol) => symbol,
+            Err(Stop::Follows) if name.len() != text.len() => return Err(self.fault(
+                Fault::NotDefined { name: place.name },
+            )),
+            Err(stop) => return Err(stop),
+        };
         let Some(number) = symbol.value else {
             return Err(Stop::Follows);
         };

@@ -1,6 +1,7 @@
 //! The simulator for C: sessions behind handles.
 #![tactic(auto)]
 
+mod assembling;
 mod console;
 mod exports;
 mod handle;

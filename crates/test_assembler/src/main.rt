@@ -1,7 +1,9 @@
 //! Assembles the sources of standard input, each ended by a line `----`, and writes what each one makes.
 #![tactic(auto)]
 
-use pp_assembler::{Assembly, Message, assemble, listing_lines, message_text};
+use pp_assembler::{
+    Assembly, assemble, complaints_text, disassemble, listing_text, words_text, write_source,
+};
 use std::alloc::{AllocError, Global};
 use std::io;
 use std::io::{Read, Write};
@@ -9,45 +11,25 @@ use std::io::{Read, Write};
 /// The line after a source, and after what it makes.
 const END: &[u8; 5] = b"----\n";
 
-/// Writes the messages of a source, each with its line and column.
-fn put_messages(alloc: Global, out: &mut Vec<u8>, made: &Assembly, messages: &[Message]) -> Result<(), AllocError> {
-    for message in messages {
-        let line = message.line;
-        let column = message.column;
-        let place = format!(in alloc; "{line}:{column}: ")?;
-        out.extend_from_slice(place.as_bytes())?;
-        let text = message_text(alloc, made, message)?;
-        out.extend_from_slice(text.as_slice())?;
-        out.push(b'\n')?;
-    }
-    Ok(())
-}
-
-/// Writes the cells of a program, and where it begins.
-fn put_program(alloc: Global, out: &mut Vec<u8>, made: &Assembly) -> Result<(), AllocError> {
-    for cell in made.program.cells() {
-        let address = cell.address;
-        let word = cell.word;
-        let line = cell.line;
-        let row = format!(in alloc; "{address:04o} {word:04o} {line}\n")?;
-        out.extend_from_slice(row.as_bytes())?;
-    }
-    if let Some(start) = made.program.start() {
-        let row = format!(in alloc; "P {start:04o}\n")?;
-        out.extend_from_slice(row.as_bytes())?;
-    }
-    Ok(())
+/// Writes a source that assembles to the words of a program. Its code is what a processor reaches from the start.
+fn put_source(alloc: Global, out: &mut Vec<u8>, made: &Assembly) -> Result<(), AllocError> {
+    let cells = made.program.cells();
+    let statements = match made.program.start() {
+        Some(start) => disassemble(alloc, cells, &[start])?,
+        None => disassemble(alloc, cells, &[])?,
+    };
+    let source = write_source(alloc, statements.as_slice())?;
+    out.extend_from_slice(source.as_slice())
 }
 
 /// Writes what a source makes.
 fn put(alloc: Global, out: &mut Vec<u8>, source: &[u8]) -> Result<(), AllocError> {
     let made = assemble(alloc, source)?;
-    put_messages(alloc, out, &made, made.messages.as_slice())?;
-    put_messages(alloc, out, &made, made.warnings.as_slice())?;
-    put_program(alloc, out, &made)?;
-    for row in &made.rows {
-        let lines = listing_lines(alloc, &made, row)?;
-        out.extend_from_slice(lines.as_slice())?;
+    out.extend_from_slice(complaints_text(alloc, &made)?.as_slice())?;
+    out.extend_from_slice(words_text(alloc, &made)?.as_slice())?;
+    out.extend_from_slice(listing_text(alloc, &made)?.as_slice())?;
+    if made.messages.is_empty() {
+        put_source(alloc, out, &made)?;
     }
     out.extend_from_slice(END.as_slice())
 }

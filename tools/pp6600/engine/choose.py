@@ -4,17 +4,14 @@ from __future__ import annotations
 
 import functools
 import os
-import platform
 import sys
 from typing import Optional, Sequence
 
 from ..failure import Failure
-from .choice import HOME, THIS_IS
+from .choice import HOME, LIBRARIES, THIS_IS, machine_here
 from .interface import Engine
 
 PLAIN = "plain"  # names the simulator in plain Python
-# The library for each machine.
-LIBRARIES = {("Linux", "x86_64"): "libpp6600.so", ("Linux", "aarch64"): "libpp6600-aarch64.so", ("Windows", "AMD64"): "pp6600.dll"}
 SUFFIXES = (".so", ".dll", ".dylib")
 
 
@@ -45,7 +42,7 @@ def library_named(name: str) -> Optional[str]:
     is_own = os.path.join(folder, program) == os.path.join(HOME, "pp6600")
     if program.startswith("pp6600-python"):
         return None
-    library = LIBRARIES.get((platform.system(), platform.machine()), "")
+    library = next(iter(LIBRARIES.get(machine_here(), ())), "")
     if not is_own and not os.path.exists(name):
         raise Failure(f"{name} is not the simulator: there is no {library or 'library'} beside it")
     led_to = os.path.dirname(os.path.realpath(name))  # by links

@@ -28,6 +28,8 @@ def in_plain_words(main: Callable[[], Any]) -> Any:
     """Returns what main returns. A fault of the file system is a failure that names the file."""
     try:
         return main()
+    except BrokenPipeError:  # the reader of the output has had enough
+        raise
     except OSError as error:
         named = f"{error.filename}: " if error.filename else ""
         raise Failure(f"{named}{error.strerror or error}") from error

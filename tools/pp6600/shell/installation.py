@@ -14,7 +14,7 @@ import sys
 import tempfile
 from typing import Dict, Iterable, Iterator, List, NamedTuple, Optional, Tuple, Union
 
-from ..engine.choice import HOME, NAMES, first_that_starts, handed_out, machine_here, of_checkout, verified
+from ..engine.choice import HOME, LIBRARIES, NAMES, first_that_starts, handed_out, machine_here, of_checkout, verified
 from ..failure import Failure
 from .completions import filled
 from .files import checked_program
@@ -33,7 +33,6 @@ IN_PAGES = ("README.md", "CHANGELOG.md", "CONTRIBUTING.md", "SECURITY.md", "docs
 IN_OWN = {"pp6600-python": "pp6600-python", "VERSION": "VERSION", "commands": "share/commands", "install": "share/install", "pp6600.cmd": "pp6600.cmd"}
 OF_CHECKOUT = re.compile(r"docs/(.*\.(py|txt)|evaluate)$")  # what makes pages, or needs the sources
 ALL = "all"  # for each machine
-LIBRARIES = {"x86_64": ("libpp6600.so",), "aarch64": ("libpp6600-aarch64.so",), "windows": ("pp6600.dll",)}  # beside the programs
 PAGE_MODULE = "pp6600.wasm"  # with which a page of any machine runs
 LOADED = (".so", ".dll", ".wasm")  # how files end that are loaded, and not run
 # A link of a page, with its text; the file that it leads to is before a #.

@@ -18,7 +18,8 @@ from .text_files import input_lines, shown
 
 PROMPT = "> "  # after the number of turns
 WRAPPED = "PP6600_WRAPPED"  # set for the tool that rlwrap runs
-UNDO = re.compile(r"\s*(undo|redo)(?:\s+([0-7]+))?\s*", re.I)  # as BACK and FORWARD, without their limits
+MOVES = {"undo": "BACK", "redo": "FORWARD"}  # without the limits of these
+MOVE = re.compile(rf"\s*({'|'.join(MOVES)})(?:\s+([0-7]+))?\s*", re.I)
 FIRST_WORDS = ("help", "?", "quit", "exit")  # what a newcomer may type; the simulator has no such commands
 
 
@@ -95,9 +96,9 @@ def converse_at_terminal(run: Session, transcript: Any) -> int:
 def perform_typed(run: Session, line: str, transcript: Any) -> bool:
     """Performs a line that was typed, and shows what came of it. Returns whether it was refused, or a device failed."""
     ahead, place = run.counts.to_redo, place_of(run)
-    asked = UNDO.fullmatch(line)
+    asked = MOVE.fullmatch(line)
     try:
-        lines = run.act_by_move(f"{'BACK' if asked[1].lower() == 'undo' else 'FORWARD'} {asked[2] or 1}") if asked else run.act(line)
+        lines = run.act_by_move(f"{MOVES[asked[1].lower()]} {asked[2] or 1}") if asked else run.act(line)
     except DeviceFailure as failure:
         complain(failure)
         return True
