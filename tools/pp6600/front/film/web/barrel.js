@@ -124,15 +124,15 @@ function drawProcessor(picture, n, sizes) {
 function drawSlot(picture, n, sizes) {
   const { x, y } = processorAt(n, sizes), degrees = Math.atan2(sizes.cy - y, sizes.isFlat && n % 5 ? 0 : sizes.cx - x) * 180 / Math.PI;
   const transform = `translate(${x} ${y}) rotate(${degrees})`;
-  drawn(picture, "path", { class: "slot", d: `M ${CIRCLE + 0.15} 0 l 0.7 -0.55 v 1.1 Z`, transform, "data-processor": n });
+  drawn(picture, "path", { class: "slot", d: `M ${CIRCLE + 0.15} 0 l 0.55 -0.45 v 0.9 Z`, transform, "data-processor": n });
 }
 
 // The middle of the ring: the action, what it was, and the first cell or word that it changed.
 function drawMiddle(picture, { cx, cy, isFlat }) {
-  const lines = middleLines(isFlat);
+  const lines = middleLines(isFlat), step = lines.length > 4 ? 1.15 : 1.3;
   lines.forEach((text, at) => {
-    const y = cy + 0.35 + (at - (lines.length - 1) / 2) * 1.3, width = LETTER * (text.length + 1);
-    drawn(picture, "rect", { x: cx - width / 2, y: y - 0.95, width, height: 1.3, class: "under" });
+    const y = cy + 0.35 + (at - (lines.length - 1) / 2) * step, width = LETTER * (text.length + 1);
+    drawn(picture, "rect", { x: cx - width / 2, y: y - 0.95, width, height: step, class: "under" });
     drawn(picture, "text", { x: cx, y, class: at ? "middle" : "middle strong" }, text);
   });
 }
