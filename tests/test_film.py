@@ -69,7 +69,8 @@ class Tool(FilmCase):
         """What was there before stays."""
         path = self.film(script="STEP\n")
         before = read(path)
-        done = run("bash", "-c", 'ulimit -f 8; exec "$@"', "bash", os.path.join(TOP, "tools", "film"), "-o", path, script="STEP 3\n")
+        done = run("bash", "-c", 'ulimit -f 8; exec "$@"', "bash", os.path.join(TOP, "tools", "film"), "-o", path, script="STEP 3\n",
+                   env={"PYTHONDONTWRITEBYTECODE": "1"})  # else modules are stored in part
         self.assertEqual((2, f"film: can't write {path}: File too large\n"), (done.status, done.err))
         self.assertEqual((before, ["film.html"]), (read(path), os.listdir(os.path.dirname(path))))
 
