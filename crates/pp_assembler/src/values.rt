@@ -7,7 +7,7 @@ const MOST_BITS: u32 = 60;
 
 const MOST_DIGITS: usize = 20;
 /// A shift by more bits than this gives no number that is kept.
-const MOST_SHIFT: u32 = 100;
+const MOST_SHIFT: u32 = 62;
 
 /// What numbers without a letter are.
 #[derive(Clone, Copy)]
@@ -20,7 +20,7 @@ pub enum Base {
 /// A number, and how many addresses more are added than subtracted: 1 in an address.
 #[derive(Clone, Copy)]
 pub struct Value {
-    pub number: i128,
+    pub number: i64,
     pub addresses: i64,
 }
 
@@ -223,7 +223,7 @@ impl<'a> Expression<'a> {
         };
         self.at = end;
         Ok(Value {
-            number: i128::from(number),
+            number: i64::from(number),
             addresses: if symbol.is_address { 1 } else { 0 },
         })
     }
@@ -247,7 +247,7 @@ impl<'a> Expression<'a> {
             self.scope.location
         };
         Value {
-            number: i128::from(counter),
+            number: i64::from(counter),
             addresses: 1,
         }
     }
@@ -267,7 +267,7 @@ impl<'a> Expression<'a> {
     }
 
     /// Returns the base of digits, 8 or 10 (decimal).
-    fn base_of(&mut self, number: Number, digits: &[u8]) -> Result<i128, Stop> {
+    fn base_of(&mut self, number: Number, digits: &[u8]) -> Result<i64, Stop> {
         let part = self.part(self.at, number.digits);
         if digits.len() > MOST_DIGITS {
             return Err(self.fault(Fault::LongNumber));
@@ -369,25 +369,25 @@ fn has_decimal_digit(digits: &[u8]) -> bool {
 }
 
 /// Returns the number that digits make.
-fn decoded(digits: &[u8], base: i128) -> Option<i128> {
-    let mut value: i128 = 0;
+fn decoded(digits: &[u8], base: i64) -> Option<i64> {
+    let mut value: i64 = 0;
     for digit in digits {
         value = value
             .checked_mul(base)?
-            .checked_add(i128::from(digit.wrapping_sub(b'0')))?;
+            .checked_add(i64::from(digit.wrapping_sub(b'0')))?;
     }
     Some(value)
 }
 
 /// Returns a number shifted to the left.
-fn shifted(value: i128, bits: u32) -> Option<i128> {
+fn shifted(value: i64, bits: u32) -> Option<i64> {
     if value == 0 {
         return Some(0);
     }
     if bits > MOST_SHIFT {
         None
     } else {
-        value.checked_mul(1i128.wrapping_shl(bits))
+        value.checked_mul(1i64.wrapping_shl(bits))
     }
 }
 
@@ -408,7 +408,7 @@ fn joined(total: Value, operator: Operator, term: Value) -> Option<Value> {
 }
 
 /// Returns the quotient without its fraction; of a division by zero 0.
-fn quotient(number: i128, other: i128) -> Option<i128> {
+fn quotient(number: i64, other: i64) -> Option<i64> {
     if other == 0 {
         Some(0)
     } else {
@@ -417,12 +417,12 @@ fn quotient(number: i128, other: i128) -> Option<i128> {
 }
 
 /// Returns the codes of a text as one number.
-pub fn number_of(filling: Filling, symbols: &[u8]) -> Option<i128> {
-    let mut number: i128 = 0;
+pub fn number_of(filling: Filling, symbols: &[u8]) -> Option<i64> {
+    let mut number: i64 = 0;
     for index in 0..filling.size {
         number = number
             .checked_mul(64)?
-            .checked_add(i128::from(filling.code(symbols, index)))?;
+            .checked_add(i64::from(filling.code(symbols, index)))?;
     }
     Some(number)
 }
