@@ -53,7 +53,9 @@ def text_of(line: str) -> str:
     """Returns the text of a line with its line feed."""
     def replaced(mark: "re.Match[str]") -> str:
         repeated, count, byte, end = mark.groups()
-        return text_of(f"{repeated}\\") * int(count) if count else bytes.fromhex(byte).decode("utf-8", "surrogateescape") if byte else {"r": "\r", "n": "\n"}[end]
+        if byte:
+            return bytes.fromhex(byte).decode("utf-8", "surrogateescape")
+        return text_of(f"{repeated}\\") * int(count) if count else {"r": "\r", "n": "\n"}[end]
     return ESCAPE.sub(replaced, line[:-1]) if line.endswith("\\") else f"{ESCAPE.sub(replaced, line)}\n"
 
 

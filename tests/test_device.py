@@ -11,8 +11,8 @@ from tests.support import Case, add_tests, program
 
 from pp6600 import INACTIVE, NOTHING, Attached, Device, Failure, full
 from pp6600.run import attached
-from pp6600.run.tape import ReplyLine, Tape
-from pp6600.run.device import Chain, Event, Reply, chain_of, is_value, looked
+from pp6600.run.tape import Tape
+from pp6600.run.device import Chain, Reply, chain_of, is_value, looked
 from pp6600.devices.paper_tape import PaperTape
 
 

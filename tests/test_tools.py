@@ -1,12 +1,11 @@
 """The tools, by rules that no single transcript of tests/sessions shows. Expected values are those of the pages."""
 
-import os
 import random
 import re
 
 from tests.fixtures import COMPLETES, at_terminal
 from tests.generator import BUSY, JUNK, Maker
-from tests.support import PYTHON, TOOLS, TOP, Case, names_of_codes, program, read, run, tool
+from tests.support import TOOLS, Case, names_of_codes, program, read, run, tool
 
 DEVICES = ("--central", "32", "--panel", "examples/dead-start/panel", "--deck", "examples/read-a-deck/deck")
 

@@ -9,7 +9,7 @@ import unittest
 import zipfile
 
 from tests.installing import InstallCase, alone, lost_links, original
-from tests.support import EXAMPLES, TOOLS, TOP, Done, blocks, lasting_room, read
+from tests.support import EXAMPLES, TOOLS, TOP, blocks, lasting_room, read
 
 VERSION = read("VERSION").strip()
 DIST = os.listdir(os.path.join(TOP, "dist"))
