@@ -8,6 +8,8 @@ const MOST_BITS: u32 = 60;
 const MOST_DIGITS: usize = 20;
 /// A shift by more bits than this gives no number that is kept.
 const MOST_SHIFT: u32 = 62;
+/// The greatest size of a number that is kept.
+const MOST: u64 = 0x7fff_ffff_ffff_ffff;
 
 /// What numbers without a letter are.
 #[derive(Clone, Copy)]
@@ -159,7 +161,7 @@ impl<'a> Expression<'a> {
             self.pass_operator()?;
             let other = self.element()?.number;
             let number = if is_product {
-                value.number.checked_mul(other)
+                product(value.number, other)
             } else {
                 quotient(value.number, other)
             };
@@ -372,9 +374,7 @@ fn has_decimal_digit(digits: &[u8]) -> bool {
 fn decoded(digits: &[u8], base: i64) -> Option<i64> {
     let mut value: i64 = 0;
     for digit in digits {
-        value = value
-            .checked_mul(base)?
-            .checked_add(i64::from(digit.wrapping_sub(b'0')))?;
+        value = product(value, base)?.checked_add(i64::from(digit.wrapping_sub(b'0')))?;
     }
     Some(value)
 }
@@ -387,7 +387,7 @@ fn shifted(value: i64, bits: u32) -> Option<i64> {
     if bits > MOST_SHIFT {
         None
     } else {
-        value.checked_mul(1i64.wrapping_shl(bits))
+        product(value, 1i64.wrapping_shl(bits))
     }
 }
 
@@ -407,6 +407,15 @@ fn joined(total: Value, operator: Operator, term: Value) -> Option<Value> {
     Some(Value { number, addresses })
 }
 
+/// Returns a product, if it is kept. The division comes first, since WebAssembly has no product of 128 bits to look at.
+fn product(number: i64, other: i64) -> Option<i64> {
+    if other != 0 && number.unsigned_abs() > MOST / other.unsigned_abs() {
+        None
+    } else {
+        Some(number.wrapping_mul(other))
+    }
+}
+
 /// Returns the quotient without its fraction; of a division by zero 0.
 fn quotient(number: i64, other: i64) -> Option<i64> {
     if other == 0 {
@@ -420,9 +429,7 @@ fn quotient(number: i64, other: i64) -> Option<i64> {
 pub fn number_of(filling: Filling, symbols: &[u8]) -> Option<i64> {
     let mut number: i64 = 0;
     for index in 0..filling.size {
-        number = number
-            .checked_mul(64)?
-            .checked_add(i64::from(filling.code(symbols, index)))?;
+        number = product(number, 64)?.checked_add(i64::from(filling.code(symbols, index)))?;
     }
     Some(number)
 }
