@@ -46,7 +46,8 @@ def library_named(name: str) -> Optional[str]:
     if not is_own and not os.path.exists(name):
         raise Failure(f"{name} is not the simulator: there is no {library or 'library'} beside it")
     led_to = os.path.dirname(os.path.realpath(name))  # by links
-    for place in (folder, os.path.join(folder, "dist"), os.path.join(folder, "lib"), led_to):
+    built = os.path.normpath(os.path.join(folder, "..", "..", "..", "targets", "out"))  # where ./prove puts what it makes of crates/pp6600/out
+    for place in (folder, os.path.join(folder, "dist"), os.path.join(folder, "lib"), led_to, built):
         path = os.path.join(place, library)
         if library and os.path.exists(path) and loads(path):
             return path
