@@ -8,6 +8,7 @@ import json
 import os
 import queue
 import shutil
+import signal
 import subprocess
 import sys
 import tempfile
@@ -51,6 +52,12 @@ func main() {
 
 class Refusal(Exception):
     """A request that was refused, with its message."""
+
+
+def heed_signals():
+    """Lets a process be ended by signals that were ignored where the tests were started, as in the background."""
+    for number in (signal.SIGHUP, signal.SIGINT):
+        signal.signal(number, signal.SIG_DFL)
 
 
 class Here:
@@ -97,7 +104,7 @@ class Client:
     def __init__(self, *words, environment=None, before=(), folder=TOP):
         """Starts an adapter; other words may come before its name."""
         self.begin(subprocess.Popen([*PYTHON, *before, ADAPTER, *words], stdin=subprocess.PIPE, cwd=folder,
-                                    stdout=subprocess.PIPE, stderr=subprocess.PIPE,
+                                    stdout=subprocess.PIPE, stderr=subprocess.PIPE, preexec_fn=heed_signals,
                                     env={**os.environ, "PP6600": program(), **(environment or {})}))
 
     def begin(self, process):
