@@ -49,7 +49,8 @@ class Ways:
         path = os.path.join(self.folder, "output")
         with open(path, "wb") as file:
             limit = (int(size), int(size))
-            _, err, status = self.plain(stdout=file, preexec_fn=lambda: resource.setrlimit(resource.RLIMIT_FSIZE, limit))
+            _, err, status = self.plain(stdout=file, preexec_fn=lambda: resource.setrlimit(resource.RLIMIT_FSIZE, limit),
+                                        env={**os.environ, "PYTHONDONTWRITEBYTECODE": "1"})  # else modules are stored in part
         return part(self.folder, "output"), err, status
 
     def byte_by_byte(self):
