@@ -4,22 +4,21 @@ opens a page."""
 import os
 import re
 import time
-from contextlib import closing
 from functools import partial
 
 from ...failure import Failure
 from ...language.calls import calls, sentence
 from ...language.names import AllSymbols
 from ...run.device import DeviceFailure
-from ...run.forms import KINDS
+from ...run.forms import KINDS, Place
 from ...run.line_search import turn_of_line_before, turn_of_next_line
 from ...run.moments import text_of
 from ...run.searches import Stopped, last_before, next_found
-from ...run.session import REPLAYED, Session
+from ...run.session import REPLAYED
 from ...shell.keyboard import FIRST_WORDS, card
 from ..keys import ARROWS, PAGES, PANEL
 from .keys import LINES, Facts, help_lines, to_turn
-from .origins import Origin, OriginPage
+from .origins import OriginPage
 from .page import Page
 from .pictures import PicturePage, devices_that
 from .prompt import Prompt
@@ -103,15 +102,12 @@ class Panel:
         return symbols if symbols and symbols.is_source else None
 
     def see(self):
-        """Moves the windows to their cursors, and sees that what they show is read."""
+        """Moves the windows to their cursors."""
         if is_too_small(self.columns, self.rows):
             return
         session, view = self.session, self.view
         view.source = self.source() if view.as_source else None
-        rows = self.memory_rows()
-        view.scroll(session.state, rows, session.size)
-        if self.fault is None:
-            self.guard(session.look_at_central, view.central_top, rows)
+        view.scroll(session.state, self.memory_rows(), session.size)
 
     def screen(self):
         if self.page:
@@ -358,7 +354,7 @@ class Panel:
         """Opens the page of where the number at the cursor came from."""
         self.shown_at = time.monotonic()
         try:
-            self.page = OriginPage(Origin(self.session, self.view.place(), self.searched, self.symbols))
+            self.page = OriginPage(self.session, Place.parse(self.view.place()), self.searched, self.symbols)
         except Failure as failure:  # the operator's, or that of the search's own simulator
             self.message = str(failure)
 
@@ -368,8 +364,9 @@ class Panel:
         if source is None:
             self.message = self.no_source()
             return
-        with closing(Session.of_tape(self.session.simulator.words, self.session.history.in_effect())) as run:
-            lines = [Line(sentence(run, number, call, self.symbols)) for call in calls(run, number, source, run.tape.end)]
+        with self.session.search() as run:
+            found = calls(run, number, source, self.session.simulator.position)
+            lines = [Line(sentence(run, number, call, self.symbols)) for call in found]
         self.page = Page(f"The subroutines that PP {number:02o} is in", lines or [Line("none that was called and has not returned")])
 
     def show_pictures(self):
@@ -388,15 +385,16 @@ class Panel:
             raise Failure(f"a key would discard the {session.history.to_redo:o} actions ahead: > goes to the newest")
         self.guard(session.tell, devices[0][0], text.replace("\\r", "\r"))
 
-    def searched(self, turn, turns):
+    def searched(self, position):
         """Shows now and then how far back a search is, and ends it if the operator stops it."""
+        turn, turns = self.session.simulator.tape.turn(position), self.session.history.turns
         self.report(f"searched back to turn {turn:o} of {turns:o}; Ctrl-C stops")
         if self.is_stopped():
             raise Stopped
 
     def go_before(self, page):
         """Goes to before the action that wrote the number of the step chosen on a page."""
-        count = page.origin.undone(page.chosen)
+        count = page.undone()
         if count is None:
             self.message = f"nothing wrote it: {page.lines[page.at].text.strip()}"
         else:
@@ -410,11 +408,11 @@ class Panel:
             word, *more = words_to_find(text, "C")
             if more:
                 raise Failure("in central memory one word is searched at a time")
-            found = self.guard(session.find_central, word, view.word + 1)
+            found = session.find_central(int(word, 8), view.word + 1)
         else:
             found = session.state.memories[view.processor].find(words_to_find(text, "M"), view.cell + 1)
         if found is None:
-            self.message = self.message or f"{text} is not there"
+            self.message = f"{text} is not there"
         elif view.pane == "central":
             view.word = found
         else:
