@@ -442,7 +442,7 @@ class Devices(PanelCase):
         panel = self.wide_panel(FAILS, devices=[device_of(COUNTS)])
         session, channel = panel.session, panel.session.state.channels[0o11]
         self.assertEqual("function of Counts must return a state and a Reply, and returned (2, 5)", bottom(panel, "12s"))
-        self.assertEqual((1, 1, channel, None),
-                         (session.history.turns, session.simulator.state(), session.state.channels[0o11], panel.fault))
+        self.assertEqual((1, 1, channel),
+                         (session.history.turns, session.simulator.state(), session.state.channels[0o11]))
         press(panel, "b")
         self.assertEqual((0, 0), (session.history.turns, session.simulator.state()))

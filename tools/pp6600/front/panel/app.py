@@ -35,7 +35,6 @@ MOVES = {*ARROWS.values(), *PAGES}  # actions that move the cursor
 PROMPTS = {"line": "> ", "place": "go to ", "turn": "turn ", "until": "until ", "back-until": "back until ", "search": "search ",
            "save": "w ", "keys": "keys "}
 NEW_ACTIONS = (["SET"], ["STEP"], ["WATCH"], ["UNWATCH"], ["DEADSTART"])  # the first words of their lines
-AFTER_FAULT = {"save", "log", "help", "next-part", "part-before", *MOVES}  # actions that need no simulator
 
 
 def words_to_find(text, kind):
@@ -57,7 +56,6 @@ class Panel:
         self.typed = {kind: [] for kind in PROMPTS}
         self.typed["back-until"] = self.typed["until"]
         self.asked = []  # lines that would discard what is ahead
-        self.fault = None  # why the simulator is no longer there
         self.is_asked_to_quit = self.is_ended = False
         self.show = lambda: None  # draws the screen
         self.is_stopped = lambda: False  # by the operator
@@ -69,7 +67,7 @@ class Panel:
         whole = self.guard(self.session.perform_script, lines, self.stops)
         if whole and turn is not None:
             self.go_to_turn(f"{turn:o}")
-        elif whole is not None and self.fault is None:
+        elif whole is not None:
             self.message = "" if whole else f"the script was stopped after {len(self.session.sent)} (decimal) lines"
         self.see()
 
@@ -103,11 +101,9 @@ class Panel:
 
     def see(self):
         """Moves the windows to their cursors."""
-        if is_too_small(self.columns, self.rows):
-            return
-        session, view = self.session, self.view
-        view.source = self.source() if view.as_source else None
-        view.scroll(session.state, self.memory_rows(), session.size)
+        if not is_too_small(self.columns, self.rows):
+            self.view.source = self.source() if self.view.as_source else None
+            self.view.scroll(self.session.state, self.memory_rows(), self.session.size)
 
     def screen(self):
         if self.page:
@@ -138,7 +134,7 @@ class Panel:
         """Performs a key outside a line and a page."""
         count, self.count, self.message = self.count, "", ""
         asked, self.is_asked_to_quit = self.is_asked_to_quit, False
-        action, changes = PANEL.get(key, ""), f"{self.view.place()} changes"
+        action, changes, times = PANEL.get(key, ""), f"{self.view.place()} changes", int(count or "1", 8)
         typed = {"again": ("until", ""), "back-again": ("back-until", ""), "next-change": ("until", changes),
                  "change-before": ("back-until", changes), "next-line": ("next-line", count or "1"),
                  "line-before": ("line-before", count or "1"), **({"turn": ("turn", count)} if count else {})}
@@ -148,14 +144,16 @@ class Panel:
             self.message = "" if count else "q quits, ? shows all keys"
         elif action == "quit":
             self.quit(asked)
-        elif self.fault and action not in AFTER_FAULT:
-            self.message = self.last_words()
         elif action in LINES:
-            self.send_action(action, int(count or "1", 8))
+            self.send_action(action, times)
         elif action in typed:
             self.take_line(*typed[action])
+        elif action in MOVES:
+            self.view.move(action, times, self.memory_rows(), self.session.size)
+        elif action in PROMPTS:
+            self.prompt = Prompt(action, PROMPTS[action], self.typed[action])
         elif action:
-            self.look(action, int(count or "1", 8))
+            self.look(action, times)
         elif key != "Enter":
             self.message = f"no key {key}; ? shows all keys"
 
@@ -172,20 +170,13 @@ class Panel:
     def look(self, action, count):
         """Performs an action that sends nothing."""
         view = self.view
-        simple = {
-            "next-part": lambda: view.next_pane(1), "part-before": lambda: view.next_pane(-1), "follow": view.follow,
-            "processor-before": lambda: view.choose_processor(view.processor - count),
-            "next-processor": lambda: view.choose_processor(view.processor + count),
-            "processor-in-slot": lambda: view.choose_processor(self.session.state.slot), "instructions": view.toggle_program,
-            "display-code": view.toggle_display_code, "source": self.toggle_source, "central": self.toggle_central,
-            "origin": self.show_origin, "calls": self.show_calls, "pictures": self.show_pictures, "log": self.show_log,
-            "help": self.show_keys}
-        if action in simple:
-            simple[action]()
-        elif action in MOVES:
-            view.move(action, count, self.memory_rows(), self.session.size)
-        elif action in PROMPTS:
-            self.prompt = Prompt(action, PROMPTS[action], self.typed[action])
+        {"next-part": lambda: view.next_pane(1), "part-before": lambda: view.next_pane(-1), "follow": view.follow,
+         "processor-before": lambda: view.choose_processor(view.processor - count),
+         "next-processor": lambda: view.choose_processor(view.processor + count),
+         "processor-in-slot": lambda: view.choose_processor(self.session.state.slot), "instructions": view.toggle_program,
+         "display-code": view.toggle_display_code, "source": self.toggle_source, "central": self.toggle_central,
+         "origin": self.show_origin, "calls": self.show_calls, "pictures": self.show_pictures, "log": self.show_log,
+         "help": self.show_keys}[action]()
 
     def show_keys(self):
         self.page = Page("The keys of the panel", [Line(text) for text in help_lines()])
@@ -219,20 +210,13 @@ class Panel:
     # ---- lines
 
     def guard(self, function, *words):
-        """Calls a function that needs the simulator, and returns what it returns, or None if the simulator or a device fails."""
+        """Calls a function that makes turns, and returns what it returns, or None if a device fails."""
         try:
             return function(*words)
         except DeviceFailure as failure:
-            self.guard(self.session.look_again)
-            self.message = self.message if self.fault else str(failure)
-        except Failure as failure:
-            self.fault = str(failure)
-            self.message = self.last_words()
-        return None
-
-    def last_words(self):
-        """Returns what can still be done after the simulator failed, and why it did."""
-        return f"w FILE saves what was sent, q quits: {self.fault}"
+            self.session.look_again()
+            self.message = str(failure)
+            return None
 
     def send_action(self, action, count):
         session, view = self.session, self.view
@@ -242,7 +226,7 @@ class Panel:
     def send(self, lines):
         """Sends lines, but asks before the first of them discards what is ahead, unless it will be refused."""
         ahead = self.session.history.to_redo
-        if ahead and lines[0].upper().split()[:1] in NEW_ACTIONS and not self.guard(self.session.would_refuse, lines[0]):
+        if ahead and lines[0].upper().split()[:1] in NEW_ACTIONS and not self.session.would_refuse(lines[0]):
             self.asked = lines
             self.message = f"{lines[0]} discards the {ahead:o} actions ahead: y sends it, any other key does not"
         else:
@@ -260,9 +244,8 @@ class Panel:
         """Sends lines, and shows what is to be said about them."""
         self.shown_at = time.monotonic()
         outcome = self.guard(self.session.perform, lines, self.stops)
-        said = self.guard(remarks, self.session, outcome, self.view.place(), self.symbols) if outcome else None
-        if said is not None:
-            self.message = in_width(said, self.columns)
+        if outcome:
+            self.message = in_width(remarks(self.session, outcome, self.view.place(), self.symbols), self.columns)
 
     # ---- a line that is typed
 
@@ -315,9 +298,8 @@ class Panel:
         """Goes to a turn, and shows what is to be said of it."""
         replays = self.session.simulator.replays
         self.guard(self.session.to_turn, turn)
-        if self.fault is None:
-            more = [f"{REPLAYED} in a fresh simulator"] if self.session.simulator.replays > replays else []
-            self.message = in_width(said + more, self.columns)
+        more = [f"{REPLAYED} in a fresh simulator"] if self.session.simulator.replays > replays else []
+        self.message = in_width(said + more, self.columns)
 
     def go_to_found(self, find, text):
         """Goes to the next turn at which a condition comes to hold, or the last one before; without a text, that typed before."""

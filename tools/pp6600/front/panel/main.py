@@ -28,7 +28,5 @@ def main():
     lines = symbols.loading([] if script is None else script_lines(script))
     panel = Panel(LoggedSession(simulator(asked), devices_of(asked)), symbols)
     ended_by = terminal.run(panel, lines, asked.turn)
-    if panel.fault:
-        raise Failure(panel.fault)
     panel.session.close()
     return 128 + ended_by if ended_by else 0
