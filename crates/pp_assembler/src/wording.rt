@@ -69,7 +69,7 @@ impl Writer<'_> {
     /// Writes an octal number between two texts.
     fn octal(&mut self, before: &[u8], number: i64, after: &[u8]) -> Result<(), AllocError> {
         self.text(before)?;
-        put_octal(self.alloc, &mut self.out, number, 1)?;
+        put_octal(&mut self.out, number, 1)?;
         self.text(after)
     }
 
@@ -385,7 +385,7 @@ impl Writer<'_> {
                 } else {
                     b"cell "
                 })?;
-                put_octal(self.alloc, &mut self.out, i64::from(cell), 4)?;
+                put_octal(&mut self.out, i64::from(cell), 4)?;
                 self.decimal(b" is filled by line ", line, b" (decimal) too")
             }
             Fault::Backwards { count } => self.octal(
