@@ -12,12 +12,12 @@ const page = vm.runInContext(code, vm.createContext({ WebAssembly, TextDecoder, 
   const calls = new page.Assembler(await page.openLibrary(fs.readFileSync(module_)));
   page.setFilm(JSON.parse(fs.readFileSync(about)));
   for (const text of JSON.parse(fs.readFileSync(sources))) {
-    const { rows, faults } = calls.written("assemble", text, page.WRITTEN.COMPLAINTS), made = { messages: rows, faults };
+    const { lines, faults } = calls.written("assemble", text, page.WRITTEN.COMPLAINTS), made = { messages: lines, faults };
     if (!faults) {
-      const lines = text.replace(/\n$/, "").split("\n"), words = calls.written("assemble", text, page.WRITTEN.LINES).rows.map(page.rowOfWords);
-      made.load = calls.written("load_lines", text, 3).rows;
-      made.source = page.sourceOf("a.pp", lines, words);
-      made.labels = page.labelsOf(lines, words, calls.written("assemble", text, page.WRITTEN.NAMES).rows);
+      const texts = text.replace(/\n$/, "").split("\n"), words = calls.written("assemble", text, page.WRITTEN.LINES).lines.map(page.rowOfWords);
+      made.load = calls.written("load_lines", text, 3).lines;
+      made.source = page.sourceOf("a.pp", texts, words);
+      made.labels = page.labelsOf(texts, words, calls.written("assemble", text, page.WRITTEN.NAMES).lines);
     }
     console.log(JSON.stringify(made));
   }

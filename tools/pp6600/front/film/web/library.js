@@ -139,3 +139,15 @@ class LibrarySession extends Rooms {
 }
 
 if (typeof module !== "undefined") module.exports = { STATUS, LibraryError, LibrarySession, openLibrary };
+
+// The assembler, whose calls need no session.
+class Assembler extends Rooms {
+  // Returns the lines that a call writes of a source, for a form or a processor, and how many faults the source has.
+  written(call, source, number, room = 1 << 16) {
+    const given = this.given("source", new TextEncoder().encode(source)), into = this.room("text", room);
+    const status = this.calls[`pp6600_${call}`](...given, number, into, BigInt(room), ...this.outs(2)), [count, faults] = this.results(2);
+    if (status === STATUS.ROOM) return this.written(call, source, number, count);
+    if (status !== STATUS.DONE) throw new LibraryError(status);
+    return { lines: new TextDecoder().decode(this.view(Uint8Array, into, count)).split("\n").slice(0, -1), faults };
+  }
+}
