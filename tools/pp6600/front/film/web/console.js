@@ -51,7 +51,7 @@ async function saveFilm() {
   for (const kind of ["deck", "panel"]) if (engine.given[kind]) files.push({ kind, name: kind, bytes: engine.given[kind] });
   const about = { ...engine.about, ...engine.given.options, files, again: "", opens: null };
   if (!hasPictures(script)) delete about.pictures;
-  const text = await deflated(new TextEncoder().encode(JSON.stringify(about)), "deflate");
+  const text = await packed(new TextEncoder().encode(JSON.stringify(about)), "deflate");
   const page = engine.page.replace(/(<script type="text\/plain" id="film">)[^<]*/, (_, begin) => `${begin}\n${text}\n`);
   saveBytes(new TextEncoder().encode(page), `${nameOfSession()}.html`);
 }
@@ -77,12 +77,12 @@ async function beginAnew(given, said) {
 // ---- links: the script, and if they are not those of the file the deck and the panel, in the part of the address after #
 
 const LONGEST_LINK = 8000;
-const inLink = async (text) => (await deflated(bytesOfText(text), "deflate-raw")).replace(/\+/g, "-").replace(/\//g, "_").replace(/=+$/, "");
+const deflated = async (text) => (await packed(bytesOfText(text), "deflate-raw")).replace(/\+/g, "-").replace(/\//g, "_").replace(/=+$/, "");
 
 async function copyLink() {
   const { script } = await ask("script"), given = { ...engine.given, script }, own = { ...filesOf(engine.about), script: null };
   const kinds = ["script", "deck", "panel"].filter((kind) => given[kind] !== own[kind]);
-  const words = await Promise.all(kinds.map(async (kind) => `${kind}=${await inLink(given[kind])}&`));
+  const words = await Promise.all(kinds.map(async (kind) => `${kind}=${await deflated(given[kind])}&`));
   const link = `${location.href.split("#")[0]}#${words.join("")}moment=${octal(film.at)}${placeInAddress()}`;
   if (link.length > LONGEST_LINK) return say("the session is too long for a link: save the file, and pass that on", true);
   try {

@@ -18,7 +18,7 @@ async function inflated(text, format = "deflate") {
   }
 }
 
-async function deflated(bytes, format) {
+async function packed(bytes, format) {
   const all = await through(new CompressionStream(format), bytes);
   let letters = "";
   for (let at = 0; at < all.length; at += 8192) letters += String.fromCharCode(...all.subarray(at, at + 8192));

@@ -2,12 +2,8 @@
 
 const byHand = (move) => (count = 1, digits = "") => { play(false); return move(count, digits); };
 
-// The next moment in a direction that is a turn of the chosen processor; -1 if there is none.
-function turnBeside(direction) {
-  let at = film.at + direction;
-  while (at > 0 && at < film.count && !(isTurn(at) && film.processor[at] === memory.processor)) at += direction;
-  return at > 0 && at < film.count ? at : -1;
-}
+const isTurnOfChosen = (moment) => isTurn(moment) && film.processor[moment] === memory.processor;
+const beforeTurn = () => (film.at ? Math.max(0, (isTurn(film.at) ? film.at : nearest(-1, isTurn)) - 1) : -1);
 
 // On so many times to where find() says; from the end of the film on by turns.
 function onwards(count, find, turns) {
@@ -71,11 +67,11 @@ const showAs = (form, other) => showMemoryAs({ as: memory.as === form ? other : 
 
 const ACTIONS = {
   on: byHand((count) => onwards(count, () => film.at + 1, (left) => left)), back: byHand((count) => backwards(count, () => film.at - 1)),
-  "round-on": byHand((count) => onwards(count, () => aRound(1), (left) => left * ROUND)),
-  "round-back": byHand((count) => backwards(count, () => (film.at ? aRound(-1) : -1))),
-  "next-turn": byHand((count) => onwards(count, () => turnBeside(1),
-    (left) => ((memory.processor - numberOf("SLOT") + PROCESSORS) % PROCESSORS) + 1 + ROUND * (left - 1))),
-  "turn-before": byHand((count) => backwards(count, () => turnBeside(-1))),
+  "round-on": byHand((count) => onwards(PROCESSORS * count, () => nearest(1, isTurn), (left) => left)),
+  "round-back": byHand((count) => backwards(PROCESSORS * count, beforeTurn)),
+  "next-turn": byHand((count) => onwards(count, () => nearest(1, isTurnOfChosen),
+    (left) => ((memory.processor - numberOf("SLOT") + PROCESSORS) % PROCESSORS) + 1 + PROCESSORS * (left - 1))),
+  "turn-before": byHand((count) => backwards(count, () => nearest(-1, isTurnOfChosen))),
   beginning: byHand(() => moveTo(0)), newest: byHand(() => moveTo(lastMoment())), "back-to-change": byHand(backToChange), watch,
   turn: byHand(async (count, digits) => (digits ? accept("turn", await goToTyped(digits)) : byId("turn").select())),
   until: () => typeLine("until "), "back-until": () => typeLine("back until "),

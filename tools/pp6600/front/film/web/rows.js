@@ -2,8 +2,6 @@
 // numbers before and after it. So the page goes to and fro over any distance without computing a turn. The worker has the simulator, and
 // delivers the moments; they come at the end.
 
-const ROUND = 10;
-
 let film; // what the page is made of; see openRows
 const shown = { chosen: null, changes: [], changed: new Set(), origin: null, originLines: new Set(), columns: [], playing: null };
 const isTurn = (moment) => film.kinds[moment] < LINE;
@@ -134,14 +132,9 @@ function changeAfter(changes, moment) {
   return [next, 0];
 }
 
-// A round to or fro: ten turns, or up to those that were skipped.
-function aRound(direction) {
-  let moment = film.at;
-  for (let turns = 0; turns < ROUND && moment + direction >= 0 && moment + direction < film.count;) {
-    if (direction > 0) moment++;
-    if (isTurn(moment)) turns++;
-    if (direction < 0) moment--;
-    if (film.kinds[moment] === SKIP) break;
-  }
-  return moment;
+// The nearest moment in a direction for which something holds; -1 if there is none.
+function nearest(direction, holds) {
+  let at = film.at + direction;
+  while (at > 0 && at < film.count && !holds(at)) at += direction;
+  return at > 0 && at < film.count ? at : -1;
 }
