@@ -213,10 +213,9 @@ function moveLine(direction) {
 
 // Above each part that may be wider or higher than its room a line says on which sides there is more.
 function showSign(box) {
-  const sides = [["←", box.scrollLeft > 1], ["→", box.scrollLeft + box.clientWidth < box.scrollWidth - 1],
-    ["↑", box.scrollTop > 1], ["↓", box.scrollTop + box.clientHeight < box.scrollHeight - 1]];
-  const arrows = sides.filter(([, more]) => more).map(([arrow]) => arrow);
-  fill(box.previousElementSibling, arrows.length ? `more ${arrows.join(" ")}` : "");
+  const arrows = classes({ "←": box.scrollLeft > 1, "→": box.scrollLeft + box.clientWidth < box.scrollWidth - 1,
+    "↑": box.scrollTop > 1, "↓": box.scrollTop + box.clientHeight < box.scrollHeight - 1 });
+  fill(box.previousElementSibling, arrows && `more ${arrows}`);
 }
 
 const showSigns = () => document.querySelectorAll(".wide").forEach(showSign);

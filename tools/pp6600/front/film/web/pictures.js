@@ -1,5 +1,6 @@
 // ---- what devices of one's own show in the script of the file, at each of its moments
 
+const pictures = []; // of each device the description of what is seen, and its text
 const devicesShown = () => (film.pictures ? film.pictures.devices : []);
 
 function buildPictures() {
@@ -17,11 +18,10 @@ const hasPictures = (script) => Boolean(engine.about.pictures)
 function showPictures() {
   const moment = resolve(film.at), isOwn = hasPictures(engine.given.script), isBeyond = isOwn && moment >= film.pictures.moments;
   const why = !isOwn ? "it is known for the script of the file alone" : isBeyond ? "this is what it showed at the end of the script" : "";
-  fill(byId("pictures"), devicesShown().map((device) => {
-    const { name, channel, shown: all } = device, [, seen] = (isOwn && all.findLast(([from]) => from <= moment)) || [0, []];
-    const html = seen.map((line) => film.pictures.lines[line]).join("");
-    if (device.html !== html) Object.assign(device, { html, picture: make("div", { innerHTML: html }) });
+  fill(byId("pictures"), devicesShown().map(({ name, channel, shown: all }, at) => {
+    const [, seen] = (isOwn && all.findLast(([from]) => from <= moment)) || [0, []], html = seen.map((line) => film.pictures.lines[line]).join("");
+    if (!pictures[at] || pictures[at].html !== html) pictures[at] = { html, picture: make("div", { innerHTML: html }) };
     return make("figure", {}, make("figcaption", {}, `${name} on channel ${two(channel)}`),
-      make("p", {}, why && `this page has no ${name}: ${why}`), device.picture);
+      make("p", {}, why && `this page has no ${name}: ${why}`), pictures[at].picture);
   }));
 }

@@ -15,7 +15,7 @@ const isStarts = (name) => /starts$/i.test(name);
 function openRows(about) {
   const rows = Object.entries({ ...ROWS, ...OWN_ROWS }).map(([name, Kind]) => [name, new Kind(isStarts(name) ? 1 : 0)]);
   film = {
-    ...about, ...Object.fromEntries(rows), numbers: new Int32Array(setLayout(about.central)), count: 0, at: -1, highestTurn: 0, position: 0,
+    ...about, ...Object.fromEntries(rows), numbers: new Int32Array(setLayout(about.central)), count: 0, at: -1, highestTurn: 0,
     lines: [], next: [], constants: [], jumps: new Map(), skips: new Map(), breaks: [], // breaks: the moments of jumps and skips
     phases: range(PROCESSORS).map(() => []), // of each processor the moments that changed its phase
   };
@@ -40,14 +40,14 @@ function append(name, more) {
 }
 
 // Adds what has come.
-function grow({ rows, next, constants, lines, jumps, skips, position }) {
+function grow({ rows, next, constants, lines, jumps, skips }) {
   if (film.count) goTo(lastMoment());
   const first = film.count, firstLine = film.lines.length;
   for (const [name, more] of Object.entries(rows)) append(name, more);
   for (const [name, more] of Object.entries({ next, constants, lines })) film[name].push(...more);
   for (const [moment, to] of jumps) film.jumps.set(moment, to);
   for (const [moment, turns] of skips) film.skips.set(moment, turns);
-  Object.assign(film, { count: first + rows.kinds.length, position });
+  film.count += rows.kinds.length;
   for (const name of Object.keys(OWN_ROWS)) film[name] = longer(film[name], film.count);
   film.lineAt.fill(-1, first);
   lines.forEach((line, at) => line.acts && film.lineAt.fill(firstLine + at, line.first, line.moment + 1));

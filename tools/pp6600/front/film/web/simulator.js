@@ -1,12 +1,14 @@
 // ---- the simulator with its numbers: each action that it performs is told with what it overwrote
 
-const MOST_AT_ONCE = 1 << 18, MOST_RECORDED = 1 << 14, OLD_NUMBERS = 8 * MOST_RECORDED, NO_TURN = 10;
+const MOST_AT_ONCE = 1 << 18, MOST_RECORDED = 4096, OLD_NUMBERS = 8 * MOST_RECORDED, NO_TURN = 10;
 const OLD_WORDS = 4, LOW = 2, HIGH = 3; // an old number: its place and the number itself, each of 64 bits as two words
 
 class Simulator {
   constructor(calls, options) {
     this.session = new LibrarySession(calls, options);
     this.numbers = new Int32Array(setLayout(options.central));
+    // Of the places that the latest batch of turns overwrote: the numbers that the action before left, and the number of the batch.
+    Object.assign(this, { left: new Uint32Array(2 * layout.high), batch: new Uint32Array(layout.high), latest: 0 });
     this.readAll(() => {});
   }
 
@@ -65,18 +67,20 @@ class Simulator {
   // The number that its action left at each place of these old numbers, as two words: the old number of the next action that overwrote it,
   // or the number that is there now. If an action names a place twice, the first old number is the one that was there.
   newNumbers(made, old) {
-    const now = new Uint32Array(old.length / 2), words = this.words(0, layout.high);
+    const now = new Uint32Array(old.length / 2), { left } = this, latest = ++this.latest;
     for (let at = made.length - 2, end = now.length / 2; at >= 0; at -= 2) {
       const first = end - made[at + 1];
       for (let pair = first; pair < end; pair++) {
         const place = old[OLD_WORDS * pair];
-        now[2 * pair] = words[2 * place];
-        now[2 * pair + 1] = words[2 * place + 1];
+        if (this.batch[place] !== latest) left.set(this.words(place, 1), 2 * place);
+        this.batch[place] = latest;
+        now[2 * pair] = left[2 * place];
+        now[2 * pair + 1] = left[2 * place + 1];
       }
       for (let pair = end - 1; pair >= first; pair--) {
         const place = old[OLD_WORDS * pair];
-        words[2 * place] = old[OLD_WORDS * pair + LOW];
-        words[2 * place + 1] = old[OLD_WORDS * pair + HIGH];
+        left[2 * place] = old[OLD_WORDS * pair + LOW];
+        left[2 * place + 1] = old[OLD_WORDS * pair + HIGH];
       }
       end = first;
     }
