@@ -6,8 +6,7 @@ from typing import Optional
 from ...language.names import AllSymbols
 from ...run.forms import CELLS, ROW, Place
 from ...run.state import State
-from .program import WIDTH, program_lines, sentence_line
-from .source_pane import source_lines
+from .rows_pane import WIDTH, rows_pane, sentence_line
 from .text import (
     CHANGED, CHOSEN, CURSOR, HEAD, HERE, REFUSED, SLOT, TITLE, WATCHED, Line, beside, in_height)
 from .view import View, central_top, memory_top
@@ -76,10 +75,8 @@ def layout(columns, rows, is_by_rows=False):
 
 
 def are_zero(memory, first, count):
-    """Returns whether so many words from the first cell on are 0000. It looks at rows, for there may be thousands of cells."""
-    last, before = first + count, first % ROW
-    words = "".join(row[4:] for row in (memory.rows * 2)[first // ROW:last // ROW + 1])
-    return not words[5 * before:5 * (before + count)].strip(" 0")
+    """Returns whether so many words from the first cell on are 0000."""
+    return not any((memory.numbers * 2)[first:first + count])
 
 
 def is_idle(now, was, number):
@@ -181,12 +178,12 @@ def memory_lines(shown, rows):
 def central_line(shown, address):
     """Returns a central word: a star is before one that the last action changed, w before a watched one."""
     view = shown.view
-    now, was = shown.state.central.get(address), shown.before.central.get(address)
-    is_watched = Place("C", (address,)) in shown.state.watched
-    changed = CHANGED if now and was and now != was else None
+    place = Place("C", (address,))
+    is_watched, now = place in shown.state.watched, shown.state.number_at(place)
+    changed = CHANGED if now != shown.before.number_at(place) else None
     line = Line(f"{address:06o}").add("*" if changed else "w" if is_watched else " ", changed)
     cursor = shown.cursor_in("central") if address == view.word else None
-    return line.add(now or "", changed, cursor, WATCHED if is_watched else None)
+    return line.add(now, changed, cursor, WATCHED if is_watched else None)
 
 
 def central_lines(shown, rows):
@@ -198,11 +195,8 @@ def memory_part(shown, rows, width):
     """Returns the memory of the chosen processor, with central memory beside it, or a source in the whole width."""
     view = shown.view
     if not view.shows_central:
-        return source_lines(shown, rows, width)
-    if view.source is not None:
-        memory = source_lines(shown, rows, WIDTH)
-    else:
-        memory = (program_lines if view.as_program else memory_lines)(shown, rows)
+        return rows_pane(shown, rows, width)
+    memory = rows_pane(shown, rows, WIDTH) if view.is_by_rows else memory_lines(shown, rows)
     return beside(memory, central_lines(shown, rows), CENTRAL_FROM)
 
 
@@ -217,8 +211,7 @@ def machine_lines(shown, rows, width):
 
 def watch_part(shown, place):
     """Returns a watched place with its number."""
-    now = shown.state.number_at(place)
-    return Line(f"{place.text} ").add_number(now or "", shown.before.number_at(place) if now else None)
+    return Line(f"{place.text} ").add_number(shown.state.number_at(place), shown.before.number_at(place))
 
 
 def watch_rows(shown, width, rows):

@@ -261,7 +261,8 @@ function buildControls() {
 }
 
 function build() {
-  for (const part of [buildControls, buildKeys, buildSource, buildPictures, buildLanes, buildExercises, buildMeanings, buildConsole]) part();
+  for (const part of [buildControls, buildKeys, buildSource, buildPictures, buildLanes, buildExercises, buildMeanings, buildConsole,
+    buildAssembler]) part();
   showFiles();
   placeSections();
   for (const box of document.querySelectorAll(".wide")) {

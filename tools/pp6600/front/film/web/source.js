@@ -9,6 +9,7 @@ const source = { of: new Map(), processor: -1, scrolled: "" };
 function buildSource() {
   if (!film.sources) return;
   byId("source").hidden = false;
+  source.of.clear();
   for (const [text, { name, lines, words }] of Object.entries(film.sources)) {
     const one = { processor: Number(text), name, line: 0, ...indexOfWords(words) };
     const wordsOf = (line) => (one.ofLine.get(line) || []).filter(({ isSecondWord }) => !isSecondWord);
@@ -21,6 +22,13 @@ function buildSource() {
   byId("source-of").onchange = () => chooseMemory(Number(byId("source-of").value));
   byId("previous-time").onclick = () => moveToTime(source.of.get(source.processor), -1);
   byId("next-time").onclick = () => moveToTime(source.of.get(source.processor), 1);
+}
+
+// Shows the source that a processor has now.
+function rebuildSource(n) {
+  buildSource();
+  source.processor = n;
+  growSource(0);
 }
 
 // ---- words
