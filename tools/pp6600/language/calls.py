@@ -3,7 +3,7 @@ the cell of the next word, and no jump."""
 
 from __future__ import annotations
 
-from typing import TYPE_CHECKING, Iterator, List, NamedTuple, Optional, Sequence, Set
+from typing import TYPE_CHECKING, Iterator, List, NamedTuple, Optional, Set
 
 from ..run.conditions import RJM, parsed
 from ..run.forms import CELLS, PROCESSORS, Place
