@@ -18,6 +18,7 @@ from ..engine.choice import HOME, LIBRARIES, NAMES, first_that_starts, handed_ou
 from ..failure import Failure
 from .completions import filled
 from .files import checked_program
+from .text_files import bytes_of
 
 TOP = os.path.dirname(os.path.dirname(os.path.dirname(os.path.dirname(os.path.realpath(__file__)))))  # the checkout, or OWN below a prefix
 IS_CHECKOUT = os.path.exists(os.path.join(TOP, "share", "which-build"))
@@ -38,6 +39,14 @@ LOADED = (".so", ".dll", ".wasm")  # how files end that are loaded, and not run
 # A link of a page, with its text; the file that it leads to is before a #.
 LINKS = {".md": re.compile(r"!?\[(?P<text>[^\[\]]*)\]\((?P<file>[^)#:\s]+)[^)]*\)"),
          ".html": re.compile(r"""<a\b[^>]*? href="(?P<file>[^"#:]+)[^>]*>(?P<text>.*?)</a>""", re.S)}
+
+
+def page_module() -> bytes:
+    """Returns the simulator with which a page runs: that of a checkout or of a class, whose folder has it in dist, or of an installation."""
+    for path in (os.path.join(HOME, "dist", PAGE_MODULE), os.path.join(HOME, PAGE_MODULE)):
+        if os.path.exists(path):
+            return bytes_of(path)
+    raise Failure(f"there is no {PAGE_MODULE} here, with which a page runs")
 
 
 class File(NamedTuple):
