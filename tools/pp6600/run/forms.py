@@ -178,14 +178,6 @@ def words_of(rows: Iterable[str]) -> List[str]:
     return [word for row in rows for word in row.split()[1:]]
 
 
-def dumps_from(dump: str, first: int, count: int, addresses: int, size: int) -> List[str]:
-    """Returns the lines that show so many numbers from the first on. After so many addresses comes address 0 again, and from the
-    size on there is nothing."""
-    last = first + count - 1
-    lines = [f"{dump} {first:o} {min(last, size - 1):o}"] if first < size else []
-    return lines + ([f"{dump} 0 {last - addresses:o}"] if last >= addresses else [])
-
-
 def is_refusal(answer: Sequence[str]) -> bool:
     """Returns whether an answer refuses its line."""
     return bool(answer) and answer[0].startswith("ERR ")
