@@ -31,11 +31,14 @@ function labelsOf(lines, rows, names) {
   const exits = all.filter(({ name, equals, number }) => !equals && has.has(`${name}X ${number - 1}`)).map(({ number }) => number - 1);
   const called = new Set(rows.filter(({ words }) => words[0] === RJM).map(({ words }) => words[1]));
   const jumps = rows.filter(({ words, location }) => words[0] === LJM && called.has(location + 1)).map(({ location }) => location);
-  const text = ({ number, words }) => [words[0], untabbed(lines[number - 1]).trim()];
+  const words = rows.flatMap((row) => row.words.map((_, at) => ({ ...row, at })));
+  const text = ({ number, words: [word] }) => [word, untabbed(lines[number - 1]).trim()];
+  const begun = (all, first) => [...new Map(all.map((word) => [word[first] + word.at, word]))].filter(([, { at }]) => !at)
+    .map(([address, word]) => [address, text(word)]);
   return {
-    names: namesOf(labels, byNumber(true), new Set(rows.flatMap(({ location, words }) => words.map((_, at) => location + at)))),
+    names: namesOf(labels, byNumber(true), new Set(words.map(({ location, at }) => location + at))),
     addresses: Object.fromEntries([...labels].map(([number, name]) => [name, number])),
-    texts: Object.fromEntries([...rows.map((row) => [row.origin, text(row)]), ...rows.map((row) => [row.location, text(row)]).reverse()]),
+    texts: Object.fromEntries([...begun(words, "origin"), ...begun([...words].reverse(), "location")]),
     entries: [...new Set([...exits, ...jumps])].map((address) => [address, address + 1]),
   };
 }
