@@ -15,7 +15,7 @@ from .test_assemble import sections
 from .test_assembler_crate import sources
 
 from pp6600.engine.assembler import COMPLAINTS, LINES, NAMES, assembler_here
-from pp6600.language.assembling import NOT_YET, by_library, in_python
+from pp6600.language.assembling import STOPS, by_library, in_python
 from pp6600.language.source.disassembler import Disassembler
 from pp6600.language.source.passes import assembled
 from pp6600.language.sources import names_of
@@ -51,7 +51,7 @@ class Library(Case):
             got, wanted = by_library(assembler_here(), source, "a.pp", form, 9 - number), in_python(source, "a.pp", form, 9 - number, None, None)
             if got is None:
                 (refusal,) = assembler_here().text(source, COMPLAINTS)[0].decode().splitlines()[:1]
-                self.assertTrue(refusal.endswith(NOT_YET), refusal)
+                self.assertTrue(refusal.endswith(STOPS), refusal)
                 continue
             taken = True
             self.assertEqual((wanted.complaints, wanted.is_wrong), (got.complaints, got.is_wrong))
@@ -101,7 +101,8 @@ class Tools(Case):
 
     def test_assemble(self):
         self.assertEqual(0, self.both("assemble", "--set", "3", os.path.join(TOP, "tests", "programs", "monitor.pp")).status)
-        for number, lines in enumerate((["  LDN 5"], ["  LDN"], [" A LDN A", "  IFEQ 1,1", "  UJN 0", "  ENDIF"], [], ["  LDC =5"], ["* É", " É LDN 100B"])):
+        for number, lines in enumerate((["  LDN 5"], ["  LDN"], [" A LDN A", "  IFEQ 1,1", "  UJN 0", "  ENDIF"], [], ["  LDC =5"], ["* É", " É LDN 100B"],
+                                         ["  BASE OCTAL", *["  ORG 0", "  BSSZ 7777"] * 30])):
             path = self.file("".join(f"{line}\n" for line in lines), f"{number}.pp")
             for words in ((), ("--listing",), ("--set", "0"), ("--panel",), ("--deck",), ("--unit", "A"), ("--text", TOP)):
                 with self.subTest(lines=lines, words=words):
