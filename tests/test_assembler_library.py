@@ -6,6 +6,7 @@ library; and tools/disassemble. Sources are those of the repository, right and w
 
 import os
 import random
+import re
 import unittest
 from unittest import mock
 
@@ -65,7 +66,8 @@ class Library(Case):
         """Compares what only the page asks for."""
         if not program.messages:
             self.assertEqual(rows_with_words(program), assembler_here().text(source, LINES)[0].decode().splitlines())
-            self.assertEqual(names_in(program), sorted(assembler_here().text(source, NAMES)[0].decode().splitlines()))
+            names = [name for name in assembler_here().text(source, NAMES)[0].decode().splitlines() if not re.match(r"Z\.[0-7]{4}", name)]
+            self.assertEqual(names_in(program), sorted(names))  # without those of LOCAL
 
     def test_sources(self):
         taken = 0
