@@ -56,14 +56,9 @@ const nameWith = (kind, indices) => [kind, ...indices.map((index, at) => octal(i
 
 // The kind and the indices of the number at a place, its upper half too; or null if it has no name.
 function kindAt(place) {
-  let at = isUpper(place) ? wordOfUpper(place) : place;
-  const [kind, { first, sizes }] = Object.entries(KINDS).findLast(([, one]) => one.first <= at), indices = [];
-  at -= first;
-  for (const size of [...sizes].reverse()) {
-    indices.unshift(at % size);
-    at = Math.floor(at / size);
-  }
-  return at ? null : { kind, indices };
+  const word = isUpper(place) ? wordOfUpper(place) : place, [kind, { first, sizes }] = Object.entries(KINDS).findLast(([, one]) => one.first <= word);
+  const last = sizes.at(-1), at = word - first, indices = [[], [at], [Math.floor(at / last), at % last]][sizes.length];
+  return at < sizes.reduce((count, size) => count * size, 1) ? { kind, indices } : null;
 }
 
 // The name of the number at a place, as M 00 0106; "" of one that has none.

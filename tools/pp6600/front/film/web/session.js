@@ -124,17 +124,12 @@ class Session {
 
   // How so many turns are recorded: all, or if the session would become too long the last ones and those that are wanted.
   partsOf(turns) {
-    if (this.recorder.count + turns <= MOST_MOMENTS) return [{ count: turns, isRecorded: true }];
-    const end = this.position + turns, parts = [];
-    let at = this.position;
-    for (const [from, to] of [...this.wanted, [end - AFTER_LONG, end]]) {
-      const [low, high] = [Math.max(from, at), Math.min(to, end)];
-      if (low >= high) continue;
-      if (low > at) parts.push({ count: low - at, isRecorded: false });
-      parts.push({ count: high - low, isRecorded: true });
-      at = high;
-    }
-    return parts;
+    const begin = this.position, end = begin + turns, isShort = this.recorder.count + turns <= MOST_MOMENTS;
+    const ranges = isShort ? [[begin, end]] : [...this.wanted, [end - AFTER_LONG, end]];
+    const points = [begin, end, ...ranges.flat()].filter((at) => at >= begin && at <= end).sort((one, other) => one - other);
+    const isRecorded = (from, to) => ranges.some(([low, high]) => low < to && from < high);
+    const parts = points.slice(1).map((to, at) => ({ count: to - points[at], isRecorded: isRecorded(points[at], to) }));
+    return parts.filter(({ count }) => count > 0);
   }
 
   // Returns whether a watch ended the turns.
