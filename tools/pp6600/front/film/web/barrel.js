@@ -10,7 +10,7 @@ const barrel = { folded: false, all: [], channels: [], used: new Set() }; // cha
 function findChannels(first) {
   if (!first) barrel.used = new Set(Object.keys(film.devices).map(Number));
   for (const place of film.places.subarray(film.starts[first])) if (channelAt(place) >= 0) barrel.used.add(channelAt(place));
-  for (const { word } of film.next) if (turning.isOfChannel(word >> 6)) barrel.used.add(word & 0o77);
+  for (const number of film.turned.subarray(first)) if (turning.isOfChannel((number % CELLS) >> 6)) barrel.used.add(number & 0o77);
   barrel.all = [...barrel.used].filter((c) => c <= CLOCK).sort((one, other) => one - other);
 }
 

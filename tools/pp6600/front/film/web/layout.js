@@ -56,7 +56,8 @@ const nameWith = (kind, indices) => [kind, ...indices.map((index, at) => octal(i
 
 // The kind and the indices of the number at a place, its upper half too; or null if it has no name.
 function kindAt(place) {
-  const word = isUpper(place) ? wordOfUpper(place) : place, [kind, { first, sizes }] = Object.entries(KINDS).findLast(([, one]) => one.first <= word);
+  const word = isUpper(place) ? wordOfUpper(place) : place;
+  const [kind, { first, sizes }] = Object.entries(KINDS).findLast(([, one]) => one.first <= word);
   const last = sizes.at(-1), at = word - first, indices = [[], [at], [Math.floor(at / last), at % last]][sizes.length];
   return at < sizes.reduce((count, size) => count * size, 1) ? { kind, indices } : null;
 }
@@ -99,7 +100,7 @@ function watchesIn(numbers) {
 // The kinds of a moment: what a processor did in a turn; another action; a BACK or FORWARD; turns that were not recorded.
 const IDLE = 0, WAITING = 1, BUSY = 2, BLOCK = 3, LINE = 4, JUMP = 5, SKIP = 6;
 
-// What the page gets of the moments: of each its kind, and of a turn its processor, P and the row of its instruction; where its changes
+// What the page gets of the moments: of each its kind, and of a turn its processor, P and the number of its instruction; where its changes
 // begin among the places, with the numbers there before and after it; and where its writes begin, with the places that each read. In what
 // the recorder delivers the starts are those of the next one.
 const ROWS = {

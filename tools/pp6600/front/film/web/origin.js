@@ -103,6 +103,14 @@ function sourceText({ place, parts }) {
   return isWord(place) && parts ? `${nameOf(place)} part ${some.join(" ")}` : nameOf(place);
 }
 
+// The constant of a write, in words; or "".
+function constantText(moment, { what }) {
+  const { word, second } = turnOf(moment), name = CONSTANTS[what >> CONSTANT_FROM], d = two(word & 0o77);
+  const texts = { d, m: second, dm: d + second };
+  if (name in texts) return `the constant ${texts[name]}`;
+  return { return: "the return address", "no word": "zero, past the last central word" }[name] || name;
+}
+
 // What wrote a step's number, in words.
 function causeText(step) {
   const { moment, write } = step, when = whenText(Math.max(0, moment));
@@ -114,7 +122,7 @@ function causeText(step) {
   if (column) return `${when}, the card reader, card ${four(column.card)} column ${octal(column.column, 3)}`;
   if (isDevice(step)) return `${when}, the status of the ${film.devices[step.place - layout.words]}`;
   const times = step.times > 1 ? `, ${octal(step.times)} times since ${whenText(step.earliest)}` : "";
-  const names = [...step.links.map(sourceText), film.constants[write.what >> CONSTANT_FROM]].filter(Boolean).join(" and ") || "zero";
+  const names = [...step.links.map(sourceText), constantText(moment, write)].filter(Boolean).join(" and ") || "zero";
   const verb = write.what & AT_END ? "at its end, of " : !(write.what & MOVED) ? "of " : step.links.length ? "from " : "";
   return `${when}, ${turnText(moment)}${times}, ${verb}${names}`;
 }

@@ -16,7 +16,7 @@ function openRows(about) {
   const rows = Object.entries({ ...ROWS, ...OWN_ROWS }).map(([name, Kind]) => [name, new Kind(isStarts(name) ? 1 : 0)]);
   film = {
     ...about, ...Object.fromEntries(rows), numbers: new Int32Array(setLayout(about.central)), count: 0, at: -1, highestTurn: 0,
-    lines: [], next: [], constants: [], jumps: new Map(), skips: new Map(), breaks: [], // breaks: the moments of jumps and skips
+    lines: [], jumps: new Map(), skips: new Map(), breaks: [], // breaks: the moments of jumps and skips
     phases: range(PROCESSORS).map(() => []), // of each processor the moments that changed its phase
   };
   turning.open(about);
@@ -40,11 +40,11 @@ function append(name, more) {
 }
 
 // Adds what has come.
-function grow({ rows, next, constants, lines, jumps, skips }) {
+function grow({ rows, lines, jumps, skips }) {
   if (film.count) goTo(lastMoment());
   const first = film.count, firstLine = film.lines.length;
   for (const [name, more] of Object.entries(rows)) append(name, more);
-  for (const [name, more] of Object.entries({ next, constants, lines })) film[name].push(...more);
+  film.lines.push(...lines);
   for (const [moment, to] of jumps) film.jumps.set(moment, to);
   for (const [moment, turns] of skips) film.skips.set(moment, turns);
   film.count += rows.kinds.length;

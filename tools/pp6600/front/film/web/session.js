@@ -246,7 +246,7 @@ class Session {
   take() {
     const lines = this.lines.slice(this.sent);
     this.sent = this.lines.length;
-    return { ...this.recorder.take(), lines, jumps: [...this.jumps], skips: this.skips.splice(0) };
+    return { rows: this.recorder.take(), lines, jumps: [...this.jumps], skips: this.skips.splice(0) };
   }
 }
 

@@ -2,11 +2,21 @@
 
 // What a write is: a bit each, and above them the number of its constant.
 const MOVED = 1, BY_DEVICE = 2, AT_END = 8, CONSTANT_FROM = 4;
+const CONSTANTS = ["", "d", "m", "dm", "return", "zero", "no word"]; // by their numbers
+const constant = (name) => CONSTANTS.indexOf(name) << CONSTANT_FROM;
+
+// An instruction as one number: its word, and above it the second word plus 1, 0 if it has none, or more in a block transfer that it began.
+const numberOfInstruction = (one) => one.word + CELLS * (one.phase ? CELLS + 1 : one.row.words === 2 ? one.second + 1 : 0);
+
+function instructionOf(number) {
+  const word = number % CELLS, second = Math.floor(number / CELLS) - 1, hasSecond = second >= 0 && second < CELLS;
+  return { name: turning.nameOf({ word }), word, second: hasSecond ? four(second) : "", isBlock: second >= CELLS };
+}
 
 const turning = (() => {
   const BLOCK_INPUT = 0o71, FRAME_P = 0b11, WITHOUT_B_FIELD = 0b1111, STATES = { inactive: 0, empty: 1, full: 2, function: 3 };
-  const STATE_LETTERS = "IEFX", NAMED_CONSTANTS = new Set(["d", "m", "dm", "return", "word", "zero", ...Object.keys(STATES)]);
-  let tables, constants;
+  const STATE_LETTERS = "IEFX", UNREAD = new Set([...CONSTANTS, "word", "P", ...Object.keys(STATES)]); // what no place is read for
+  let tables;
 
   // Takes the tables as they come: a row has a name, its words, the states in which it goes on, and its effects.
   function open(about) {
@@ -14,7 +24,6 @@ const turning = (() => {
     const rowOf = ([, words, states, effects]) => ({ words, states, effects: effectsOf(effects) });
     const each = (all, made) => Object.fromEntries(Object.entries(all).map(([key, one]) => [key, made(one)]));
     tables = { ...about, table: about.table.map(rowOf), blocks: each(about.blocks, rowOf), ends: each(about.ends, effectsOf) };
-    constants = new Map([["", 0]]);
   }
 
   // ---- a processor before a turn
@@ -121,14 +130,14 @@ const turning = (() => {
 
   // What is moved to a central word, and from parts of one; -1 is a word that there is not.
   const toWord = (word, from, add) => word >= 0 && add(word, MOVED, from.flatMap((place) => [place, 0]));
-  const ofWord = (to, word, parts, add) => (word < 0 ? add(to, MOVED | constant("zero, past the last central word"), [])
+  const ofWord = (to, word, parts, add) => (word < 0 ? add(to, MOVED | constant("no word"), [])
     : add(to, MOVED, [word, parts]));
 
   function readBy(one, sources) {
     const read = [];
     for (const symbol of sources) {
       if (symbol === "F") read.push(layout.frame, FRAME_P);
-      else if (NAMED_CONSTANTS.has(symbol) || symbol === "P" || (symbol === "I" && !one.d) || isZeroed(one, symbol)) continue;
+      else if (UNREAD.has(symbol) || (symbol === "I" && !one.d) || isZeroed(one, symbol)) continue;
       else for (const from of placesOf(one, symbol)) read.push(from, 0);
     }
     return read;
@@ -138,23 +147,13 @@ const turning = (() => {
   const isZeroed = (one, symbol) => symbol === "R" && one.ends === "input" && one.p === 0;
 
   function constantIn(one, sources) {
-    const { d, second } = one, texts = { d: two(d), m: four(second), dm: two(d) + four(second) };
-    for (const symbol of sources) {
-      if (symbol in texts) return constant(`the constant ${texts[symbol]}`);
-      if (symbol === "return") return constant("the return address");
-      if (symbol === "zero" || isZeroed(one, symbol)) return constant("zero");
-    }
-    return 0;
-  }
-
-  function constant(text) {
-    if (!constants.has(text)) constants.set(text, constants.size);
-    return constants.get(text) << CONSTANT_FROM;
+    const symbol = sources.find((name) => CONSTANTS.includes(name) || isZeroed(one, name)) || "";
+    return constant(isZeroed(one, symbol) ? "zero" : symbol);
   }
 
   // ---- in words
 
-  const nameOf = (one) => `${tables.names[one.code]} ${two(one.d)}`;
+  const nameOf = ({ word }) => `${tables.names[word >> 6]} ${two(word & 0o77)}`;
   const secondOf = (one) => (!one.phase && one.row.words === 2 ? four(one.second) : "");
 
   // The address of its instruction, in a block what cell 0000 says; null if it is not there.
@@ -194,6 +193,5 @@ const turning = (() => {
     return `${nameOf(one)} ${second}`.trim() + `: ${text.replace(/\{(.*?)\}/g, (_, name) => SAYS[name](one))}`;
   }
 
-  const namesOfConstants = () => [...constants.keys()];
-  return { open, processor, kindOf, writes, waits, sentence, nameOf, secondOf, addressOf, target, isOfChannel, constants: namesOfConstants };
+  return { open, processor, kindOf, writes, waits, sentence, nameOf, secondOf, addressOf, target, isOfChannel };
 })();
