@@ -58,8 +58,8 @@ function findChange(direction) {
 function show() {
   shown.changed = new Set(changesIn(film.at));
   showMemory();
-  fillTable(tableOf("processors"), PROCESSOR_HEADS, range(PROCESSORS).map(processorRow));
-  fillTable(tableOf("channels"), ["", "state", "", "register", ""], range(CHANNELS + 1).map(channelRow));
+  fillRows("processors", range(PROCESSORS).map(processorRow));
+  fillRows("channels", range(CHANNELS + 1).map(channelRow));
   for (const part of [showSource, showPictures, showWords, showReader, showPrinter, showWatches, showScript, showChosen, showOrigin,
     showPosition, showLanes, showBarrel, showSigns]) part();
 }

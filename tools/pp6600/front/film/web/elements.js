@@ -47,7 +47,4 @@ const cell = (className, parts, more = {}) => make("td", { className, ...more },
 const row = (className, ...parts) => make("tr", { className }, parts.map((part) => (part && part.kind === "td" ? part : cell("", part))));
 const tableOf = (id) => document.querySelector(`#${id} table`);
 
-function fillTable(table, head, rows) {
-  const heads = head.map((text) => make("th", { scope: "col" }, text));
-  fill(table, heads.length ? make("thead", {}, make("tr", {}, heads)) : null, make("tbody", {}, rows));
-}
+const fillRows = (id, rows) => fill(tableOf(id).tBodies[0], rows);

@@ -106,7 +106,6 @@ const IDLE = 0, WAITING = 1, BUSY = 2, BLOCK = 3, LINE = 4, JUMP = 5, SKIP = 6;
 const ROWS = {
   kinds: Uint8Array, processor: Uint8Array, p: Uint16Array, turned: Int32Array, starts: Uint32Array, places: Int32Array, was: Int32Array,
   now: Int32Array, writeStarts: Uint32Array, writes: Int32Array, whats: Int32Array, readStarts: Uint32Array, reads: Int32Array,
-  readParts: Uint8Array,
 };
 
 // Returns the first of so many numbers from 0 on for which something no longer holds; it holds for all before.

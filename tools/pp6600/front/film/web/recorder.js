@@ -20,11 +20,7 @@ class Recorder {
     this.states = [numbers[layout.states + this.reader], numbers[layout.states + this.printer]];
   }
 
-  tell(place, was, now) {
-    this.rows.places.push(place);
-    this.rows.was.push(was);
-    this.rows.now.push(now);
-  }
+  tell(place, was, now) { this.push({ places: place, was, now }); }
 
   end(n) {
     if (n === NO_TURN) return this.endMoment(LINE, 0, 0, 0);
@@ -33,25 +29,15 @@ class Recorder {
     return this.endMoment(kind, n, one.p, numberOfInstruction(one));
   }
 
+  push(numbers) { for (const name of Object.keys(numbers)) this.rows[name].push(numbers[name]); }
+
   addWrite(place, what, read) {
-    const { rows } = this;
-    rows.writes.push(place);
-    rows.whats.push(what);
-    for (let at = 0; at < read.length; at += 2) {
-      rows.reads.push(read[at]);
-      rows.readParts.push(read[at + 1]);
-    }
-    rows.readStarts.push(rows.reads.length);
+    this.rows.reads.push(...read);
+    this.push({ writes: place, whats: what, readStarts: this.rows.reads.length });
   }
 
   endMoment(kind, processor, p, turned) {
-    const { rows } = this;
-    rows.kinds.push(kind);
-    rows.processor.push(processor);
-    rows.p.push(p);
-    rows.turned.push(turned);
-    rows.starts.push(rows.places.length);
-    rows.writeStarts.push(rows.writes.length);
+    this.push({ kinds: kind, processor, p, turned, starts: this.rows.places.length, writeStarts: this.rows.writes.length });
     this.count++;
   }
 
@@ -69,7 +55,7 @@ class Recorder {
   // The column that the reader has put on its channel; none if that was its status.
   columnRead() {
     const [card, column, mode] = this.simulator.numbers.subarray(layout.reader, layout.reader + 3);
-    return this.readerModes[mode] === "READING" ? [layout.deck + COLUMNS * card + column - 1, 0] : [];
+    return this.readerModes[mode] === "READING" ? [layout.deck + COLUMNS * card + column - 1] : [];
   }
 
   // ---- other actions

@@ -57,17 +57,12 @@ function grow({ rows, lines, jumps, skips }) {
 
 // How many turns and moments are in effect after a moment.
 function after(moment) {
-  const kind = film.kinds[moment];
-  if (kind === JUMP || kind === SKIP) film.breaks.push(moment);
-  if (kind === JUMP) {
-    const [target, turn] = film.jumps.get(moment);
-    film.turn[moment] = turn;
-    film.depth[moment] = target < 0 ? -1 : film.depth[target];
-  } else if (moment) {
-    film.turn[moment] = film.turn[moment - 1] + (kind === SKIP ? film.skips.get(moment) : isTurn(moment) ? 1 : 0);
-    film.depth[moment] = film.depth[moment - 1] + 1;
-  }
-  film.highestTurn = Math.max(film.highestTurn, film.turn[moment]);
+  const kind = film.kinds[moment], isJump = kind === JUMP, turns = kind === SKIP ? film.skips.get(moment) : isTurn(moment) ? 1 : 0;
+  const [from, turn] = isJump ? film.jumps.get(moment) : [moment - 1, (film.turn[moment - 1] ?? 0) + turns];
+  if (isJump || kind === SKIP) film.breaks.push(moment);
+  film.turn[moment] = turn;
+  film.depth[moment] = (film.depth[from] ?? -1) + (isJump ? 0 : 1);
+  film.highestTurn = Math.max(film.highestTurn, turn);
 }
 
 const changesIn = (moment) => film.places.subarray(film.starts[moment], film.starts[moment + 1]);

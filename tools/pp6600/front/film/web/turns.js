@@ -2,6 +2,7 @@
 
 // What a write is: a bit each, and above them the number of its constant.
 const MOVED = 1, BY_DEVICE = 2, AT_END = 8, CONSTANT_FROM = 4;
+const PART = 1 << 22; // a source is a place, and above it the parts of a word that are read, a bit each; none is the whole
 const CONSTANTS = ["", "d", "m", "dm", "return", "zero", "no word"]; // by their numbers
 const constant = (name) => CONSTANTS.indexOf(name) << CONSTANT_FROM;
 
@@ -104,8 +105,7 @@ const turning = (() => {
     return after[register(one.n, 0)] !== ((one.p + one.row.words) & 0o7777);
   }
 
-  // Calls add(place, what, sources) for each write of a turn; the sources are places and parts of a word in turn. Returns the state that it
-  // made of its channel, or null.
+  // Calls add(place, what, sources) for each write of a turn. Returns the state that it made of its channel, or null.
   function writes(one, after, add) {
     const needsJump = !one.phase && isConditional(one.code);
     let state = null;
@@ -129,18 +129,12 @@ const turning = (() => {
   const frameWords = range(FRAME_WORDS).map((at) => layout.frame + at);
 
   // What is moved to a central word, and from parts of one; -1 is a word that there is not.
-  const toWord = (word, from, add) => word >= 0 && add(word, MOVED, from.flatMap((place) => [place, 0]));
-  const ofWord = (to, word, parts, add) => (word < 0 ? add(to, MOVED | constant("no word"), [])
-    : add(to, MOVED, [word, parts]));
+  const toWord = (word, from, add) => word >= 0 && add(word, MOVED, from);
+  const ofWord = (to, word, parts, add) => (word < 0 ? add(to, MOVED | constant("no word"), []) : add(to, MOVED, [word + PART * parts]));
 
   function readBy(one, sources) {
-    const read = [];
-    for (const symbol of sources) {
-      if (symbol === "F") read.push(layout.frame, FRAME_P);
-      else if (UNREAD.has(symbol) || (symbol === "I" && !one.d) || isZeroed(one, symbol)) continue;
-      else for (const from of placesOf(one, symbol)) read.push(from, 0);
-    }
-    return read;
+    const isRead = (symbol) => !UNREAD.has(symbol) && !(symbol === "I" && !one.d) && !isZeroed(one, symbol);
+    return sources.filter(isRead).flatMap((symbol) => (symbol === "F" ? [layout.frame + PART * FRAME_P] : placesOf(one, symbol)));
   }
 
   // Whether the cell from which P comes is the one that the end of a block input has just made zero.
