@@ -53,11 +53,9 @@ class Session {
   // `control` has pause(), which waits until messages were taken, and then whether to stop: isStopped(). `wanted` are parts of the tape,
   // each a first and a last position, that are recorded also in a long STEP.
   constructor(calls, about, control, wanted = []) {
-    Object.assign(this, { calls, control, wanted });
-    const { history, central, reader, printer, deck, panel } = about;
-    this.options = { history, central, reader, printer, deck, panel };
+    Object.assign(this, { calls, about, control, wanted });
     turning.open(about);
-    this.simulator = new Simulator(calls, this.options);
+    this.simulator = new Simulator(calls, about);
     this.recorder = new Recorder(this.simulator, about);
     this.tape = new Tape();
     this.position = 0;
@@ -211,7 +209,7 @@ class Session {
   // ---- simulators of their own over the same tape
 
   async simulatorAt(position) {
-    const simulator = new Simulator(this.calls, this.options);
+    const simulator = new Simulator(this.calls, this.about);
     await this.replay(simulator, this.tape.between(0, position), null, () => false);
     simulator.readAll(() => {});
     return simulator;
