@@ -2,6 +2,7 @@
 
 const MOST_MOMENTS = 1 << 20, FULL = 5 << 18, AFTER_LONG = 0o10000, LONGEST_ANSWER = 40;
 const MOVES = { BACK: -1, FORWARD: 1 };
+const moveBy = (distance) => `${distance < 0 ? "BACK" : "FORWARD"} ${octal(Math.abs(distance))}`;
 
 // The actions of a session: those in effect, and behind them those that were taken back.
 class Tape {
@@ -179,7 +180,7 @@ class Session {
     this.simulator.session = session;
     this.moved(position);
     const slot = two(this.simulator.numbers[layout.slot]);
-    return [`${distance < 0 ? "BACK" : "FORWARD"} ${octal(Math.abs(distance))} SLOT ${slot}`, "replayed"];
+    return [`${moveBy(distance)} SLOT ${slot}`, "replayed"];
   }
 
   // Beyond what the simulator keeps: the latest change of what is watched now.
@@ -202,7 +203,7 @@ class Session {
     let at = moment;
     while (at > 0 && this.jumps.has(at)) [at] = this.jumps.get(at);
     const position = at < 0 ? -1 : this.tape.positionOf(at), distance = position - this.position;
-    if (position >= 0 && distance) await this.perform(`${distance < 0 ? "BACK" : "FORWARD"} ${octal(Math.abs(distance))}`);
+    if (position >= 0 && distance) await this.perform(moveBy(distance));
     return position >= 0;
   }
 

@@ -92,9 +92,8 @@ class Simulator {
 
   // Puts a number, which comes as two words of 32 bits.
   put(place, low, high, observer) {
-    if (!isWord(place)) return this.note(place, low, observer);
-    this.note(place, low & 0x3fffffff, observer);
-    return this.note(upperOf(place), high * 4 + (low >>> HALF), observer);
+    this.note(place, isWord(place) ? low & 0x3fffffff : low, observer);
+    if (isWord(place)) this.note(upperOf(place), high * 4 + (low >>> HALF), observer);
   }
 
   note(place, number, observer) {
