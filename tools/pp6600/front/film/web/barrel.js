@@ -107,12 +107,8 @@ function markOfSlot(n, sizes) {
 
 // The middle of the ring: the action, what it was, and the first cell or word that it changed.
 function middleOf({ cx, cy, isFlat }) {
-  const lines = middleLines(isFlat), step = lines.length > 4 ? 1.15 : 1.3;
-  return lines.map((text, at) => {
-    const y = cy + 0.35 + (at - (lines.length - 1) / 2) * step, width = LETTER * (text.length + 1);
-    return [shape("rect", { x: cx - width / 2, y: y - 0.95, width, height: step, class: "under" }),
-      shape("text", { x: cx, y, class: at ? "middle" : "middle strong" }, text)];
-  });
+  const lines = middleLines(isFlat), step = lines.length > 4 ? 1.15 : 1.3, first = cy + 0.35 - ((lines.length - 1) / 2) * step;
+  return lines.map((text, at) => shape("text", { x: cx, y: first + at * step, class: at ? "middle" : "middle strong" }, text));
 }
 
 // After a turn also A and Q of its processor. A flat ring has room for longer lines.

@@ -49,12 +49,9 @@ class Simulator {
   // writes only registers, channels, devices or watches.
   readAfter(words, observer) {
     observer.begin(NO_TURN);
-    if (words[0] === "DEADSTART") this.readAll((place, was, now) => observer.tell(place, was, now));
-    else {
-      for (const [place] of placesOfSetting(words)) if (place < layout.A || place >= layout.central) this.read(place, 1, observer);
-      this.read(layout.A, layout.paper - layout.A, observer);
-      this.read(layout.slot, layout.central - layout.slot, observer);
-    }
+    for (const [place] of placesOfSetting(words)) if (place < layout.A || place >= layout.central) this.read(place, 1, observer);
+    this.read(layout.A, layout.paper - layout.A, observer);
+    this.read(layout.slot, layout.central - layout.slot, observer);
     observer.end(NO_TURN);
   }
 
