@@ -17,7 +17,7 @@ from .forms import STATES, fields
 
 MOST_WORD = 0o7777
 KINDS = ("disconnected", "activated", "word", "function")  # of events, by the state that a channel has come to, in the order of STATES
-INACTIVE_STATE, EMPTY_STATE = map(STATES.index, "IE")
+INACTIVE_STATE, EMPTY_STATE, FULL_STATE = map(STATES.index, "IEF")
 
 
 class DeviceFailure(Failure):
@@ -154,11 +154,11 @@ PLAIN = frozenset((int, str, bytes, bool, float, type(None), Chain, Reply))
 def is_value(state: Any) -> bool:
     """Returns whether nothing can change a value in place. The items of a chain were seen when they were pushed."""
     kind = type(state)
-    if kind in PLAIN or isinstance(state, enum.Enum):
+    if kind in PLAIN:
         return True
-    if not isinstance(state, (tuple, frozenset)) or kind.__dictoffset__:
-        return False
-    return PLAIN.issuperset(map(type, state)) or all(map(is_value, state))
+    if issubclass(kind, (tuple, frozenset)) and not kind.__dictoffset__:
+        return PLAIN.issuperset(map(type, state)) or all(map(is_value, state))
+    return isinstance(state, enum.Enum)
 
 
 def drawn(device: Device, state: Any, draw: Callable[[Picture], Any]) -> Any:
@@ -220,10 +220,11 @@ def called(device: Device, value: Value, event: Event, now: Channel) -> Tuple[Va
         due = event.turn + wake
     if letter is None:
         return Value(state, now, due), None
-    is_word = type(word) is int and 0 <= word <= MOST_WORD
-    if letter not in ("I", "E", "F") or not (is_word if letter == "F" else word is None):
+    if letter == "F" and type(word) is int and 0 <= word <= MOST_WORD:
+        return Value(state, (FULL_STATE, word), due), reply
+    if letter not in ("I", "E") or word is not None:
         raise failure(device, event, f"can't reply {letter} {word!r:.60}: a reply is INACTIVE, EMPTY, or full(word up to 7777 octal)")
-    return Value(state, (STATES.index(letter), now[1] if word is None else word), due), reply
+    return Value(state, (STATES.index(letter), now[1]), due), reply
 
 
 def failure(device: Device, event: Event, what: str) -> DeviceFailure:
