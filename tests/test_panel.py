@@ -258,7 +258,7 @@ class Sessions(PanelCase):
         """They are sent before the script."""
         panel, path = self.panel("STEP 3\n", sources=[(0, self.file(counter(), "count.pp"))]), self.path("saved")
         press(panel, f"w{path}<Enter>")
-        self.assertEqual(panel.session.state.found, self.panel(read(path)).session.state.found)
+        self.assertEqual(panel.session.state.numbers, self.panel(read(path)).session.state.numbers)
 
     def test_the_question_who_makes_a_change_changes_nothing(self):
         """The machine, what is kept and what is ahead are as they would be without it."""

@@ -215,10 +215,10 @@ class LibraryEngine:
         self.text: Any = ctypes.create_string_buffer(ANSWER_ROOM)
         self.size, self.room = c_size_t(), c_size_t(ANSWER_ROOM)
         self.answered = c_size_t(), c_size_t(), c_uint32(), c_uint32()
-        self.taken, self.count = self.answered[:2]
+        self.taken, self.count, _, self.refused = self.answered
         self.counted = tuple(map(byref, self.answered))
-        self.looked: Sequence[int] = ()  # the places of the latest looks, and how many numbers there is room for
-        self.most, self.width, self.seen_room = c_uint32(), c_size_t(), c_size_t()
+        self.looked: Sequence[int] = ()  # the places of the latest looks, and for how many turns there is room
+        self.most_seen, self.most = 0, c_uint32()
 
     def answer(self, text: str) -> List[str]:
         typed, found = text.encode("latin-1"), b""
@@ -232,6 +232,11 @@ class LibraryEngine:
             if open_status(status) == ROOM:
                 self.room.value *= 4
                 self.text = ctypes.create_string_buffer(self.room.value)
+
+    def perform(self, text: str) -> bool:
+        typed = text.encode("latin-1")
+        self.size.value = len(typed)
+        return self._answer(typed, self.size, self.text, self.room, *self.counted) == DONE and not self.refused.value
 
     def numbers(self, first: int, count: int) -> Sequence[int]:
         return self.session.numbers(first, count)
@@ -249,18 +254,38 @@ class LibraryEngine:
         return records
 
     def looks(self, places: Sequence[int], most: int) -> Tuple[Sequence[int], int]:
-        width = len(places)
-        if self.looked != places:
-            self.looked, self.looked_at, self.width.value = list(places), (c_uint32 * width)(*places), width
-        if self.seen_room.value < most * width:
-            self.seen, self.seen_room.value = (c_uint64 * (most * width))(), most * width
-            self.seen_bytes = memoryview(self.seen).cast("B")
+        turns = self._look(places, most)
+        return array("Q", self.seen[:len(places) * turns].tobytes()), turns
+
+    def until(self, places: Sequence[int], numbers: Sequence[int], most: int) -> Tuple[int, Sequence[int]]:
+        made, width = self._look(places, most), len(places)
+        same = made
+        for at, number in enumerate(numbers):
+            column = self.seen[at:same * width:width].tolist()
+            if column.count(number) < same:
+                same = first_other(column, number)
+        count = same + (same < made)
+        if count < made:
+            self.back(made - count)
+        return count, self.seen[same * width:count * width].tolist()
+
+    def _look(self, places: Sequence[int], most: int) -> int:
+        """Makes turns. Returns how many; what was seen is in the room for it."""
+        if self.looked is not places or most > self.most_seen:
+            self._make_room(places, most)
         self.most.value = most
-        status = self._looks(self.most, self.looked_at, self.width, self.seen, self.seen_room, self.counted[0])
-        if open_status(status) == REFUSED:
+        status = self._looks(self.most, self.looked_at, self.width, self.seen_at, self.seen_room, self.counted[0])
+        if status > WATCHED:
+            open_status(status)
             raise Failure("the machine does not have these places")
-        turns = self.taken.value
-        return array("Q", self.seen_bytes[:8 * width * turns].tobytes()), turns
+        return int(self.taken.value)
+
+    def _make_room(self, places: Sequence[int], most: int) -> None:
+        """Makes room for the numbers at places after so many turns."""
+        width = len(places)
+        self.looked, self.most_seen, self.looked_at, self.width = places, most, (c_uint32 * width)(*places), c_size_t(width)
+        self.seen_at, self.seen_room = (c_uint64 * (most * width))(), c_size_t(most * width)
+        self.seen = memoryview(self.seen_at).cast("B").cast("Q")
 
     def back(self, count: int) -> None:
         if not self.session.back(count):
@@ -272,6 +297,14 @@ class LibraryEngine:
 
     def close(self) -> None:
         self.session.close()
+
+
+def first_other(column: List[int], number: int) -> int:
+    """Returns the index of the first number of a column that is another one than this. There is one."""
+    last = len(column) - 1
+    if column[last] != number and column.count(number) == last:
+        return last
+    return next(at for at, one in enumerate(column) if one != number)
 
 
 def bytes_of(path: str, name: str) -> bytes:

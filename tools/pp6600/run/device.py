@@ -187,6 +187,11 @@ class Value(NamedTuple):
     due: Optional[int] = None
 
 
+# As Event(..) and Value(..) of a tuple, in less than half the time.
+event_of: Callable[[Tuple[str, Any, int]], Event] = functools.partial(tuple.__new__, Event)  # type: ignore[assignment]
+value_of: Callable[[Tuple[Any, Channel, Optional[int]]], Value] = functools.partial(tuple.__new__, Value)  # type: ignore[assignment]
+
+
 def value_at_start(device: Device) -> Value:
     """Returns the value of a device at the beginning, when all channels are inactive."""
     if not is_value(device.start):
@@ -203,8 +208,9 @@ def place_of(error: Exception) -> str:
 
 def called(device: Device, value: Value, event: Event, now: Channel) -> Tuple[Value, Optional[Reply]]:
     """Returns the value of a device after an event, and its reply if it changes the channel, which is as `now`."""
+    kind, _, turn = event
     try:
-        answer = getattr(device, event.kind)(value.state, event)
+        answer = getattr(device, kind)(value.state, event)
     except Exception as error:
         raise failure(device, event, f"fails: {type(error).__name__}: {error}{place_of(error)}") from error
     if not isinstance(answer, tuple) or len(answer) != 2 or not isinstance(answer[1], Reply):
@@ -213,18 +219,18 @@ def called(device: Device, value: Value, event: Event, now: Channel) -> Tuple[Va
     if state is not value.state and not is_value(state):
         raise failure(device, event, f"returned a state that can be changed in place: {state!r:.60}")
     letter, word, wake = reply
-    due = None if event.kind == "due" else value.due
+    due = None if kind == "due" else value.due
     if wake is not None:
         if type(wake) is not int or wake < 1:
             raise failure(device, event, f"can't wake after {wake!r:.60} turns")
-        due = event.turn + wake
+        due = turn + wake
     if letter is None:
-        return Value(state, now, due), None
+        return value_of((state, now, due)), None
     if letter == "F" and type(word) is int and 0 <= word <= MOST_WORD:
-        return Value(state, (FULL_STATE, word), due), reply
+        return value_of((state, (FULL_STATE, word), due)), reply
     if letter not in ("I", "E") or word is not None:
         raise failure(device, event, f"can't reply {letter} {word!r:.60}: a reply is INACTIVE, EMPTY, or full(word up to 7777 octal)")
-    return Value(state, (STATES.index(letter), now[1]), due), reply
+    return value_of((state, (STATES.index(letter), now[1]), due)), reply
 
 
 def failure(device: Device, event: Event, what: str) -> DeviceFailure:
@@ -242,4 +248,4 @@ def looked(device: Device, value: Value, now: Channel, turn: int) -> Tuple[Value
         kind = "due"
     else:
         return value, None
-    return called(device, value, Event(kind, word, turn), now)
+    return called(device, value, event_of((kind, word, turn)), now)
