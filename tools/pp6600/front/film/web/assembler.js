@@ -58,7 +58,7 @@ const assembler = { calls: null, drafts: new Map(), processor: 0, rows: [] };
 const written = (form) => assembler.calls.written("assemble", byId("assemble-text").value, form);
 
 function buildAssembler() {
-  for (let n = 0; n < PROCESSORS; n++) byId("assemble-for").add(new Option(`PP ${two(n)}`, n));
+  fillSelect("assemble-for", range(PROCESSORS).map((n) => `PP ${two(n)}`), range(PROCESSORS));
   byId("assemble-for").onchange = ({ target }) => showDraft(Number(target.value));
   byId("edit-source").onclick = () => openAssembler(source.processor);
   document.querySelector("#assembler details").ontoggle = ({ target }) => target.open && !assembler.calls && openAssembler(memory.processor);
@@ -86,10 +86,10 @@ function showDraft(n) {
 function assembleTyped() {
   const { lines, faults } = written(WRITTEN.COMPLAINTS);
   assembler.rows = faults ? [] : written(WRITTEN.LINES).lines.map(rowOfWords);
-  byId("complaints").replaceChildren(...lines.map((line, at) => make("li", {}, complaintOf(line, at < faults))));
+  fill(byId("complaints"), lines.map((line, at) => make("li", {}, complaintOf(line, at < faults))));
   byId("load-source").disabled = !assembler.rows.length;
-  setText(byId("assembled"), faults ? "not to be loaded:" : `${octal(assembler.rows.flatMap(({ words }) => words).length)} words`);
-  setText(byId("listing"), faults ? "" : written(WRITTEN.LISTING).lines.join("\n"));
+  fill(byId("assembled"), faults ? "not to be loaded:" : `${octal(assembler.rows.flatMap(({ words }) => words).length)} words`);
+  fill(byId("listing"), faults ? "" : written(WRITTEN.LISTING).lines.join("\n"));
 }
 
 // A message with its place, to which a click leads. The library counts bytes.
