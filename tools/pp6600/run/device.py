@@ -13,7 +13,7 @@ from typing import Any, Callable, Iterable, List, NamedTuple, Optional, Tuple
 
 from ..devices.pictures import Picture
 from ..failure import Failure
-from .forms import STATES, fields
+from .forms import STATES
 
 MOST_WORD = 0o7777
 KINDS = ("disconnected", "activated", "word", "function")  # of events, by the state that a channel has come to, in the order of STATES
@@ -175,8 +175,8 @@ Channel = Tuple[int, int]  # its state, by its number in STATES, and its registe
 
 def channel_of(line: str) -> Channel:
     """Returns the channel of a line of DUMP H."""
-    found = fields("H", line)
-    return STATES.index(found["state"]), int(found["register"], 8)
+    _, _, state, register = line.split()
+    return STATES.index(state), int(register, 8)
 
 
 class Value(NamedTuple):
