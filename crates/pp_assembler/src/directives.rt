@@ -10,8 +10,10 @@ pub fn wants_operand(statement: Statement) -> Result<(), Stop> {
     if !statement.operand.is_empty() {
         return Ok(());
     }
-    let name = statement.operation;
-    Err(Stop::At(name.first, Fault::WantsOperand { name }))
+    Err(Stop::of(
+        "{} wants an operand; in column 30 or later is a comment",
+        statement.operation,
+    ))
 }
 
 /// Returns the operand, of which there must be one and no more.
@@ -20,12 +22,8 @@ pub fn the_only(here: &Here, statement: Statement) -> Result<Field, Stop> {
     let found = first_parts(here.text, statement.operand, false)?;
     let [first, second, _] = found.parts;
     if found.count > 1 {
-        return Err(Stop::At(
-            second.first,
-            Fault::OneOperand {
-                name: statement.operation,
-            },
-        ));
+        let fault = Fault::new("{} takes one operand").part(statement.operation);
+        return Err(Stop::At(second.first, fault));
     }
     Ok(first)
 }
@@ -41,13 +39,9 @@ impl Pass {
             self.location.wrapping_add(count),
         );
         if count < 0 {
-            self.warn(
-                here,
-                statement.operand.first,
-                Fault::Backwards {
-                    count: count.wrapping_neg(),
-                },
-            )?;
+            let fault = Fault::new("warning: BSS goes back by {} (octal) cells");
+            let fault = fault.octal(count.wrapping_neg());
+            self.warn(here, statement.operand.first, fault)?;
             self.over_from = Some(self.origin);
         }
         Ok(())
@@ -79,9 +73,8 @@ impl Pass {
         statement: Statement,
         operation: Operation,
     ) -> Result<(), Stop> {
-        let name = statement.operation;
         if statement.location.is_empty() {
-            return Err(Stop::At(name.first, Fault::WantsSymbol { name }));
+            return Err(Stop::of("{} wants a symbol before it", statement.operation));
         }
         let chosen = match operation {
             Operation::Greatest | Operation::Least => self.chosen(
@@ -161,23 +154,19 @@ impl Pass {
             Test::Plus => self.number(here, statement.operand, false)? >= 0,
             Test::Minus => self.number(here, statement.operand, false)? < 0,
         };
-        let name = statement.operation;
-        if is_error && self.is_last {
-            Err(Stop::At(name.first, Fault::SourceError { name }))
-        } else {
-            Ok(())
+        if !is_error || !self.is_last {
+            return Ok(());
         }
+        Err(Stop::of(
+            "{}: the source says that this is an error",
+            statement.operation,
+        ))
     }
 
     /// IDENT names a program; a second one is not known yet.
     pub fn name_program(&mut self, here: &Here, statement: Statement) -> Result<(), Stop> {
         if self.has_name {
-            return Err(Stop::Ends(
-                statement.operation.first,
-                Fault::NotYet {
-                    name: statement.operation,
-                },
-            ));
+            return Err(Stop::not_yet(statement.operation));
         }
         self.has_name = true;
         self.plain_row(here, false)
@@ -195,14 +184,13 @@ impl Pass {
             Some(base) => self.base = base,
             None => {
                 let Some(base) = base_of(word) else {
-                    return Err(Stop::At(
-                        statement.operand.first,
-                        Fault::NoBase {
-                            word: statement.operand,
-                        },
-                    ));
+                    let fault = Fault::new(
+                        "BASE takes OCTAL, DECIMAL, MIXED or, after one of these, *; not {}",
+                    );
+                    let fault = fault.part_or_nothing(statement.operand);
+                    return Err(Stop::At(statement.operand.first, fault));
                 };
-                self.bases.push(self.base).map_err(|_| Stop::NoMemory)?;
+                self.bases.push(self.base)?;
                 self.base = Some(base);
             }
         }
@@ -226,12 +214,7 @@ impl Pass {
         statement: Statement,
         operation: Operation,
     ) -> Result<(), Stop> {
-        let Operation::Shortest {
-            small,
-            minus,
-            other,
-        } = operation
-        else {
+        let Operation::Shortest(small, minus, other) = operation else {
             return Ok(());
         };
         let operand = the_only(here, statement)?;

@@ -1,7 +1,7 @@
 //! The words of statements, and how they are put into cells.
 use crate::fields::{FirstParts, Statement, first_parts, is_empty};
 use crate::instructions::{Form, form_of, size_of};
-use crate::message::{Fault, Field, Stop};
+use crate::message::{Argument, Fault, Field, Stop};
 use crate::pass::{CELLS, Here, Pass};
 
 /// How many words a source makes, though only as many as a memory has can be right.
@@ -28,7 +28,7 @@ impl Pass {
         if !self.is_last {
             return Ok(());
         }
-        self.words.push(word).map_err(|_| Stop::NoMemory)
+        Ok(self.words.push(word)?)
     }
 
     /// Makes the words of an instruction. There are always as many, also if the statement is wrong.
@@ -100,19 +100,13 @@ impl Pass {
     fn distance(&mut self, here: &Here, target: Field, code: u8) -> Result<u16, Stop> {
         let number = self.number(here, target, false)?;
         if number <= -SIZE || number >= 2 * SIZE {
-            return Err(Stop::At(target.first, Fault::NoAddress { number }));
+            let fault = Fault::new("{} (octal) is no address").octal(number);
+            return Err(Stop::At(target.first, fault));
         }
         let cells = number.wrapping_sub(self.location).wrapping_add(SIZE / 2) & (SIZE - 1);
         let cells = cells.wrapping_sub(SIZE / 2);
         if self.is_last && !(-NEAR..=NEAR).contains(&cells) {
-            return Err(Stop::At(
-                target.first,
-                Fault::TooFar {
-                    target,
-                    cells,
-                    code,
-                },
-            ));
+            return Err(Stop::At(target.first, too_far(target, cells, code)));
         }
         let d = if cells >= 0 {
             cells
@@ -125,7 +119,7 @@ impl Pass {
     /// Puts words into the cells from here on. Of lines that follow one another only the first is reported if they can't be.
     pub fn put(&mut self, here: &Here, first: usize, count: usize) -> Result<(), Stop> {
         if self.made > MOST_WORDS {
-            return Err(Stop::Ends(0, Fault::TooManyWords));
+            return Err(Stop::Ends(0, Fault::new("more than 100000 (decimal) words")));
         }
         self.row(here, first, true)?;
         let size = i64::try_from(count).unwrap_or(0);
@@ -169,17 +163,19 @@ impl Pass {
     fn why_not_into(&mut self, here: &Here, cell: i64) -> Result<Option<Fault>, Stop> {
         let index = usize::try_from(cell).unwrap_or(CELLS);
         let Some(slot) = self.cells.get(index).copied() else {
-            return Ok(Some(Fault::PastEnd));
+            return Ok(Some(Fault::new("this goes past cell 7777")));
         };
         if slot.line == 0 {
             return Ok(None);
         }
         let is_warning = self.over_from == Some(cell);
-        let fault = Fault::Filled {
-            cell: u16::try_from(index).unwrap_or(0),
-            line: slot.line,
-            is_warning,
-        };
+        let fault = Fault::new(if is_warning {
+            "warning: cell {} is filled by line {} (decimal) too"
+        } else {
+            "cell {} is filled by line {} (decimal) too"
+        });
+        let address = u16::try_from(index).unwrap_or(0);
+        let fault = fault.with(Argument::Cell(address)).decimal(slot.line);
         if !is_warning {
             return Ok(Some(fault));
         }
@@ -214,5 +210,36 @@ fn operands_of(here: &Here, statement: Statement, code: u8) -> Result<FirstParts
     };
     let after = here.text.get(name.end..).unwrap_or(b"");
     let is_far = found.count == 0 && !is_empty(after);
-    Err(Stop::At(part.first, Fault::Takes { code, form, is_far }))
+    let fault = Fault::new(if is_far {
+        "{} takes {}; what begins in column 30 or later is a comment"
+    } else {
+        "{} takes {}"
+    });
+    let fault = fault.part(name).with(Argument::Text(text_of_form(form)));
+    Err(Stop::At(part.first, fault))
+}
+
+/// Returns what an instruction takes.
+fn text_of_form(form: Form) -> &'static str {
+    match form {
+        Form::Alone => "one operand at most",
+        Form::D => "one operand",
+        Form::Target => "the address to which it jumps",
+        Form::Constant => "one operand of 18 (decimal) bits",
+        Form::Indexed => "an address and, if it is indexed, a comma and a cell",
+        Form::Both => "an address and, after a comma, a channel or a cell",
+    }
+}
+
+/// Returns that a relative jump does not reach its target, which is so many cells on or, if minus, back.
+fn too_far(target: Field, cells: i64, code: u8) -> Fault {
+    Fault::new(if cells > 0 {
+        "{} is {} (octal) cells on, and {} reaches 37; {}"
+    } else {
+        "{} is {} (octal) cells back, and {} reaches 37; {}"
+    })
+    .part(target)
+    .octal(cells.wrapping_abs())
+    .with(Argument::Instruction(code))
+    .with(Argument::Reaching(target, code))
 }

@@ -3,6 +3,9 @@ use crate::message::{Fault, Field, Stop};
 use crate::texts::{after_blanks, end_of_word, is_blank, text_at};
 
 const TAB: usize = 8;
+
+const NOTHING_BEFORE: &str =
+    "a line that begins with a , continues a statement, and there is none before it";
 /// The column, from 0, from which on no operand begins.
 const FIRST_OF_COMMENTS: usize = 29;
 /// The column after the last one of a statement; what is there is a sequence number.
@@ -183,7 +186,7 @@ pub fn statement_of(line: &[u8], origin: Origin) -> Result<Option<Statement>, St
         return Ok(None);
     }
     if line.first() == Some(&b',') {
-        return Err(Stop::At(0, Fault::Continues));
+        return Err(Stop::At(0, Fault::new(NOTHING_BEFORE)));
     }
     let location = location_of(line);
     let first = after_blanks(line, location.end);

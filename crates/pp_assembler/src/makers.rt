@@ -70,20 +70,18 @@ impl Pass {
         let text = item.of(here.text);
         if let Some(found) = text_at(text, 0, true)? {
             if found.end != text.len() {
-                let rest = Field {
-                    first: item.first.saturating_add(found.end),
-                    end: item.end,
-                };
-                return Err(Stop::At(rest.first, Fault::FollowsText { rest }));
+                let rest = Field::new(item.first.saturating_add(found.end), item.end);
+                return Err(Stop::of("{} follows the text", rest));
             }
             let symbols = text.get(found.first..found.last).unwrap_or(b"");
             if let Some(symbol) = without_code(symbols) {
-                return Err(Stop::At(item.first, Fault::NotInDisplayCode { symbol }));
+                return Err(Stop::At(item.first, Fault::no_display_code(symbol)));
             }
             return self.text_words(Filling::of_words(found.kind, found.count), symbols);
         }
         if !is_number(text) {
-            return Err(Stop::At(item.first, Fault::NotData { item }));
+            let fault = Fault::new("{} is no number or text; CON takes expressions");
+            return Err(Stop::At(item.first, fault.part_or_nothing(item)));
         }
         let word = self.field(here, item, WORD_BITS, None)?;
         self.add_word(bits_of(word, 0o7777))
@@ -107,7 +105,8 @@ impl Pass {
         let made = self.made;
         let (digits, words) = digits_at(operand, 0, 4);
         if operand.get(digits) != Some(&b',') || words > LAST {
-            return Err(Stop::At(statement.operand.first, Fault::NoWords));
+            let fault = Fault::new("DIS wants words,text or ,*text*");
+            return Err(Stop::At(statement.operand.first, fault));
         }
         let rest = operand.get(digits.saturating_add(1)..).unwrap_or(b"");
         let column = statement
@@ -128,7 +127,7 @@ impl Pass {
         match without_code_but_tab(symbols, digits > 0) {
             None => self.text_words(filling, symbols)?,
             Some(symbol) => {
-                self.report(here, column, Fault::NotInDisplayCode { symbol })?;
+                self.report(here, column, Fault::no_display_code(symbol))?;
                 self.zero_words(filling.size / 2)?;
             }
         }
@@ -181,12 +180,13 @@ impl Pass {
         let text = item.of(here.text);
         let (digits, size) = digits_at(text, 0, 2);
         if digits == 0 || text.get(digits) != Some(&b'/') || size == 0 || size > MOST_BITS {
-            return Err(Stop::At(item.first, Fault::NoBits { item }));
+            return Err(Stop::of(
+                "{} is not a number of bits, 1 to 60 (decimal), a / and an expression",
+                item,
+            ));
         }
-        let operand = Field {
-            first: item.first.saturating_add(digits).saturating_add(1),
-            end: item.end,
-        };
+        let first = item.first.saturating_add(digits).saturating_add(1);
+        let operand = Field::new(first, item.end);
         let number = self.field(here, operand, size, None)?;
         Ok((size, number))
     }
@@ -279,12 +279,10 @@ fn is_number(text: &[u8]) -> bool {
 
 /// Returns the text between two equal symbols, which begins a text.
 fn marked(text: &[u8], column: usize) -> Result<&[u8], Stop> {
-    let Some(symbol) = text.first().copied() else {
-        return Err(Stop::At(column, Fault::NoTextEnd { symbol: b'*' }));
-    };
+    let symbol = text.first().copied().unwrap_or(b'*');
     match find(text, 1, symbol) {
         Some(end) => Ok(text.get(1..end).unwrap_or(b"")),
-        None => Err(Stop::At(column, Fault::NoTextEnd { symbol })),
+        None => Err(Stop::At(column, Fault::no_text_end(symbol))),
     }
 }
 

@@ -1,5 +1,5 @@
 //! What is wrong in a source.
-use crate::instructions::Form;
+use std::alloc::{AllocError, AllocFailed};
 
 /// A part of a line: its first column, from 0, and the column after its last one.
 #[derive(Clone, Copy)]
@@ -9,6 +9,11 @@ pub struct Field {
 }
 
 impl Field {
+    /// Returns the part that begins at a column, from 0, and ends before another one.
+    pub fn new(first: usize, end: usize) -> Self {
+        Field { first, end }
+    }
+
     /// Returns whether the part has no symbol.
     pub fn is_empty(self) -> bool {
         self.end <= self.first
@@ -20,198 +25,95 @@ impl Field {
     }
 }
 
-/// What is wrong. Each part that a message names is a part of the statement's line.
+/// What stands in the text of a fault in place of a `{}`.
 #[derive(Clone, Copy)]
-pub enum Fault {
-    /// A line continues a statement, and there is none.
-    Continues,
-    /// The line ends before the text has so many symbols.
-    ShortText {
-        count: u32,
-    },
-    /// The text has no such symbol at its end.
-    NoTextEnd {
-        symbol: u8,
-    },
-    /// A symbol has no display code.
-    NotInDisplayCode {
-        symbol: u8,
-    },
-    /// The text does not fit in a field of so many bits.
-    LongText {
-        text: Field,
-        bits: u32,
-    },
-    /// Something follows a text.
-    FollowsText {
-        rest: Field,
-    },
-    /// No number and no text.
-    NotData {
-        item: Field,
-    },
-    /// No symbol.
-    NotSymbol {
-        name: Field,
-    },
-    /// A symbol has more than eight characters.
-    LongSymbol {
-        name: Field,
-    },
-    /// A symbol is defined twice, first in this line.
-    DefinedTwice {
-        name: Field,
-        line: u32,
-    },
-    /// A symbol is defined only later, in this line.
-    DefinedLater {
-        name: Field,
-        line: u32,
-    },
-    /// A symbol is not defined.
-    NotDefined {
-        name: Field,
-    },
-    /// An expression is missing.
-    NoOperand,
-    /// The value of an expression has more than 60 bits.
-    LongValue,
-    /// What follows a term is no operator.
-    NoOperator {
-        rest: Field,
-    },
-    /// Nothing follows an operator.
-    NothingFollows {
-        sign: u8,
-    },
-    /// A number has more than 20 digits.
-    LongNumber,
-    /// A number may be octal or decimal.
-    EitherBase {
-        digits: Field,
-    },
-    /// A number is decimal, as without BASE; a warning.
-    Decimal {
-        digits: Field,
-    },
-    /// An octal number has the digit 8 or 9.
-    NotOctal {
-        digits: Field,
-    },
-    /// No number, symbol, text or counter.
-    NoElement {
-        rest: Field,
-    },
-    /// A text of this kind in a sum.
-    TextInSum {
-        kind: u8,
-    },
-    /// A number is less than the least one or above octal 7777.
-    NoCount {
-        number: i64,
-        least: i64,
-    },
-    /// A number does not fit in a field of so many bits; of an instruction with this code.
-    LongField {
-        number: i64,
-        operand: Field,
-        bits: u32,
-        code: Option<u8>,
-    },
-    /// No address for a relative jump.
-    NoAddress {
-        number: i64,
-    },
-    /// A relative jump of this code does not reach its target, so many cells on or, if minus, back.
-    TooFar {
-        target: Field,
-        cells: i64,
-        code: u8,
-    },
-    /// An instruction of this code has other operands than it takes. `is_far` if there is a comment in place of one.
-    Takes {
-        code: u8,
-        form: Form,
-        is_far: bool,
-    },
-    /// An operation has no operand.
-    WantsOperand {
-        name: Field,
-    },
-    /// An operation has more than one operand.
-    OneOperand {
-        name: Field,
-    },
-    /// An operation has no symbol in its location field.
-    WantsSymbol {
-        name: Field,
-    },
-    /// A call of SUBR has no label.
-    WantsLabel {
-        name: Field,
-    },
-    /// A call of SUBR has operands.
-    NoOperands {
-        name: Field,
-        count: u32,
-    },
-    /// BASE has another operand than it takes.
-    NoBase {
-        word: Field,
-    },
-    /// A field of VFD is none.
-    NoBits {
-        item: Field,
-    },
-    /// DIS has another operand than it takes.
-    NoWords,
-    /// The source says that this is an error.
-    SourceError {
-        name: Field,
-    },
-    /// The program goes past cell 7777.
-    PastEnd,
-    /// A cell is filled by another line too; or as a warning.
-    Filled {
-        cell: u16,
-        line: u32,
-        is_warning: bool,
-    },
-    /// BSS goes back by so many cells; a warning.
-    Backwards {
-        count: i64,
-    },
-    /// There is something after END.
-    AfterEnd,
-    /// The end of a block that is not there.
-    EndsNothing {
-        name: Field,
-    },
-    /// An operation that is not taken.
-    Refused {
-        name: Field,
-    },
-    /// No operation; the operation is taken as a label.
-    LabelIsOperation {
-        name: Field,
-        label: Field,
-    },
-    /// No operation; the label is not in its columns.
-    LabelElsewhere {
-        name: Field,
-    },
-    /// No operation.
-    NoOperation {
-        name: Field,
-    },
-    /// More words than a source may make.
-    TooManyWords,
-    /// More statements than a source may have.
-    TooManyStatements,
-    /// This assembler does not know that yet.
-    NotYet {
-        name: Field,
-    },
+pub enum Argument {
+    Nothing,
+    /// A part of the statement's line.
+    Part(Field),
+    Text(&'static str),
+    Symbol(u8),
+    Octal(i64),
+    /// An address, in four octal digits.
+    Cell(u16),
+    Decimal(u32),
+    /// The name of the instruction with this code.
+    Instruction(u8),
+    /// The symbol that may be meant by this one, if there is one.
+    NearestSymbol(Field),
+    /// The operation that may be meant by this one, if there is one.
+    NearestOperation(Field),
+    /// The instruction that takes a greater operand than that with this code, if there is one.
+    Wider(Field, u8),
+    /// What reaches the target of the relative jump with this code.
+    Reaching(Field, u8),
+}
+
+/// How many arguments a fault has.
+pub const ARGUMENTS: usize = 4;
+
+/// What is wrong: a text, and what stands in it in place of each `{}`.
+#[derive(Clone, Copy)]
+pub struct Fault {
+    pub text: &'static str,
+    pub arguments: [Argument; ARGUMENTS],
+}
+
+impl Fault {
+    /// Returns a fault without arguments.
+    pub fn new(text: &'static str) -> Self {
+        Fault {
+            text,
+            arguments: [Argument::Nothing; ARGUMENTS],
+        }
+    }
+
+    /// Returns the fault with one more argument, after those that it has.
+    pub fn with(self, argument: Argument) -> Self {
+        let mut arguments = self.arguments;
+        for place in &mut arguments {
+            if matches!(*place, Argument::Nothing) {
+                *place = argument;
+                break;
+            }
+        }
+        Fault { arguments, ..self }
+    }
+
+    pub fn part(self, part: Field) -> Self {
+        self.with(Argument::Part(part))
+    }
+
+    /// Returns the fault with a part of the line that may be empty.
+    pub fn part_or_nothing(self, part: Field) -> Self {
+        if part.is_empty() {
+            self.with(Argument::Text("nothing"))
+        } else {
+            self.part(part)
+        }
+    }
+
+    pub fn symbol(self, symbol: u8) -> Self {
+        self.with(Argument::Symbol(symbol))
+    }
+
+    pub fn octal(self, number: i64) -> Self {
+        self.with(Argument::Octal(number))
+    }
+
+    pub fn decimal(self, number: u32) -> Self {
+        self.with(Argument::Decimal(number))
+    }
+
+    /// Returns that a text has no such symbol at its end.
+    pub fn no_text_end(symbol: u8) -> Self {
+        Fault::new("the text has no {} at its end").symbol(symbol)
+    }
+
+    /// Returns that a symbol has no display code.
+    pub fn no_display_code(symbol: u8) -> Self {
+        Fault::new("display code has no '{}'").symbol(symbol)
+    }
 }
 
 /// Why a statement, or a part of it, has no value.
@@ -225,6 +127,33 @@ pub enum Stop {
     Ends(usize, Fault),
     /// Memory ran out.
     NoMemory,
+}
+
+impl Stop {
+    /// Returns a fault at the first column of a part, which is its argument.
+    pub fn of(text: &'static str, part: Field) -> Self {
+        Stop::At(part.first, Fault::new(text).part(part))
+    }
+
+    /// Returns that this assembler does not know a part of the line yet.
+    pub fn not_yet(part: Field) -> Self {
+        Stop::Ends(
+            part.first,
+            Fault::new("{} is not taken by this assembler yet").part(part),
+        )
+    }
+}
+
+impl From<AllocError> for Stop {
+    fn from(_error: AllocError) -> Self {
+        Stop::NoMemory
+    }
+}
+
+impl<T: Drop> From<AllocFailed<T>> for Stop {
+    fn from(_error: AllocFailed<T>) -> Self {
+        Stop::NoMemory
+    }
 }
 
 /// A fault, or a warning, of a source.

@@ -1,7 +1,7 @@
 //! One pass over the statements of a source: its counters, its names, and what it has made.
 use crate::fields::Statement;
 use crate::lines::{Join, Line};
-use crate::message::{Fault, Field, Message, Stop};
+use crate::message::{Argument, Fault, Field, Message, Stop};
 use crate::symbols::{Definition, Symbols};
 use crate::texts::{Filling, Text, text_at, without_code};
 use crate::values::{Base, Expression, Scope, Value, number_of};
@@ -146,7 +146,7 @@ impl Pass {
     pub fn count_statement(&mut self) -> Result<(), Stop> {
         self.performed = self.performed.saturating_add(1);
         if self.performed > MOST_STATEMENTS {
-            return Err(Stop::Ends(0, Fault::TooManyStatements));
+            return Err(Stop::Ends(0, Fault::new("more than 100000 (decimal) statements")));
         }
         Ok(())
     }
@@ -156,9 +156,7 @@ impl Pass {
         if !self.is_last {
             return Ok(());
         }
-        self.messages
-            .push(here.message(column, fault))
-            .map_err(|_| Stop::NoMemory)
+        Ok(self.messages.push(here.message(column, fault))?)
     }
 
     /// Keeps why something has no value, if that is a fault of the line, and returns what stops the pass.
@@ -175,9 +173,7 @@ impl Pass {
         if !self.is_last || has_kind(&self.warnings, fault) {
             return Ok(());
         }
-        self.warnings
-            .push(here.message(column, fault))
-            .map_err(|_| Stop::NoMemory)
+        Ok(self.warnings.push(here.message(column, fault))?)
     }
 
     /// Sets the counters.
@@ -236,7 +232,8 @@ impl Pass {
         let mut expression = Expression::new(here.text, operand, scope);
         let value = expression.value();
         if let Some(digits) = expression.decimal {
-            self.warn(here, digits.first, Fault::Decimal { digits })?;
+            let fault = Fault::new("warning: {} is decimal, as in COMPASS without BASE");
+            self.warn(here, digits.first, fault.part(digits))?;
         }
         value
     }
@@ -256,7 +253,8 @@ impl Pass {
     pub fn count(&mut self, here: &Here, operand: Field, least: i64) -> Result<i64, Stop> {
         let number = self.number(here, operand, true)?;
         if number < least || number >= CELLS as i64 {
-            return Err(Stop::At(operand.first, Fault::NoCount { number, least }));
+            let fault = Fault::new("{} (octal) is no number from {} to 7777");
+            return Err(Stop::At(operand.first, fault.octal(number).octal(least)));
         }
         Ok(number)
     }
@@ -294,18 +292,18 @@ impl Pass {
             }
         }
         if text.first() == Some(&b'=') {
-            return Err(Stop::Ends(operand.first, Fault::NotYet { name: operand }));
+            return Err(Stop::not_yet(operand));
         }
         let number = self.number(here, operand, false)?;
         let top = 1i64.wrapping_shl(bits).wrapping_sub(1);
         if number > top || number < top.wrapping_neg() {
+            let fault = Fault::new("{} (octal) does not fit in {} (decimal) bits{}");
+            let fault = fault.octal(number).decimal(bits);
             return Err(Stop::At(
                 operand.first,
-                Fault::LongField {
-                    number,
-                    operand,
-                    bits,
-                    code,
+                match code {
+                    Some(code) => fault.with(Argument::Wider(operand, code)),
+                    None => fault,
                 },
             ));
         }
@@ -345,18 +343,15 @@ impl Pass {
         if !self.is_last {
             return Ok(());
         }
-        self.rows.push(row).map_err(|_| Stop::NoMemory)
+        Ok(self.rows.push(row)?)
     }
 }
 
 /// Returns whether there is a warning of the kind of a fault.
 fn has_kind(warnings: &[Message], fault: Fault) -> bool {
     for warning in warnings {
-        match (warning.fault, fault) {
-            (Fault::Decimal { .. }, Fault::Decimal { .. })
-            | (Fault::Filled { .. }, Fault::Filled { .. })
-            | (Fault::Backwards { .. }, Fault::Backwards { .. }) => return true,
-            _ => {}
+        if warning.fault.text == fault.text {
+            return true;
         }
     }
     false
@@ -366,17 +361,12 @@ fn has_kind(warnings: &[Message], fault: Fault) -> bool {
 fn text_field(operand: Field, text: &[u8], found: Text, bits: u32) -> Result<u64, Stop> {
     let size = (bits / 6) as usize;
     if matches!(found.kind, b'C' | b'Z') || bits % 6 != 0 || found.count > size {
-        return Err(Stop::At(
-            operand.first,
-            Fault::LongText {
-                text: operand,
-                bits,
-            },
-        ));
+        let fault = Fault::new("the text {} does not fit in {} (decimal) bits");
+        return Err(Stop::At(operand.first, fault.part(operand).decimal(bits)));
     }
     let symbols = text.get(found.first..found.last).unwrap_or(b"");
     if let Some(symbol) = without_code(symbols) {
-        return Err(Stop::At(operand.first, Fault::NotInDisplayCode { symbol }));
+        return Err(Stop::At(operand.first, Fault::no_display_code(symbol)));
     }
     let number = number_of(Filling::new(found.kind, found.count, size), symbols).unwrap_or(0);
     Ok(u64::try_from(number).unwrap_or(0))

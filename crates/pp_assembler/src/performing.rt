@@ -1,10 +1,13 @@
 //! The statements of a source, performed one after another.
 use crate::fields::Statement;
 use crate::lines::{Content, Lines, MOST_MADE};
-use crate::message::{Fault, Field, Stop};
+use crate::message::{Argument, Fault, Field, Stop};
 use crate::operations::{Operation, is_operation};
 use crate::pass::{Here, Pass};
 use crate::texts::find;
+
+const LABEL_IS_OPERATION: &str =
+    "{} is no operation; {} is taken as a label, for it is not in column 3 or later";
 
 /// The micros that COMPASS defines.
 static MICROS: [&[u8]; 8] = [
@@ -53,7 +56,7 @@ impl Pass {
         }
         self.count_statement()?;
         if let Some(name) = micro_of(here.text) {
-            return Err(Stop::Ends(name.first, Fault::NotYet { name }));
+            return Err(Stop::not_yet(name));
         }
         match here.line.content {
             Content::Wrong(stop) => Err(stop),
@@ -69,13 +72,11 @@ impl Pass {
     /// Passes over a statement after END, of which the first one is reported.
     fn after_end(&mut self, here: &Here, statement: Statement) -> Result<(), Stop> {
         if !self.is_last {
-            self.symbols
-                .pass_over(statement.location.of(here.text))
-                .map_err(|_| Stop::NoMemory)?;
+            self.symbols.pass_over(statement.location.of(here.text))?;
         }
         if !self.has_more {
             self.has_more = true;
-            return self.report(here, 0, Fault::AfterEnd);
+            return self.report(here, 0, Fault::new("this is after END"));
         }
         Ok(())
     }
@@ -98,12 +99,7 @@ impl Pass {
             Operation::Location => self.set_location(here, statement),
             Operation::Subroutine => self.subroutine(here, statement),
             Operation::NotYet | Operation::Block | Operation::Lines => {
-                Err(Stop::Ends(
-                    statement.operation.first,
-                    Fault::NotYet {
-                        name: statement.operation,
-                    },
-                ))
+                Err(Stop::not_yet(statement.operation))
             }
             _ => {
                 self.label(here, statement)?;
@@ -139,17 +135,25 @@ impl Pass {
         if self.symbols.is_passed_over(name.of(here.text)) {
             return Stop::Follows;
         }
-        let fault = match operation {
-            Operation::Inside => Fault::EndsNothing { name },
-            Operation::Refused => Fault::Refused { name },
-            _ if is_operation(statement.location.of(here.text)) => Fault::LabelIsOperation {
+        match operation {
+            Operation::Inside => Stop::of("{} ends nothing here", name),
+            Operation::Refused(instead) => {
+                let fault = Fault::new("{} is not taken: {}").part(name);
+                Stop::At(name.first, fault.with(Argument::Text(instead)))
+            }
+            _ if is_operation(statement.location.of(here.text)) => {
+                let fault = Fault::new(LABEL_IS_OPERATION).part(name);
+                Stop::At(name.first, fault.part(statement.location))
+            }
+            _ if is_operation(statement.operand.of(here.text)) => Stop::of(
+                "{} is no operation; a label begins in column 1 or 2",
                 name,
-                label: statement.location,
-            },
-            _ if is_operation(statement.operand.of(here.text)) => Fault::LabelElsewhere { name },
-            _ => Fault::NoOperation { name },
-        };
-        Stop::At(name.first, fault)
+            ),
+            _ => {
+                let fault = Fault::new("{} is no instruction, directive or macro{}").part(name);
+                Stop::At(name.first, fault.with(Argument::NearestOperation(name)))
+            }
+        }
     }
 
     /// SUBR makes the two lines that follow, if it has a label and no operand.
@@ -157,19 +161,14 @@ impl Pass {
         let name = statement.operation;
         let operands = arguments_of(statement.operand.of(here.text));
         if operands > 0 {
-            return Err(Stop::At(
-                statement.operand.first,
-                Fault::NoOperands {
-                    name,
-                    count: operands,
-                },
-            ));
+            let fault = Fault::new("{} takes 0 (decimal) operands, not {}").part(name);
+            return Err(Stop::At(statement.operand.first, fault.decimal(operands)));
         }
         if statement.location.is_empty() {
-            return Err(Stop::At(name.first, Fault::WantsLabel { name }));
+            return Err(Stop::of("{} wants a label", name));
         }
         if statement.location.of(here.text).len() > MOST_MADE {
-            return Err(Stop::Ends(name.first, Fault::NotYet { name }));
+            return Err(Stop::not_yet(name));
         }
         self.plain_row(here, false)
     }
@@ -238,7 +237,7 @@ fn is_known(here: &Here, statement: Statement) -> Result<(), Stop> {
     for field in &[statement.location, statement.operation, statement.operand] {
         for symbol in field.of(here.text) {
             if !(symbol.is_ascii_graphic() || *symbol == b' ' || *symbol == b'\t') {
-                return Err(Stop::Ends(field.first, Fault::NotYet { name: *field }));
+                return Err(Stop::not_yet(*field));
             }
         }
     }

@@ -1,5 +1,5 @@
 //! The names of a source: labels, and names of numbers.
-use crate::message::{Fault, Field, Stop};
+use crate::message::{Argument, Fault, Field, Stop};
 use std::alloc::{AllocError, Global};
 
 /// How many characters a symbol has.
@@ -168,10 +168,10 @@ impl Symbols {
     ) -> Result<(), Stop> {
         let text = field.of(line);
         if end_of_name(text, 0) != Some(text.len()) {
-            return Err(Stop::At(field.first, Fault::NotSymbol { name: field }));
+            return Err(Stop::of(why_no_symbol(text), field));
         }
         let Some(name) = name_of(text) else {
-            return Err(Stop::At(field.first, Fault::LongSymbol { name: field }));
+            return Err(Stop::of("the symbol {} is longer than 8 characters", field));
         };
         self.put(field, name, definition)
     }
@@ -183,20 +183,15 @@ impl Symbols {
                 before: None,
                 seen: Some(definition),
             };
-            return self.all.push(symbol).map_err(|_| Stop::NoMemory);
+            return Ok(self.all.push(symbol)?);
         };
         let Some(symbol) = self.all.get_mut(index) else {
             return Ok(());
         };
         if let Some(old) = symbol.seen {
             if !(definition.is_set && old.is_set) {
-                return Err(Stop::At(
-                    field.first,
-                    Fault::DefinedTwice {
-                        name: field,
-                        line: old.line,
-                    },
-                ));
+                let fault = Fault::new("{} is defined twice: line {} (decimal) has it too");
+                return Err(Stop::At(field.first, fault.part(field).decimal(old.line)));
             }
         }
         symbol.seen = Some(definition);
@@ -221,13 +216,10 @@ impl Symbols {
         match (seen, before) {
             (Some(definition), _) => Ok(definition),
             (None, Some(later)) if !at.is_from_above && !later.is_set => Ok(later),
-            (None, Some(later)) => Err(Stop::At(
-                at.name.first,
-                Fault::DefinedLater {
-                    name: at.name,
-                    line: later.line,
-                },
-            )),
+            (None, Some(later)) => {
+                let fault = Fault::new("{} is defined only later, in line {} (decimal)");
+                Err(Stop::At(at.name.first, fault.part(at.name).decimal(later.line)))
+            }
             (None, None) if !at.is_from_above && !is_last => Ok(Definition {
                 value: Some(0),
                 line: 0,
@@ -235,9 +227,25 @@ impl Symbols {
                 is_set: false,
             }),
             (None, None) if self.is_passed_over(text) => Err(Stop::Follows),
-            (None, None) => Err(Stop::At(at.name.first, Fault::NotDefined { name: at.name })),
+            (None, None) => Err(not_defined(at.name)),
         }
     }
+}
+
+/// Returns why a text is no symbol.
+fn why_no_symbol(text: &[u8]) -> &'static str {
+    match text.first() {
+        Some(b'$' | b'=' | b'0'..=b'9') => {
+            "{} is no symbol: a symbol begins with no digit, $ or ="
+        }
+        _ => "{} is no symbol: a symbol has none of + - * / , ^ ( ) _ \"",
+    }
+}
+
+/// Returns that a name is not defined.
+pub fn not_defined(name: Field) -> Stop {
+    let fault = Fault::new("{} is not defined{}").part(name);
+    Stop::At(name.first, fault.with(Argument::NearestSymbol(name)))
 }
 
 /// Where a name is looked up, and whether only names of the lines above count.

@@ -131,7 +131,8 @@ fn counted(
         end_of_symbols(line, first)
     };
     if end > line.len().max(LONGEST) {
-        return Err(Stop::At(at, Fault::ShortText { count }));
+        let fault = Fault::new("the line ends before the text has {} (decimal) symbols");
+        return Err(Stop::At(at, fault.decimal(count)));
     }
     let last = end.min(line.len());
     Ok(Some(Text {
@@ -160,7 +161,7 @@ fn delimited(line: &[u8], at: usize, kind: u8, mark: usize) -> Result<Option<Tex
             count: last.saturating_sub(first),
             end: last.saturating_add(1),
         })),
-        None => Err(Stop::At(at, Fault::NoTextEnd { symbol: *symbol })),
+        None => Err(Stop::At(at, Fault::no_text_end(*symbol))),
     }
 }
 

@@ -1,6 +1,6 @@
 //! Expressions: terms joined by +, - and ^, elements of a term joined by * and /, from left to right.
 use crate::message::{Fault, Field, Stop};
-use crate::symbols::{Place, Symbols, end_of_name};
+use crate::symbols::{Place, Symbols, end_of_name, not_defined};
 use crate::texts::{Filling, digits_at, is_alphanumeric, text_at, without_code};
 
 const MOST_BITS: u32 = 60;
@@ -10,6 +10,11 @@ const MOST_DIGITS: usize = 20;
 const MOST_SHIFT: u32 = 62;
 /// The greatest size of a number that is kept.
 const MOST: u64 = 0x7fff_ffff_ffff_ffff;
+
+const EITHER_BASE: &str = "{} may be octal or decimal: write {}B or {}D, or BASE before it";
+
+const OF_ANOTHER_PROGRAM: &str =
+    "{} is no number, symbol, text or *; a = begins an operand that is alone; a symbol of another program is not taken: use EQU";
 
 /// What numbers without a letter are.
 #[derive(Clone, Copy)]
@@ -96,18 +101,13 @@ impl<'a> Expression<'a> {
 
     /// Returns that a number is too great to be worked out here.
     fn too_great(&self) -> Stop {
-        Stop::Ends(
-            self.column,
-            Fault::NotYet {
-                name: self.part(0, self.text.len()),
-            },
-        )
+        Stop::not_yet(self.part(0, self.text.len()))
     }
 
     /// Returns the value of the whole text.
     pub fn value(&mut self) -> Result<Value, Stop> {
         if self.text.is_empty() {
-            return Err(self.fault(Fault::NoOperand));
+            return Err(self.fault(Fault::new("an operand is missing")));
         }
         let mut total = Value {
             number: 0,
@@ -122,7 +122,8 @@ impl<'a> Expression<'a> {
             total = joined(total, operator, term).ok_or(self.too_great())?;
         }
         if total.number.unsigned_abs() >> MOST_BITS != 0 {
-            return Err(Stop::At(self.column, Fault::LongValue));
+            let fault = Fault::new("this has more than 60 (decimal) bits");
+            return Err(Stop::At(self.column, fault));
         }
         Ok(total)
     }
@@ -133,7 +134,7 @@ impl<'a> Expression<'a> {
             Some(b'+') => Operator::Add,
             Some(b'-') => Operator::Subtract,
             Some(b'^') => Operator::Difference,
-            _ if self.at > 0 => return Err(self.fault(Fault::NoOperator { rest: self.rest() })),
+            _ if self.at > 0 => return Err(Stop::of("{} is no operator", self.rest())),
             _ => return Ok(Operator::Add),
         };
         self.pass_operator()?;
@@ -144,7 +145,7 @@ impl<'a> Expression<'a> {
         let next = self.at.saturating_add(1);
         if next >= self.text.len() {
             let sign = self.text.last().copied().unwrap_or(b'+');
-            return Err(self.fault(Fault::NothingFollows { sign }));
+            return Err(self.fault(Fault::new("nothing follows the {}").symbol(sign)));
         }
         self.at = next;
         Ok(())
@@ -215,9 +216,7 @@ impl<'a> Expression<'a> {
         };
         let symbol = match self.scope.symbols.look_up(name, place, self.scope.is_last) {
             Ok(symbol) => symbol,
-            Err(Stop::Follows) if name.len() != text.len() => return Err(self.fault(
-                Fault::NotDefined { name: place.name },
-            )),
+            Err(Stop::Follows) if name.len() != text.len() => return Err(not_defined(place.name)),
             Err(stop) => return Err(stop),
         };
         let Some(number) = symbol.value else {
@@ -272,13 +271,16 @@ impl<'a> Expression<'a> {
     fn base_of(&mut self, number: Number, digits: &[u8]) -> Result<i64, Stop> {
         let part = self.part(self.at, number.digits);
         if digits.len() > MOST_DIGITS {
-            return Err(self.fault(Fault::LongNumber));
+            return Err(self.fault(Fault::new("a number has at most 20 (decimal) digits")));
         }
         let base = match (number.letter, self.scope.base) {
             (Some(b'D'), _) | (None, Some(Base::Decimal)) => 10,
             (None, None) if decoded(digits, 10).unwrap_or(0) > 7 => {
                 if !self.scope.is_deck {
-                    return Err(self.fault(Fault::EitherBase { digits: part }));
+                    return Err(Stop::At(
+                        part.first,
+                        Fault::new(EITHER_BASE).part(part).part(part).part(part),
+                    ));
                 }
                 if self.decimal.is_none() {
                     self.decimal = Some(part);
@@ -288,21 +290,28 @@ impl<'a> Expression<'a> {
             _ => 8,
         };
         if base == 8 && has_decimal_digit(digits) {
-            return Err(self.fault(Fault::NotOctal { digits: part }));
+            let fault = Fault::new("{} is no octal number; {}D is decimal");
+            return Err(self.fault(fault.part(part).part(part)));
         }
         Ok(base)
     }
 
     fn text_element(&mut self) -> Result<Value, Stop> {
         let Some(text) = text_at(self.text, self.at, false)? else {
-            return Err(self.fault(Fault::NoElement { rest: self.rest() }));
+            let fault = Fault::new(match self.symbol() {
+                Some(b'"') => "{} is no number, symbol, text or *; no MICRO above has this name",
+                Some(b'=') => OF_ANOTHER_PROGRAM,
+                _ => "{} is no number, symbol, text or *",
+            });
+            return Err(self.fault(fault.part(self.rest())));
         };
         if text.kind != b'R' {
-            return Err(self.fault(Fault::TextInSum { kind: text.kind }));
+            let fault = Fault::new("in a sum a text is 1R or 2R, not {}");
+            return Err(self.fault(fault.symbol(text.kind)));
         }
         let symbols = self.text.get(text.first..text.last).unwrap_or(b"");
         if let Some(symbol) = without_code(symbols) {
-            return Err(self.fault(Fault::NotInDisplayCode { symbol }));
+            return Err(self.fault(Fault::no_display_code(symbol)));
         }
         self.at = text.end;
         match number_of(Filling::new(b'R', text.count, text.count), symbols) {

@@ -5,6 +5,8 @@ use Rattle.pp_rig.proofs.Names.{rules, turn, Hit, covers, Marks, machine_at, Ses
 use Rattle.pp_rig.proofs.Names.{hit_of, stopped, turned, watches_of, watched_place, Action, Turn, Watched, Stopped}
 use Rattle.std.proofs.{lemmas.List.Elements.recursion_from_All, lemmas.List.at_drop_more, Common.add-one, Common.unwrap_or}
 use Rattle.std.specs.List.{AllByRecursion}
+use Rattle.std.specs.Prelude.{◌==◌, false, is_some, min}
+use Rattle.pp_rig.specs.Stopping.{newest_changed}
 use Rattle.pp_history.specs.{Marks.AreCovered, Repeating.AreUnmarked, Repeating.after_acts, SessionValue.replay}
 use Rattle.pp_history.proofs.Repeats.{acts_replayed, machine_after_more}
 use Rattle.pp_actions.specs.declared.watched.Watched.TheVariants.{Cell}
@@ -137,6 +139,21 @@ last_hit turns old new v hit replayed last found =
 pub stopped_once : (machine : Machine) → stopped 1 machine ≡ record { turns = 1; hit = hit_of machine }
 unfolding turns_before stopped
 stopped_once machine = grind (arith, before_next 1 0 machine (omega arith))
+
+-- some actions can be undone
+some_kept : (kept : ℕ) → 1 ≤ kept → (kept == 0) ≡ false
+some_kept zero some = absurd (omega (arith, some))
+some_kept (suc kept) some = refl
+
+-- whether the newest action, a turn, changed a watched number
+pub newest_turn : (v : SessionValue Machine Action) → 1 ≤ v.capacity →
+    newest_changed (after_act v Turn) ≡ is_some (hit_of (replay rules v.start v.standing))
+unfolding newest_changed
+newest_turn v some =
+    let s = replay rules v.start v.standing in
+    let kept : (min v.capacity (v.kept + 1) == 0) ≡ false = some_kept (min v.capacity (v.kept + 1)) (grind (arith, some)) in
+    let same : watches_of (turn s) ≡ watches_of s = grind (arith, turn-watches s) in
+    rw (kept, same) refl
 
 -- nothing is watched
 pub none_watched : (old new : Machine) (watches : List Watched) → length watches ≡ 0 → first_change old new watches ≡ None

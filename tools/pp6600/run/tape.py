@@ -130,23 +130,23 @@ class Tape:
 
     def append(self, line: str, times: int = 1) -> None:
         """Adds an action at the end, so many times."""
-        if not times:
-            return
-        is_turn = line == STEP
-        if is_turn and self.runs and self.runs[-1].line == STEP:
-            times += self.runs.pop().times
-            self._pop_sums()
-        self.runs.append(Action(line, times))
-        self.starts.append(Position(self.starts[-1] + times))
-        self.turns_before.append(self.turns_before[-1] + times * is_turn)
-        self.units_before.append(self.units_before[-1] + times * (type(line) is not ReplyLine))
-        if not is_turn and type(line) is not ReplyLine:
-            self._note_kind(self.runs[-1].word)
+        self.extend([Action(line, times)] * (times > 0))
 
-    def _pop_sums(self) -> None:
-        self.starts.pop()
-        self.turns_before.pop()
-        self.units_before.pop()
+    def extend(self, actions: Sequence[Action]) -> None:
+        """Adds actions at the end, with no two runs of turns next to each other."""
+        if actions and self.runs and actions[0].line == self.runs[-1].line == STEP:
+            last = self.runs.pop()
+            del self.starts[-1], self.turns_before[-1], self.units_before[-1]
+            actions = [Action(STEP, last.times + actions[0].times), *actions[1:]]
+        for action in actions:
+            line, times = action
+            is_turn, is_reply = line == STEP, type(line) is ReplyLine
+            self.runs.append(action)
+            self.starts.append(Position(self.starts[-1] + times))
+            self.turns_before.append(self.turns_before[-1] + times * is_turn)
+            self.units_before.append(self.units_before[-1] + times * (not is_reply))
+            if not is_turn and not is_reply:
+                self._note_kind(action.word)
 
     def _note_kind(self, word: str) -> None:
         if word in WATCH_WORDS:
@@ -157,7 +157,7 @@ class Tape:
     def cut(self, position: Position) -> None:
         """Removes what is after a position."""
         while self.starts[-1] > position:
-            self._pop_sums()
+            del self.starts[-1], self.turns_before[-1], self.units_before[-1]
             action = self.runs.pop()
             self.watches -= action.is_watch
             self.append(action.line, max(position - self.end, 0))
@@ -322,11 +322,10 @@ class History:
         self.kept = min(self.kept + count, self.room)
         self.ahead = 0
 
-    def taken_back(self, made: int, count: int) -> None:
-        """Notes that the simulator has performed so many new actions, and taken back so many of them."""
-        self.position = Position(self.position + made - count)
-        self.kept = min(self.kept + made, self.room) - count
-        self.ahead = 0
+    def went(self, position: Position, kept: int) -> None:
+        """Notes that the simulator has performed new actions up to a position, and keeps so many at most."""
+        self.kept = min(self.kept + position - self.position, kept)
+        self.position, self.ahead = position, 0
 
     def moved(self, count: int) -> None:
         """Notes that the simulator has gone forward by so many actions, or back if it is negative."""

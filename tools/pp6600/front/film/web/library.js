@@ -20,20 +20,11 @@ const checked32 = (number) => {
   throw new RangeError(`pp6600.wasm: ${number} is no number of 32 bits`);
 };
 
-// A session. Addresses and sizes are 64 bits wide for the module, and so are places and numbers of the machine. Arrays are copies.
-class LibrarySession {
-  // The options are the program's; `central` is a count of words, and `deck` and `panel` are the bytes of their files.
-  constructor(calls, { history = 10000, central = 131072, reader = 0o12, printer = 0o13, deck = [], panel = [] } = {}) {
+// The module's memory for what calls are given and write. Addresses and sizes are 64 bits wide for the module.
+class Rooms {
+  constructor(calls) {
     this.calls = calls;
     this.rooms = {}; // the address and the size of the memory of each use
-    this.handle = this.given("handle", Uint32Array.of(0, 0))[0];
-    const machine = [history, central, reader, printer].map(checked32), line = this.room("line", 128);
-    const files = [...this.given("deck", deck), ...this.given("panel", panel)];
-    const status = calls.pp6600_open(...machine, ...files, this.handle, line, 128n, ...this.outs(2)), [size, exit] = this.results(2);
-    if (status === STATUS.DONE) return;
-    const error = new LibraryError(status, status === STATUS.OPEN ? "" : this.text(line, size), exit);
-    this.release();
-    throw error;
   }
 
   // Returns memory for a use, which grows as needed.
@@ -51,7 +42,6 @@ class LibrarySession {
   release() {
     for (const { at } of Object.values(this.rooms)) this.calls.pp6600_end_room(at);
     this.rooms = {};
-    this.handle = 0n;
   }
 
   // Returns a part of the memory. The next call may move it.
@@ -68,6 +58,27 @@ class LibrarySession {
   // Returns where a call puts the numbers that it returns beside its status; and those, of which each has 32 bits.
   outs = (count) => [0n, 8n, 16n, 24n].slice(0, count).map((more) => this.room("results", 32) + more);
   results = (count) => [0, 2, 4, 6].slice(0, count).map((at) => this.view(Uint32Array, this.room("results", 32), 8)[at]);
+}
+
+// A session. Places and numbers of the machine are 64 bits wide too. Arrays are copies.
+class LibrarySession extends Rooms {
+  // The options are the program's; `central` is a count of words, and `deck` and `panel` are the bytes of their files.
+  constructor(calls, { history = 10000, central = 131072, reader = 0o12, printer = 0o13, deck = [], panel = [] } = {}) {
+    super(calls);
+    this.handle = this.given("handle", Uint32Array.of(0, 0))[0];
+    const machine = [history, central, reader, printer].map(checked32), line = this.room("line", 128);
+    const files = [...this.given("deck", deck), ...this.given("panel", panel)];
+    const status = calls.pp6600_open(...machine, ...files, this.handle, line, 128n, ...this.outs(2)), [size, exit] = this.results(2);
+    if (status === STATUS.DONE) return;
+    const error = new LibraryError(status, status === STATUS.OPEN ? "" : this.text(line, size), exit);
+    this.release();
+    throw error;
+  }
+
+  release() {
+    super.release();
+    this.handle = 0n;
+  }
 
   call(name, ...words) {
     const status = this.calls[`pp6600_${name}`](this.handle, ...words);
@@ -75,7 +86,7 @@ class LibrarySession {
     throw new LibraryError(status);
   }
 
-  // Performs lines, a text or bytes, by as many calls as it takes. Returns their answers, how many lines there were, and how many were rejected.
+  // Performs lines, a text or bytes. Returns their answers, how many lines there were, and how many were rejected.
   answer(typed) {
     const bytes = typeof typed === "string" ? new TextEncoder().encode(typed) : typed, done = { text: "", lines: 0, refused: 0 };
     const [from] = this.given("typed", bytes);
@@ -99,22 +110,13 @@ class LibrarySession {
     return this.view(BigUint64Array, into, count).slice();
   }
 
-  // Makes turns, or performs actions again. Returns the status; for each its processor, 10 if it is no turn, and how many old numbers it
-  // has; and these, a place and the number that was there.
-  turns = (...rooms) => this.recorded("turns", ...rooms);
-  again = (...rooms) => this.recorded("again", ...rooms);
-  recorded(call, most, room = 4096, oldRoom = 8 * room) {
+  // Makes turns, or by another call performs actions again. Returns the status; for each its processor, 10 if it is no turn, and how many
+  // old numbers it has; and these, a place and the number that was there.
+  turns(most, room = 4096, oldRoom = 8 * room, call = "turns") {
     const made = this.room("made", 8 * room), olds = this.room("olds", 16 * oldRoom);
     const status = this.call(call, checked32(most), made, BigInt(room), olds, BigInt(oldRoom), ...this.outs(2));
     const [turns, used] = this.results(2);
     return { status, made: this.view(Uint32Array, made, 2 * turns).slice(), olds: this.view(BigUint64Array, olds, 2 * used).slice() };
-  }
-
-  // Makes turns. Returns the status, and the numbers at these places after each.
-  looks(most, places, room = 4096 * places.length) {
-    const into = this.room("looks", 8 * room), given = this.given("places", Uint32Array.from(places, checked32));
-    const status = this.call("looks", checked32(most), ...given, into, BigInt(room), ...this.outs(1));
-    return { status, numbers: this.view(BigUint64Array, into, places.length * this.results(1)[0]).slice() };
   }
 
   back = (count) => this.call("back", checked32(count));
@@ -128,3 +130,15 @@ class LibrarySession {
 }
 
 if (typeof module !== "undefined") module.exports = { STATUS, LibraryError, LibrarySession, openLibrary };
+
+// The assembler, whose calls need no session.
+class Assembler extends Rooms {
+  // Returns the lines that a call writes of a source, for a form or a processor, and how many faults the source has.
+  written(call, source, number, room = 1 << 16) {
+    const given = this.given("source", new TextEncoder().encode(source)), into = this.room("text", room);
+    const status = this.calls[`pp6600_${call}`](...given, number, into, BigInt(room), ...this.outs(2)), [count, faults] = this.results(2);
+    if (status === STATUS.ROOM) return this.written(call, source, number, count);
+    if (status !== STATUS.DONE) throw new LibraryError(status);
+    return { lines: new TextDecoder().decode(this.view(Uint8Array, into, count)).split("\n").slice(0, -1), faults };
+  }
+}

@@ -10,10 +10,10 @@ const turning = (() => {
 
   // Takes the tables as they come: a row has a name, its words, the states in which it goes on, and its effects.
   function open(about) {
-    const effectOf = ([place, moved, sources]) => ({ place, moved, sources });
-    const rowOf = ([, words, states, effects]) => ({ words, states, effects: effects.map(effectOf) });
+    const effectsOf = (some) => some.map(([place, moved, sources]) => ({ place, moved, sources }));
+    const rowOf = ([, words, states, effects]) => ({ words, states, effects: effectsOf(effects) });
     const each = (all, made) => Object.fromEntries(Object.entries(all).map(([key, one]) => [key, made(one)]));
-    tables = { ...about, table: about.table.map(rowOf), blocks: each(about.blocks, rowOf), ends: each(about.ends, (some) => some.map(effectOf)) };
+    tables = { ...about, table: about.table.map(rowOf), blocks: each(about.blocks, rowOf), ends: each(about.ends, effectsOf) };
     constants = new Map([["", 0]]);
   }
 
@@ -29,7 +29,8 @@ const turning = (() => {
   function processor(numbers, n) {
     const [p, a, q, phase] = REGISTERS.map((first) => numbers[first + n]), cells = n * CELLS;
     const word = phase || numbers[cells + p], second = numbers[cells + ((p + 1) & 0o7777)], code = word >> 6;
-    const one = { n, p, a, q, phase, word, second, code, d: word & 0o77, row: phase ? tables.blocks[code] : tables.table[code], cells, numbers };
+    const row = (phase ? tables.blocks : tables.table)[code], d = word & 0o77;
+    const one = { n, p, a, q, phase, word, second, code, d, row, cells, numbers };
     one.state = stateOf(one);
     one.operand = operandOf(one);
     return one;
@@ -55,24 +56,20 @@ const turning = (() => {
 
   // ---- the letters of the table as places
 
-  const central = (address) => (address < layout.size ? layout.central + address : -1);
-  const wordFrom = (one, at) => central((one.a + at) % CENTRAL_ADDRESSES);
-  const cellsFrom = (one, first, count) => Array.from({ length: count }, (_, at) => one.cells + ((first + at) & 0o7777));
+  const REGISTER_LETTERS = "PAQ";
+  const FIRST_CELLS = { X: (one) => one.operand, D: (one) => one.d, I: (one) => one.d, B: (one) => one.p, R: () => 0 };
 
   function placesOf(one, symbol) {
-    switch (symbol) {
-      case "P": return [register(one.n, 0)];
-      case "A": return [register(one.n, 1)];
-      case "Q": return [register(one.n, 2)];
-      case "H": return one.d > CLOCK ? [] : [one.d === CLOCK ? layout.clock : layout.words + one.d];
-      case "X": return cellsFrom(one, one.operand, 1);
-      case "D": case "I": return cellsFrom(one, one.d, 1);
-      case "D5": return cellsFrom(one, one.d, 5);
-      case "B": return cellsFrom(one, one.p, 1);
-      case "B5": return cellsFrom(one, one.p, 5);
-      case "R": return [one.cells];
-      default: return [];
-    }
+    const letter = REGISTER_LETTERS.indexOf(symbol), firstOf = FIRST_CELLS[symbol[0]];
+    if (letter >= 0) return [register(one.n, letter)];
+    if (symbol === "H") return one.d > CLOCK ? [] : [layout.words + one.d];
+    return firstOf ? range(Number(symbol[1] || 1)).map((at) => one.cells + ((firstOf(one) + at) & 0o7777)) : [];
+  }
+
+  // The central word at A, or after it; -1 if there is none.
+  function wordFrom(one, at) {
+    const address = (one.a + at) % CENTRAL_ADDRESSES;
+    return address < layout.size ? layout.central + address : -1;
   }
 
   // ---- what a turn was, by its processor before it and the numbers after it
@@ -112,28 +109,19 @@ const turning = (() => {
 
   function writesOf(one, effect, add) {
     const { place, moved, sources } = effect;
-    if (place === "C") return moveToWord(one, sources[0], add);
-    if (place === "C20") return frameToWords(one, add);
-    if (place === "F20") return wordsToFrame(one, add);
-    if (sources[0] === "C") return placesOf(one, place).forEach((to, at) => ofWord(one, to, wordFrom(one, 0), 1 << at, add));
+    if (place === "C") return toWord(wordFrom(one, 0), placesOf(one, sources[0]), add);
+    if (place === "C20") return frameWords.forEach((from, at) => toWord(wordFrom(one, at), [from], add));
+    if (place === "F20") return frameWords.forEach((to, at) => ofWord(to, wordFrom(one, at), at ? 0 : WITHOUT_B_FIELD, add));
+    if (sources[0] === "C") return placesOf(one, place).forEach((to, at) => ofWord(to, wordFrom(one, 0), 1 << at, add));
     const what = (moved ? MOVED : 0) | (place === "P" && one.ends ? AT_END : 0) | constantIn(one, sources), read = readBy(one, sources);
-    for (const to of placesOf(one, place)) add(to, what, read);
+    return placesOf(one, place).forEach((to) => add(to, what, read));
   }
 
-  function moveToWord(one, cells, add) {
-    const word = wordFrom(one, 0);
-    if (word >= 0) add(word, MOVED, placesOf(one, cells).flatMap((source) => [source, 0]));
-  }
+  const frameWords = range(FRAME_WORDS).map((at) => layout.frame + at);
 
-  function frameToWords(one, add) {
-    for (let at = 0; at < FRAME_WORDS; at++) if (wordFrom(one, at) >= 0) add(wordFrom(one, at), MOVED, [layout.frame + at, 0]);
-  }
-
-  function wordsToFrame(one, add) {
-    for (let at = 0; at < FRAME_WORDS; at++) ofWord(one, layout.frame + at, wordFrom(one, at), at ? 0 : WITHOUT_B_FIELD, add);
-  }
-
-  const ofWord = (one, to, word, parts, add) => (word < 0 ? add(to, MOVED | constant("zero, past the last central word"), [])
+  // What is moved to a central word, and from parts of one; -1 is a word that there is not.
+  const toWord = (word, from, add) => word >= 0 && add(word, MOVED, from.flatMap((place) => [place, 0]));
+  const ofWord = (to, word, parts, add) => (word < 0 ? add(to, MOVED | constant("zero, past the last central word"), [])
     : add(to, MOVED, [word, parts]));
 
   function readBy(one, sources) {
@@ -175,27 +163,27 @@ const turning = (() => {
     return cell(one, address) === one.word ? address : null;
   }
 
-  const target = (one) => (one.p + (one.d < 0o40 ? one.d : one.d - 0o77) + CELLS) & 0o7777;
+  const target = (p, d) => (p + (d < 0o40 ? d : d - 0o77) + CELLS) & 0o7777; // of a relative jump
   const fives = (first) => `${four(first & 0o7777)} to ${four((first + 4) & 0o7777)}`;
   const counted = (number) => `${octal(number)} ${number === 1 ? "word is" : "words are"}`;
   const HOLDS = {
     "A=0": (one) => one.a === 0, "A/0": (one) => one.a !== 0, "A+": (one) => one.a < 0o400000, "A-": (one) => one.a >= 0o400000,
-    "Q=0": (one) => one.q === 0, "d<40": (one) => one.d < 0o40, "=P": (one) => target(one) === one.p, clock: (one) => one.d === CLOCK,
-    lost: (one) => one.state === "I" && one.p === 0,
+    "Q=0": (one) => one.q === 0, "d<40": (one) => one.d < 0o40, "=P": (one) => target(one.p, one.d) === one.p,
+    clock: (one) => one.d === CLOCK, lost: (one) => one.state === "I" && one.p === 0,
   };
   const SAYS = {
-    A: (one) => octal(one.a, 6), P: (one) => four(one.p), Q: (one) => four(one.q), a: (one) => four(one.a & 0o7777),
-    "A#": (one) => octal(one.a), "A,": (one) => counted(one.a), "Q,": (one) => counted(one.q), d: (one) => two(one.d),
-    m: (one) => four(one.second), dm: (one) => two(one.d) + four(one.second), n: (one) => octal(one.d < 0o40 ? one.d : 0o77 - one.d),
-    x: (one) => four(one.operand), "x+1": (one) => four((one.operand + 1) & 0o7777), X: (one) => four(cell(one, one.operand)),
-    D: (one) => four(cell(one, one.d)), "D..": (one) => fives(one.d), "P..": (one) => fives(one.p), near: (one) => four(target(one)),
-    on: (one) => four((one.p + one.row.words) & 0o7777), back: (one) => four((cell(one, 0) + 1) & 0o7777),
-    H: (one) => four(one.numbers[one.d === CLOCK ? layout.clock : layout.words + one.d]),
+    A: (one) => octal(one.a, 6), P: (one) => four(one.p), Q: (one) => four(one.q), a: (one) => four(one.a & 0o7777), d: (one) => two(one.d),
+    "A#": (one) => octal(one.a), "A,": (one) => counted(one.a), "Q,": (one) => counted(one.q), m: (one) => four(one.second),
+    dm: (one) => two(one.d) + four(one.second), n: (one) => octal(one.d < 0o40 ? one.d : 0o77 - one.d), x: (one) => four(one.operand),
+    "x+1": (one) => four((one.operand + 1) & 0o7777), X: (one) => four(cell(one, one.operand)), D: (one) => four(cell(one, one.d)),
+    "D..": (one) => fives(one.d), "P..": (one) => fives(one.p), H: (one) => four(one.numbers[layout.words + one.d]),
+    near: (one) => four(target(one.p, one.d)), on: (one) => four((one.p + one.row.words) & 0o7777),
+    back: (one) => four((cell(one, 0) + 1) & 0o7777), wanted: (one) => tables.waits_for[one.code],
     state: (one) => ({ I: "is inactive", E: "is empty", F: "is full", X: "has a function code" })[one.state],
-    wanted: (one) => tables.waits_for[one.code],
   };
 
-  const holds = (one, condition) => (condition.startsWith("state ") ? condition.slice(6).includes(one.state) : !condition || HOLDS[condition](one));
+  const isState = (one, condition) => condition.slice("state ".length).includes(one.state);
+  const holds = (one, condition) => !condition || (HOLDS[condition] || isState)(one, condition);
 
   // The sentence about its next turn, which is a row of the tools' table.
   function sentence(one) {
@@ -206,5 +194,6 @@ const turning = (() => {
     return `${nameOf(one)} ${second}`.trim() + `: ${text.replace(/\{(.*?)\}/g, (_, name) => SAYS[name](one))}`;
   }
 
-  return { open, processor, kindOf, writes, waits, sentence, nameOf, secondOf, addressOf, cell, isOfChannel, constants: () => [...constants.keys()] };
+  const namesOfConstants = () => [...constants.keys()];
+  return { open, processor, kindOf, writes, waits, sentence, nameOf, secondOf, addressOf, target, isOfChannel, constants: namesOfConstants };
 })();

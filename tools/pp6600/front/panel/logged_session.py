@@ -1,0 +1,189 @@
+"""The session of the panel: lines sent to the simulator, a log of these and of their answers, and the machine's state after them."""
+
+import os
+from contextlib import closing
+from typing import NamedTuple
+
+from ...failure import Failure
+from ...run.forms import hit_of, is_refusal
+from ...run.searches import MOST_NEW
+from ...run.console import Console, has_no_answer
+from ...run.session import Session, without_history
+from ...run.state import state_of
+from ...run.tape import ScriptLine, SourceLine
+from ...shell.device_options import timeline
+from ...shell.keyboard import place_of
+
+NEW = ("OK", "TURNS")  # the first words of answers to lines that discard what is ahead
+LOG_LENGTH = 10000  # decimal, lines and answers
+
+
+class Outcome(NamedTuple):
+    """What came of some lines."""
+
+    answer: list  # to the last one that was sent
+    discarded: int  # how many actions that were ahead are so no longer
+    watched: list  # the places that were watched before
+
+
+def kind_of(answer):
+    """Returns the first word of an answer, as TURNS; nothing if there is no answer."""
+    return answer[0].split()[0] if answer else ""
+
+
+def is_action(line):
+    """Returns whether a line may be an action, BACK or FORWARD."""
+    return not has_no_answer(line) and line.upper().split()[:1] != ["DUMP"]
+
+
+def never(done, total):
+    return False
+
+
+class LoggedSession:
+    """A simulator, all lines that it was sent, and its state. The lines that ask for the state are not among them."""
+
+    def __init__(self, words, devices=()):
+        self.simulator = timeline(words, devices)
+        self.most_new = 0 if devices else MOST_NEW  # a search has no devices
+        self.size = self.simulator.central_size
+        self.lines_sent = 0
+        self.saved = (0, 0)  # the lines that are in a file
+        self.log = []
+        self.logged = 0  # lines of the log
+        self.state = self.before = self.read()
+
+    @property
+    def history(self):
+        return self.simulator.counts
+
+    @property
+    def sent(self):
+        """The lines that were sent; after a replay those of the replay, and what was sent after it."""
+        return self.simulator.sent
+
+    def read(self):
+        """Returns the machine's state."""
+        return state_of(self.simulator, with_central=True)
+
+    def search(self):
+        """Returns a session on the same tape, whose position is its own. It is used in a `with` block."""
+        return Session(without_history(self.simulator.words), self.simulator.tape, is_search=True)
+
+    def watched(self):
+        return [place.short for place in self.state.watched]
+
+    def find_central(self, word, first):
+        """Returns the first address, from `first` on and round to it, of a central word; or None."""
+        words = [*self.state.central[first:], *self.state.central[:first]]
+        return (words.index(word) + first) % self.size if word in words else None
+
+    def would_refuse(self, line):
+        """Returns whether a new action would be refused: whether another simulator, which watches the same places, refuses it."""
+        with closing(Console(self.simulator.words)) as other:
+            *_, answer = other.ask_each([*(f"WATCH {place}" for place in self.watched()), line])
+        return is_refusal(answer)
+
+    def send(self, line):
+        if not isinstance(line, SourceLine):
+            self.lines_sent += 1
+            line = ScriptLine(line, self.lines_sent)
+        answer = self.simulator.act_by_move(line)
+        if line.strip():
+            self.log_line(line, answer)
+        return answer
+
+    def log_line(self, line, answer):
+        """Adds a line with its answer to the log, and drops the oldest of a log that is too long."""
+        self.log.append((line, answer))
+        self.logged += 1 + len(answer)
+        while self.logged > LOG_LENGTH and len(self.log) > 1:
+            self.logged -= 1 + len(self.log.pop(0)[1])
+
+    def perform(self, lines, stops=never):
+        """Sends lines up to one that is refused, or that ends with a HIT, or until it `stops`: that is asked before each
+        line but the first, with how many are done and how many there are. Then reads the state. Returns the outcome."""
+        old, discarded, watched = self.state, 0, self.watched()
+        kinds, answer = set(), []
+        for number, line in enumerate(lines):
+            if number and stops(number, len(lines)):
+                break
+            ahead = self.history.to_redo
+            answer = self.send(line)
+            kinds.add(kind_of(answer))
+            discarded += ahead if kind_of(answer) in NEW else 0
+            if kind_of(answer) == "ERR" or hit_of(answer):
+                break
+        if kinds & {*NEW, "BACK", "FORWARD"}:
+            self.state, self.before = self.read(), old
+        return Outcome(answer, discarded, watched)
+
+    def tell(self, number, what):
+        """Tells a device something, as which keys are pressed."""
+        self.simulator.tell(number, what)
+        self.log_line(f"* {what!a} to device {number + 1} (decimal)", [])
+        self.state, self.before = self.read(), self.state
+
+    def to_turn(self, turn):
+        """Goes to where so many turns are in effect. What the last of them changed is marked."""
+        if turn:
+            self.go(turn - 1)
+        before = self.read() if turn else None
+        self.go(turn)
+        self.state = self.read()
+        self.before = before or self.state
+
+    def go(self, turn):
+        """Goes back or on to where so many turns are in effect: after the settings that follow the last of them. New turns do
+        not end where a watched number changes."""
+        for line in self.simulator.lines_to(turn):
+            self.send(line)
+
+    def perform_script(self, lines, stops=never):
+        """Performs a script, whatever is refused; `stops` is asked before each line. Returns whether all was performed."""
+        last = max((number for number, line in enumerate(lines) if is_action(line)), default=None)
+        for number, line in enumerate(lines):
+            if stops(number, len(lines)):
+                break
+            if number == last:
+                self.state = self.before = self.read()
+                self.perform([line])
+            else:
+                self.send(line)
+        else:
+            self.saved = place_of(self.simulator)
+            return True
+        self.look_again()
+        return False
+
+    def look_again(self):
+        """Reads the state, in which nothing is marked."""
+        self.state = self.before = self.read()
+
+    def close(self):
+        self.simulator.close()
+
+    # ---- the file of what was sent
+
+    def note(self):
+        """Returns a line that says how the session was begun, if a note can say it."""
+        note, options = "* A session of panel.", self.simulator.words[1:]
+        whole = " ".join([note, "Its options:", *options])
+        return whole if options and whole.isascii() and has_no_answer(whole) else note
+
+    def save(self, path, over=False):
+        """Writes all that was sent into a file, a script that gives the same session again."""
+        if over and os.path.exists(path) and not os.path.isfile(path):  # a FIFO would wait for a reader
+            raise Failure(f"can't write {path}: it is not a file")
+        text = "".join(f"{line}\n" for line in [self.note(), *self.sent]).encode("latin-1")
+        try:
+            with open(path, "wb" if over else "xb") as file:
+                file.write(text)
+        except FileExistsError:
+            raise Failure(f"{path} exists; w! {path} writes over it") from None
+        except (OSError, ValueError) as error:
+            raise Failure(f"can't write {path}: {getattr(error, 'strerror', None) or error}") from error
+        self.saved = place_of(self.simulator)
+
+    def is_saved(self):
+        return self.saved == place_of(self.simulator)
