@@ -90,6 +90,7 @@ def blocks():
 
 
 FILES, BLOCKS = blocks()
+OVERWRITTEN, FIRST_PROGRAM, READS, DISPLAYS = (FILES[f"{name}|"] for name in ("loader", "first", "reads", "displays"))
 
 
 def lines_up_to(turn, script):

@@ -5,8 +5,8 @@ import os
 import re
 import sys
 
-from tests.fixtures import BLOCKS_GO_ON, COMPLETES, COUNTS, DECK, DISPLAYS, FAILS, FIRST_PROGRAM, LOADER, OVERWRITTEN, READS
-from tests.panels import BLOCKS, BlockCase, PanelCase, bottom, press
+from tests.fixtures import BLOCKS_GO_ON, COMPLETES, COUNTS, DECK, FAILS, LOADER
+from tests.panels import BLOCKS, DISPLAYS, FIRST_PROGRAM, OVERWRITTEN, READS, BlockCase, PanelCase, bottom, press
 from tests.support import EXAMPLES, TOP, Case, add_tests, blocks, program, read, run, tool
 
 from pp6600 import Console, Failure
