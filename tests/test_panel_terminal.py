@@ -7,8 +7,8 @@ import subprocess
 import sys
 
 from tests.cases import stored
-from tests.fixtures import DECK, DISPLAYS, LOADER, OVERWRITTEN, READS
-from tests.panels import PROGRAM, PanelCase, press
+from tests.fixtures import DECK, LOADER
+from tests.panels import DISPLAYS, OVERWRITTEN, PROGRAM, READS, PanelCase, press
 from tests.support import PYTHON, TOP, add_tests, read, run, write
 from tests.terminal import PATIENCE, Terminal
 
@@ -127,24 +127,19 @@ class Screens(TerminalCase):
         self.assert_shows(terminal, "q quit")
         terminal.type("12\x03")
         self.assert_shows(terminal, "s step")
+        panel = self.panel(OVERWRITTEN, "--deck", DECK)
         terminal.type("s")
-        terminal.shows("> STEP  ")
-        terminal.settle()
-        shown = terminal.screen.text()
+        self.assert_same_screen(terminal, press(panel, "s"))
         terminal.type("\x1a")
         self.assert_shows(terminal, "ready$")
-        terminal.settle()
         terminal.type("echo $((6 * 7))\r")
         self.assert_shows(terminal, "42")
         terminal.type("fg\r")
-        self.assert_shows(terminal, "q quit")
-        terminal.settle()
-        self.assertEqual(shown, terminal.screen.text())
+        self.assert_same_screen(terminal, press(panel))
         terminal.type("b")
         self.assert_shows(terminal, "> BACK  ")
         terminal.type("qq")
-        terminal.shows("ready$")
-        terminal.settle()
+        self.assert_shows(terminal, "ready$")
         terminal.type("echo status $?\r")
         self.assert_shows(terminal, "status 0")
         terminal.type("exit\r")

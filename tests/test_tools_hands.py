@@ -3,11 +3,9 @@
 import os
 import signal
 import subprocess
-import sys
-import time
 
 from tests.fixtures import GIVEN, WITH_SIMULATOR, WITHOUT
-from tests.support import PYTHON, TOOLS, TOP, Case, program, run, tool, write
+from tests.support import PATIENCE, PYTHON, TOP, Case, program, run, tool, write, writer
 from tests.terminal import Terminal
 
 STEP = "STEP\n"
@@ -86,31 +84,8 @@ class Hands(HandsCase):
                                 env=self.environment, stderr=subprocess.PIPE,
                                 preexec_fn=lambda: signal.signal(signal.SIGINT, signal.SIG_DFL))  # ignored in the background
         self.addCleanup(tool.kill)
-        time.sleep(1)
+        end = writer(deck)
         tool.send_signal(signal.SIGINT)
-        self.assertEqual(b"", tool.communicate(timeout=600)[1])
+        self.assertEqual(b"", tool.communicate(timeout=PATIENCE)[1])
+        os.close(end)
         self.assertEqual(-signal.SIGINT, tool.returncode)
-
-
-class Surroundings(HandsCase):
-    """Older Pythons, and the example of a conversation over a pipe."""
-
-    SHOW = os.path.join(TOP, "examples", "over-a-pipe", "show.py")
-
-    def test_older_python(self):
-        """Each tool says in one line that it needs a later one."""
-        fake = "import runpy, sys; sys.version_info = (3, 8); sys.argv = sys.argv[1:]; runpy.run_path(sys.argv[0], {}, '__main__')"
-        for name in TOOLS:
-            done = run(sys.executable, "-c", fake, os.path.join(TOP, "tools", name), stdin=None)
-            with self.subTest(name):
-                self.assert_one_line(name, "Python 3.9 or later is needed", done.err)
-                self.assertEqual(2, done.status)
-
-    def test_example(self):
-        self.check_rows(lambda words, script: run(self.SHOW, *words, script=script, env={"PP6600_PATIENCE": "1"}),
-                        ([], "", ("", "show.py: give the simulator and its options, as in show.py ./pp6600 <SCRIPT\n", 2)),
-                        ([program(), "--none"], "STEP\n", ("> STEP\n", "pp6600: BAD ARGUMENTS\n", 2)),
-                        ([program()], "* \xff\n", ("> * \ufffd\nERR 06 NOT ASCII\n", "", 1)),
-                        (["true"], "STEP\n", ("> STEP\n", "show.py: the simulator ended before it answered\n", 2)),
-                        ([self.program_file("is silent", "exec sleep 60")], "STEP\n",
-                         ("> STEP\n", "show.py: the simulator has not answered for 1 (decimal) seconds\n", 2)))
