@@ -15,7 +15,7 @@ from pp6600.devices.paper_tape import PaperTape
 from pp6600.engine.plain import places
 from pp6600.engine.plain.console import SYMBOLS
 from pp6600.front import keys
-from pp6600.front.panel.screen import Shown, layout, screen, small_screen
+from pp6600.front.panel.screen import ScreenContent, layout, screen, small_screen
 from pp6600.front.panel.text import CHANGED, CURSOR, HERE, OVERWRITTEN as OVER, REFUSED
 from pp6600.front.panel.view import View, memory_top
 from pp6600.run.state import state_of
@@ -49,7 +49,7 @@ def state_with(numbers=()):
 
 
 def texts(state, before=None, size=(80, 24), **more):
-    return [line.text for line in screen(Shown(state, before or state, View(), **more), *size).lines]
+    return [line.text for line in screen(ScreenContent(state, before or state, View(), **more), *size).lines]
 
 
 class States(Case):

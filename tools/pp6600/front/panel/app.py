@@ -17,14 +17,14 @@ from ...run.searches import Stopped, last_before, next_found
 from ...run.session import REPLAYED
 from ...shell.keyboard import FIRST_WORDS, card
 from ..keys import ARROWS, PAGES, PANEL
-from .keys import LINES, Facts, help_lines, to_turn
+from .key_lines import LINES, Facts, help_lines, to_turn
 from .origins import OriginPage
-from .page import Page
-from .pictures import PicturePage, devices_that
+from .picture_page import PicturePage, devices_that
 from .prompt import Prompt
 from .remarks import in_width, remarks
-from .screen import LEAST_COLUMNS, LEAST_ROWS, Shown, is_too_small, layout, log_lines, screen
-from .text import Line
+from .screen import LEAST_COLUMNS, LEAST_ROWS, ScreenContent, is_too_small, layout, log_lines, screen
+from .text import MarkedLine
+from .text_page import TextPage
 from .view import View
 
 MOST_COUNT_DIGITS = 10
@@ -109,10 +109,10 @@ class Panel:
         if self.page:
             return self.page.screen(self.columns, self.rows)
         session = self.session
-        shown = Shown(session.state, session.before, self.view, session.history.turns,
-                      session.history.kept, session.history.to_redo, session.size, session.log, self.message,
-                      self.prompt and self.prompt.shown(), self.symbols)
-        return screen(shown, self.columns, self.rows)
+        content = ScreenContent(session.state, session.before, self.view, session.history.turns,
+                                session.history.kept, session.history.to_redo, session.size, session.log, self.message,
+                                self.prompt and self.prompt.shown(), self.symbols)
+        return screen(content, self.columns, self.rows)
 
     # ---- keys
 
@@ -179,7 +179,7 @@ class Panel:
          "help": self.show_keys}[action]()
 
     def show_keys(self):
-        self.page = Page("The keys of the panel", [Line(text) for text in help_lines()])
+        self.page = TextPage("The keys of the panel", [MarkedLine(text) for text in help_lines()])
 
     def toggle_source(self):
         """Shows the source, or the cells."""
@@ -330,7 +330,7 @@ class Panel:
             raise Stopped
 
     def show_log(self):
-        self.page = Page("All lines and answers", log_lines(self.session.log, None), at_end=True)
+        self.page = TextPage("All lines and answers", log_lines(self.session.log, None), at_end=True)
 
     def show_origin(self):
         """Opens the page of where the number at the cursor came from."""
@@ -348,8 +348,9 @@ class Panel:
             return
         with self.session.search() as run:
             found = calls(run, number, source, self.session.simulator.position)
-            lines = [Line(sentence(run, number, call, self.symbols)) for call in found]
-        self.page = Page(f"The subroutines that PP {number:02o} is in", lines or [Line("none that was called and has not returned")])
+            lines = [MarkedLine(sentence(run, number, call, self.symbols)) for call in found]
+        none = [MarkedLine("none that was called and has not returned")]
+        self.page = TextPage(f"The subroutines that PP {number:02o} is in", lines or none)
 
     def show_pictures(self):
         page = PicturePage(self)

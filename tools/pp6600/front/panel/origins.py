@@ -1,12 +1,12 @@
 """Where the number at the cursor came from: a page of steps, one of which is chosen."""
 
 from ...run.origin_text import MOST_STEPS, origin_rows
-from .page import Page
 from .screen import Screen, is_too_small
-from .text import HEAD, Line
+from .text import HEAD, MarkedLine
+from .text_page import TextPage
 
 
-class OriginPage(Page):
+class OriginPage(TextPage):
     """The steps of the origin of a number as it is now: a line each, and the actions after which it was written."""
 
     def __init__(self, session, place, progress, symbols):
@@ -14,7 +14,7 @@ class OriginPage(Page):
         self.history, self.position = session.history, session.simulator.position
         with session.search() as run:
             self.rows = origin_rows(run, place, self.position, MOST_STEPS, False, progress, symbols=symbols)
-        super().__init__(f"Where the number at {place.text} came from", [Line(text) for _, text in self.rows])
+        super().__init__(f"Where the number at {place.text} came from", [MarkedLine(text) for _, text in self.rows])
         self.at, self.is_asked_to_go = 0, False
 
     def undone(self):
@@ -34,7 +34,7 @@ class OriginPage(Page):
     def screen(self, columns, rows):
         if is_too_small(columns, rows):
             return super().screen(columns, rows)
-        lines, self.lines = self.lines, [Line(f"{'>' if at == self.at else ' '}{line.text}") for at, line in enumerate(self.lines)]
+        lines, self.lines = self.lines, [MarkedLine(f"{'>' if at == self.at else ' '}{line.text}") for at, line in enumerate(self.lines)]
         shown, self.lines = super().screen(columns, rows), lines
-        shown.lines[-1] = Line("Enter goes to before that step, and > comes back; Escape closes this page", HEAD).fit(columns)
+        shown.lines[-1] = MarkedLine("Enter goes to before that step, and > comes back; Escape closes this page", HEAD).fit(columns)
         return Screen(shown.lines, (1 + self.at - self.first, 0))
