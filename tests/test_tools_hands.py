@@ -22,12 +22,9 @@ class Hands(Case):
     def setUp(self):
         self.environment = {**os.environ, "PP6600": program()}
 
-    def words(self, words):
-        return [self.path("film.html") if word == "FILM" else word for word in words]
-
     def check(self, name, words, text, status=2, script=None):
         """Checks that a tool says one line with one of some texts, and its status."""
-        got = tool(name, *self.words(words), script=GIVEN.get(name, STEP) if script is None else script)
+        got = tool(name, *words, script=GIVEN.get(name, STEP) if script is None else script)
         with self.subTest(name, words=words):
             self.assert_one_line(name, text, got.err)
             self.assertEqual(status, got.status)
@@ -41,7 +38,6 @@ class Hands(Case):
         for name, words in {**WITH_SIMULATOR, **WITHOUT}.items():
             for more, text in (*WORDS, *(OPTIONS if name in WITH_SIMULATOR else ())):
                 self.check(name, [*words, *more], text)
-        self.assertFalse(os.path.exists(self.path("film.html")), "no film is left")
 
     def test_full_output(self):
         os.symlink("/dev/full", self.path("full"))
