@@ -1,11 +1,11 @@
 -- Recordings of actions, one after another.
-use Rattle.std.proofs.Common.{◌≡◌, ◌∙◌, ◌+◌, ◌<◌, ◌≤◌, ℕ, zero, suc, List, [], ◌∷◌, ◌++◌, add-one, ap, append-nil, append_assoc, arith, drop, drop-cons, get_or, length, map, refl, replicate, sym, take}
+use Rattle.std.proofs.Common.{◌≡◌, ◌∙◌, ◌+◌, ◌<◌, ◌≤◌, ℕ, zero, suc, List, [], ◌∷◌, ◌++◌, add-one, ap, append-nil, append_assoc, arith, drop, drop-cons, get_or, length, refl, replicate, sym, take}
 use Rattle.std.proofs.lemmas.List.{length-append, length-take-le, take_more}
 use Rattle.pp_actions.specs.declared.action.Action.{Action}
 use Rattle.pp_actions.specs.declared.action.Action.TheVariants.{Turn}
 use Rattle.pp_history.proofs.Steps.{after_steps-more}
 use Rattle.pp_history.specs.SessionLaws.{machine_at}
-use Rattle.pp_history.specs.SessionValue.{IsAt, Moves, SessionValue, after_forward, performed, replay}
+use Rattle.pp_history.specs.SessionValue.{AreNewest, IsAt, Moves, SessionValue, after_forward, performed, replay}
 use Rattle.pp_machine.specs.Machine.{Machine}
 use Rattle.pp_machine.specs.Olds.{numbered}
 use Rattle.pp_machine.specs.Prelude.{Writes}
@@ -29,6 +29,11 @@ pub put_count : (olds : List Old) (front : List Old) (used end : ℕ) (pairs : W
     take end olds ≡ front ++ numbered pairs → length front ≡ used → end ≡ used + length pairs
 put_count olds front used end pairs within is count =
     omega (arith, length-take-le end olds within, ap length is, length-append front (numbered pairs), length-numbered pairs, count)
+
+-- the old values of the newest action
+pub newest_pairs : (start : Machine) (standing earlier : List Action) (action : Action) (pairs : Writes Place) →
+    AreNewest rules start standing pairs → standing ≡ action ∷ earlier → pairs ≡ old_values_of (replay rules start earlier) action
+newest_pairs start standing earlier action pairs newest same = rw same at newest
 
 -- one more action
 pub moments_last : (s : Machine) (actions : List Action) (last : Action) →

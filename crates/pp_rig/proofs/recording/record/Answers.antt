@@ -1,4 +1,4 @@
-use Rattle.std.proofs.Common.{◌≡◌, ◌∙◌, ◌+◌, ◌<◌, ◌++◌, ap, arith, length, refl, replicate, rules, sym, take}
+use Rattle.std.proofs.Common.{◌≡◌, ◌∙◌, ◌<◌, ◌++◌, ap, length, refl, replicate, rules}
 use Rattle.std.proofs.lemmas.List.{take_more_set}
 use Rattle.pp_actions.specs.declared.action.Action.TheVariants.{Turn}
 use Rattle.pp_rig.proofs.Recordings.{moments_more, olds_more}

@@ -2,7 +2,7 @@ use Rattle.std.proofs.Common.{◌≡◌, ◌∙◌, ◌+◌, ◌-◌, ◌≤◌,
 use Rattle.std.proofs.lemmas.List.{length-take-le}
 use Rattle.pp_history.specs.SessionValue.{replay}
 use Rattle.pp_machine.specs.Olds.{numbered}
-use Rattle.pp_rig.proofs.Recordings.{put_count}
+use Rattle.pp_rig.proofs.Recordings.{newest_pairs, put_count}
 use Rattle.pp_rig.specs.Inner.ActionRecords.{old_values_of}
 use Rattle.pp_rig.specs.Rules.{rules}
 use Rattle.pp_rig.proofs.recording.record_newest.Goals as goal
@@ -28,7 +28,7 @@ returns-clause-olds c = λ v action earlier at same.
     omega (arith, c.in-Some.ensures.at_most, c.requires.room, c.put_newest_old_values.auto.olds) in
     let end = put_count c.put_newest_old_values.new.olds (take c.args.used c.args.olds.now) c.args.used c.in-Some.end pairs within olds
     (length-take-le c.args.used c.args.olds.now room) in
-    let are : pairs ≡ old_values_of (replay rules v.start earlier) action = rw same at newest in
+    let are : pairs ≡ old_values_of (replay rules v.start earlier) action = newest_pairs v.start v.standing earlier action pairs newest same in
     let count : c.in-Some.end - c.args.used ≡ length pairs = omega (arith, end) in
     let here : c.args.used + (c.in-Some.end - c.args.used) ≡ c.in-Some.end = omega (arith, end) in
     (count ∙ ap length are, rw here (olds ∙ ap (λ pairs. take c.args.used c.args.olds.now ++ numbered pairs) are))

@@ -12,20 +12,18 @@ const numberWith = (kind, ...indices) => number(placeWith(kind, ...indices));
 // A text in which a word after @ is the name of a number.
 const withNumbers = (text) => text.split(" ").map((word) => [word[0] === "@" ? number(placeNamed(word.slice(1))) : word, " "]);
 
+// A cell with an instruction; what it does is said to who points at it.
+const instructionCell = (text) => cell("", text, { title: meaningOf(text.slice(0, 3)) });
 const heading = (text, more = {}) => cell("name", text, more);
 
 // ---- processors and channels
 
-const PROCESSOR_HEADS = ["", "", "P", "at P", "instruction", "A", "Q", "phase", "waits for"];
-
 function processorRow(n) {
-  const p = numberOf("P", n), next = nextOf(n), isNext = numberOf("SLOT") === n;
-  const words = [p, ...(next.second ? [(p + 1) % CELLS] : [])].map((at) => numberWith("M", n, at));
-  const [a, q, phase] = ["A", "Q", "PHASE"].map((kind) => numberWith(kind, n)), name = next.block ? `${next.name} in its block` : next.name;
-  const parts = [isNext ? ">" : "", `PP ${two(n)}`, numberWith("P", n), words, name, a, q, phase, next.waits];
-  const more = { 1: { onclick: () => chooseMemory(n) }, 4: { title: meaningOf(name.slice(0, 3)) } };
-  const cells = parts.map((part, at) => cell(at === 1 ? "name" : "", part, { "data-head": PROCESSOR_HEADS[at], ...more[at] }));
-  return row(classes({ next: isNext, acted: hasTurn(n), chosen: n === memory.processor }), ...cells);
+  const p = numberOf("P", n), next = nextOf(n), is = { next: numberOf("SLOT") === n, acted: hasTurn(n), chosen: n === memory.processor };
+  const words = (next.second ? [p, (p + 1) % CELLS] : [p]).map((at) => numberWith("M", n, at));
+  const name = instructionCell(next.block ? `${next.name} in its block` : next.name);
+  return row(classes(is), is.next ? ">" : "", heading(`PP ${two(n)}`, { onclick: () => chooseMemory(n) }), numberWith("P", n), words, name,
+    ...["A", "Q", "PHASE"].map((kind) => numberWith(kind, n)), next.waits);
 }
 
 const hasTurn = (n) => isTurn(film.at) && film.processor[film.at] === n; // whether this moment is a turn of it
@@ -82,7 +80,7 @@ function showMemory() {
 }
 
 function showCells(n, marked) {
-  fillTable(tableOf("cells"), ["", ..."01234567", "display code"], range(MEMORY_ROWS).map((at) => {
+  fillRows("cells", range(MEMORY_ROWS).map((at) => {
     const all = range(8).map((one) => (memory.first + 8 * at + one) % CELLS), text = all.map((address) => displayCode(cellOf(n, address)));
     return row("", heading(four(all[0])), ...all.map(marked), cell("text", text.join("")));
   }));
@@ -93,10 +91,11 @@ function showProgram(n, p, marked) {
   const { address, back } = nextOf(n).block || { address: p, back: null }, isText = memory.as === "text";
   const rows = programWindow(n, memory.top, memory.from === "P" ? address ?? p : memory.at, MEMORY_ROWS, [p, address, back]);
   memory.top = rows[0].address;
-  fillTable(tableOf("program"), ["", "", "words", "instruction", "", isText ? "display code" : ""], rows.map(({ address: at, words }) => {
-    const name = wordsText(at, words), numbers = words.map((_, one) => marked((at + one) % CELLS)), title = meaningOf(name.slice(0, 3));
+  fill(document.querySelector("#program th:last-child"), isText ? "display code" : "");
+  fillRows("program", rows.map(({ address: at, words }) => {
+    const numbers = words.map((_, one) => marked((at + one) % CELLS));
     const texts = [textOfListing(n, at, words[0]) || addressName(n, at), isText ? words.map(displayCode).join("") : ""];
-    return row("", at === p ? ">" : at === back ? "r" : "", breakpoint(n, at, four(at)), numbers, cell("", name, { title }),
+    return row("", at === p ? ">" : at === back ? "r" : "", breakpoint(n, at, four(at)), numbers, instructionCell(wordsText(at, words)),
       ...texts.map((text) => cell("text", text)));
   }));
 }
@@ -113,9 +112,9 @@ function showCentralWord(address, always) {
 function showWords() {
   const words = range(CENTRAL_ROWS).map((at) => central.first + at), half = FRAME_WORDS / 2;
   setField("central-at", octal(central.first, 6));
-  fillTable(tableOf("central"), [], words.map((at) => row("", heading(octal(at, 6)), numberWith("C", at))));
+  fillRows("central", words.map((at) => row("", heading(octal(at, 6)), numberWith("C", at))));
   const frameRow = (at) => row("", ...[at, at + half].flatMap((word) => [heading(two(word)), numberWith("XP", word)]));
-  fillTable(tableOf("frame"), [], range(half).map(frameRow));
+  fillRows("frame", range(half).map(frameRow));
 }
 
 // Shows the parts of the machine that the moments from a first one on use, of those that not every run uses; with 0 the film is another one.
