@@ -7,7 +7,7 @@ A block begins with == and what it shows. Its other lines:
   NAME| TEXT          a line of a file; those before the first block are for all. <NAME at a film has its lines in the script
   > LINE              one more line of the script
   $ film ..           a film with these options of the tool is opened, at the #address if there is one
-  $ shown NAME        one of docs/films
+  $ shown NAME        one of docs/films; $ class is the page of a class
 Each line from here on is one step or several, with -> between them:
   : KEYS              keys that are pressed: characters, and names in angles
   click SELECTOR      the mouse; click-at LOOK clicks where a look says
@@ -27,15 +27,16 @@ import time
 from tests.cases import encoded, part, text_of
 from tests.films import PageCase, shown_film
 from tests.panels import keys_in
-from tests.support import TOP, write
+from tests.support import TOP, run, write
 
 PATIENCE = 120  # seconds for what a page comes to show
 LINE = re.compile(r"(?:let|do) |== |\$ |> ?|[\w. ]+\| ?|")
 DEFINED = re.compile(r"(let|do) ([\w-]+)(?: X)? = (.*)")
 CHECK = re.compile(r"(?P<name>[\w-]+)(?: (?P<argument>.*?))?? (?P<relation>=|~|>|is)(?: (?P<wanted>.*))?")
-OPENED = re.compile(r"(film|shown)(.*?)(?: (#\S+))?")
+OPENED = re.compile(r"(film|shown|class)(.*?)(?: (#\S+))?")
 RELATIONS = {"=": lambda shown, wanted: shown == wanted, "~": lambda shown, wanted: wanted in shown,
              ">": lambda shown, wanted: int(shown) > int(wanted)}
+CONTROLS = ("button", "combobox", "textbox", "slider", "checkbox", "searchbox", "spinbutton")
 HELPERS = r"""const octal = (n) => n.toString(8), textOf = (one) => one.innerText ?? one.textContent;
 const seenOf = (one, between) => [...one.childNodes].filter((part) => !part.hidden).map((part) => part.textContent).join(between);
 const shownOf = (it) => Array.isArray(it) ? it.map(shownOf).join(" | ") : it === true ? "yes" : it === false ? "no"
@@ -91,10 +92,14 @@ class BlockCase(PageCase):
         words = shlex.split(words)
         if kind == "shown":
             self.page = shown_film(words[0])
+        elif kind == "class":
+            self.page = self.path("class.html")
+            self.assertEqual(0, run("exercises/hand-out", self.page).status)
         else:
-            begun = "".join(self.files[f"{word[1:]}|"] for word in words if word[0] == "<")
+            named = [word for word in words if word[0] == "<" and f"{word[1:]}|" in self.files]
+            begun = "".join(self.files[f"{word[1:]}|"] for word in named)
             self.script = encoded(begun + self.script).decode("latin-1")
-            self.page = self.film(*(word for word in words if word[0] != "<"), script=self.script, status=None, folder=self.folder)
+            self.page = self.film(*(word for word in words if word not in named), script=self.script, status=None, folder=self.folder)
         self.browser.open(self.page, address or "")
 
     def perform(self, step):
@@ -119,6 +124,11 @@ class BlockCase(PageCase):
         if name == "sheets":
             self.browser.paper(self.path("paper.pdf"))
             return str(len(re.findall(rb"/Type /Page\b(?!s)", part(self.folder, "paper.pdf"))))
+        if name == "controls-without-a-name":
+            nodes = [node for node in self.browser.ask("Accessibility.getFullAXTree")["nodes"] if not node["ignored"]]
+            controls = [node for node in nodes if node["role"]["value"] in CONTROLS]
+            self.assertGreater(len(controls), 100)
+            return "".join(map(str, (node for node in controls if not node.get("name", {}).get("value", "").strip())))
         try:
             return self.evaluate(f"shownOf(await ({DEFINED_NAMES[name][1]}))", argument)
         except RuntimeError as fault:  # as long as what is looked at is not there

@@ -14,7 +14,7 @@ FAILS = "SET M 0 100 7711 1 7711 2 300\nSET P 0 100\nSTEP\n"
 # Each tool with words that are right, and what those without a simulator read.
 WITH_SIMULATOR = {"changes": ["M", "0", "106"], "origin": ["M", "0", "106"], "save": ["0", "0", "1"],
                   "compare": ["--other-panel", "examples/dead-start/panel"], "show": [], "state": [], "talk": [], "trace": [],
-                  "until": ["P", "0", "=", "1"], "waits": [], "film": ["-o", "FILM"]}  # FILM is a file in the room of the test
+                  "until": ["P", "0", "=", "1"], "waits": [], "film": ["-o", os.devnull]}
 WITHOUT = {"assemble": [], "deck": [], "disassemble": [], "load": ["0", "100"], "symbols": [], "words": ["--dump", "0"]}
 GIVEN = {"assemble": "  LDN 5\n", "deck": "HELLO.\n", "disassemble": "0100 1405\n", "load": "1405\n", "symbols": "A 5\n", "words": "0100 1405\n"}
 # By the tables of docs/MACHINE.md: in which states of its channel each instruction completes, and each block goes on or ends, and

@@ -13,10 +13,10 @@ from pp6600.front.keys import ROWS
 
 
 class Blocks(BlockCase):
-    """The blocks of tests/film.txt."""
+    """Every other block of tests/film.txt. tests/test_film_session.py has the others, in a browser of its own."""
 
 
-add_tests(Blocks, Blocks.check, BLOCKS)
+add_tests(Blocks, Blocks.check, BLOCKS[::2])
 
 
 class Tables(PageCase):

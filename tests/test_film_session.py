@@ -5,8 +5,9 @@ import json
 import os
 import random
 
+from tests.film_blocks import BLOCKS, BlockCase
 from tests.films import DEVICES, PageCase, about, random_session, shown_film
-from tests.support import TOP, program, read, run, tool, write
+from tests.support import TOP, add_tests, program, read, run, tool, write
 
 from pp6600 import Console
 from pp6600.devices.pictures import svg
@@ -19,6 +20,13 @@ QUESTIONS = [*(f"DUMP PP {n:o}" for n in range(10)), "DUMP M 0 0 77", "DUMP H", 
 # In the page: of each line of the origin of a place at the end of the film the place and number, and the turn.
 PAGE_LINES = """(([name]) => { const rows = linesOfOrigin(originOf(writtenPlace(placeNamed(name)), film.count - 1));
   return rows.map(({ step, text }) => [text.split(":")[0], step.moment > 0 ? film.turn[step.moment] : 0]); })"""
+
+
+class Blocks(BlockCase):
+    """Every other block of tests/film.txt."""
+
+
+add_tests(Blocks, Blocks.check, BLOCKS[1::2])
 
 
 class SessionCase(PageCase):

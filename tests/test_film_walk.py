@@ -11,7 +11,7 @@ from typing import NamedTuple, Optional
 
 from tests.films import DEVICES, PageCase, moments_of, random_session, text_of
 from tests.fixtures import wait_text
-from tests.support import TOP, program
+from tests.support import TOP, program, read
 
 from pp6600 import Console
 from pp6600.run.sentences import sentence
@@ -30,67 +30,9 @@ WALKED = (
 NO_CHANNEL = ("SET M 0 7776 7377 7120", "SET P 0 7776", "STEP 64", "SET M 1 0 7417 7615", "STEP 64", "BACK 100", "FORWARD 3")
 CLOCK_IS_READ = ("SET M 0 100 7014 3420 300", "SET P 0 100", "STEP 40")  # IAN 14, STD 20, UJN 0
 
-# In the page: what is shown, as the dumps have it.
-STATE = """(processor, first) => {
-  showCell(processor, first, true);
-  const number = (name) => document.querySelector(`button.number[data-place="${name}"]`).textContent;
-  const two = (n) => n.toString(8).padStart(2, "0");
-  const range = (count) => [...Array(count).keys()];
-  const text = (selector) => document.querySelector(selector).textContent.replace(/ +/g, " ").trim();
-  const rows = [...document.querySelectorAll("#processors tbody tr")];
-  const slot = two(rows.findIndex((row) => row.cells[0].textContent === ">"));
-  const paper = document.querySelector("#printer .paper").textContent.split("\\n");
-  const rest = paper.pop();
-  return {
-    processors: range(10).map((n) => `PP ${two(n)} P ${number(`P ${two(n)}`)} A ${number(`A ${two(n)}`)} Q ${number(`Q ${two(n)}`)}`
-      + ` PHASE ${number(`PHASE ${two(n)}`)} SLOT ${slot}`),
-    waits: rows.map((row) => row.cells[8].textContent),
-    sentences: range(10).map(sentenceOf),
-    at_p: rows.map((row) => row.cells[3].querySelector("button").textContent),
-    channels: [...range(12).map((c) => `H ${two(c)} ${number(`STATE ${two(c)}`)} ${number(`H ${two(c)}`)}`), `H 14 F ${number("H 14")}`],
-    frame: range(16).map((i) => `XP ${two(i)} ${number(`XP ${two(i)}`)}`),
-    reader: [`CR ${text("#reader .device")}`],
-    printer: [`LP ${text("#printer .device")}`, ...paper.map((line) => `|${line}`), ...(rest ? [`/${rest}`] : [])],
-    watches: text("#watches .list") === "NONE" ? ["W NONE"]
-      : [...document.querySelectorAll("#watches .list div")].map((line) => `W ${line.firstChild.textContent.trim()}`),
-    window: [...document.querySelectorAll("#cells tbody button")].map((button) => button.textContent),
-    cells: [...film.numbers.subarray(0, 40960)].flatMap((word, at) => (word ? [[at, word]] : [])),
-    central: range(layout.size)
-      .filter((address) => [layout.central + address, upperOf(layout.central + address)].some((at) => film.numbers[at]))
-      .map((address) => [address, textAt(placeNamed(`C ${address.toString(8)}`))]),
-  };
-}"""
-
-# In the page: the turns of which it says that they wait, and that did not; or the other way round.
-WAITED_WRONGLY = """() => {
-  const wrong = [];
-  for (let at = 1; at < film.count; at++) {
-    if (!isTurn(at)) continue;
-    goTo(at - 1);
-    if ((nextOf(film.processor[at]).waits !== "") !== (film.kinds[at] === WAITING)) wrong.push(at);
-  }
-  return wrong;
-}"""
-
-
-# In the page: the picture of the barrel.
-PICTURE = """(() => {
-  const all = (selector) => [...document.querySelectorAll(`#barrel-picture ${selector}`)];
-  const texts = (one) => [...one.querySelectorAll("text")].map((text) => text.textContent);
-  return {
-    circles: all("g.processor").map(texts),
-    acted: all("g.processor").flatMap((one, n) => (one.classList.contains("acted") ? [n] : [])),
-    slot: all(".slot").map((one) => Number(one.dataset.processor)),
-    channels: all("g.channel").map((one) => [Number(one.dataset.channel), ...texts(one).slice(0, 2)]),
-    waits: all("path.waits").map((one) => one.dataset.waits),
-    word: all("g.word").map((one) => [Number(one.dataset.channel), ...texts(one)]),
-    middle: all("text.middle").map((one) => one.textContent),
-  };
-})()"""
-
 
 class Moment(NamedTuple):
-    """A moment: the state before it and after it, the processor whose turn it was, or None, and the dumps after it as STATE has them."""
+    """A moment: the state before it and after it, the processor whose turn it was, or None, and the dumps after it as tests/film_walk.js has them."""
     before: State
     after: State
     number: Optional[int]
@@ -166,8 +108,9 @@ class Walk(PageCase):
         windows = {moment: (choose.randrange(10), choose.choice((0, 0o60, 0o100, 0o7770))) for moment in chosen}
         moments = dict(self.moments(words, lines, windows, total))
         self.browser.open(self.film(*options, script="".join(f"{line}\n" for line in lines), status=int(is_refused)))
+        self.value(f"{read('tests', 'film_walk.js')}\n0")
         self.assertEqual(total, self.value("film.count"), "how many moments")
-        self.assertEqual([], self.value(f"({WAITED_WRONGLY})()"), "turns that wait")
+        self.assertEqual([], self.value("waitedWrongly()"), "turns that wait")
         order = list(moments)
         choose.shuffle(order)
         return sum(self.compare(choose, at, moments[at], windows[at], total) for at in order)
@@ -186,7 +129,7 @@ class Walk(PageCase):
     def compare(self, choose, at, moment, window, total):
         """Goes to a moment, and compares what the page shows. Returns how many words move in its picture."""
         self.go(choose, at, total)
-        got, picture = self.value(f"[({STATE})({window[0]}, {window[1]}), {PICTURE}]")
+        got, picture = self.value(f"[stateOf({window[0]}, {window[1]}), pictureOf()]")
         self.assertEqual(at, self.value("film.at"))
         if at < total - 1:
             got["central"] = [word for word in got["central"] if word[0] <= 0o777]

@@ -3,7 +3,6 @@
 import os
 import re
 import signal
-import subprocess
 import sys
 
 from tests.cases import stored
@@ -165,33 +164,6 @@ class Keys(TerminalCase):
         self.assert_shows(terminal, "AHEAD 310 ")
         terminal.type("qq")
         self.assertEqual(0, terminal.status())
-
-
-class Failures(TerminalCase):
-    """One line and status 2."""
-
-    def test_one_line(self):
-        without = os.path.dirname(self.file("raise ImportError\n", "curses.py"))
-        for words, environment, wanted in (
-                ([], {"TERM": "dumb"}, "a terminal of the kind dumb can't show a screen"),
-                ([], {"TERM": "no-such"}, "a terminal of the kind no-such can't show a screen"),
-                ([], {"TERM": ""}, "a terminal of the kind (TERM is not set) can't show a screen"),
-                (["no-such-file"], {}, "panel: can't read no-such-file"), (["--deck", "no-such-file"], {}, "CANNOT OPEN DECK"),
-                (["one", "two"], {}, "give one script"), (["--program", "/bin/cat"], {}, "not the simulator"),
-                ([], {"PYTHONPATH": without}, "no module curses")):
-            words = words if "--program" in words else ["--program", PROGRAM, *words]
-            with self.subTest(wanted):
-                terminal = self.terminal([*TOOL, *words], environment=environment, columns=200)
-                self.assertEqual(2, terminal.status())
-                lines = terminal.lines()
-                self.assertTrue(len(lines) == 1 and wanted in lines[0], lines)
-
-    def test_no_terminal(self):
-        for given in b"", None:
-            with self.subTest(given):
-                done = subprocess.run(TOOL, input=given, capture_output=True, check=False)
-                self.assertEqual(2, done.returncode)
-                self.assertIn(b"must be a terminal", done.stderr)
 
 
 class Talk(TerminalCase):

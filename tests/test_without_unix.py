@@ -20,16 +20,13 @@ def outcome(words, **how):
 
 
 class Tools(Case):
-    def words(self, words):
-        return [self.path("film.html") if word == "FILM" else word for word in words]
-
     def test_each_is_here(self):
         self.assertEqual(sorted([*WITH_SIMULATOR, *WITHOUT, "debug-adapter", "panel"]), TOOLS)
 
     def test_with_simulator(self):
         for name, words in WITH_SIMULATOR.items():
             with self.subTest(name):
-                words = self.words([*words, *LOADER])
+                words = [*words, *LOADER]
                 wanted, got = tool(name, *words), outcome([f"tools/{name}", *words])
                 self.assertEqual((wanted.out, NO_LIBRARY + wanted.err, wanted.status), got)
                 self.assertNotEqual(2, got.status, got.err)
