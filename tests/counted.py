@@ -4,7 +4,7 @@ import collections
 
 from tests import support as _  # it finds the package
 
-from pp6600.engine.plain.console import FORMS, Console
+from pp6600.engine.plain.lines import FORMS, PlainConsole
 from pp6600.engine.plain.machine import Machine
 from pp6600.engine.plain.program import console_of
 
@@ -19,7 +19,7 @@ class CountedMachine(Machine):
         return writes
 
 
-class CountedConsole(Console):
+class CountedConsole(PlainConsole):
     def answer(self, line):
         answer = super().answer(line)
         if answer and answer[0].startswith("ERR"):

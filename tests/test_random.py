@@ -17,7 +17,7 @@ from tests.counted import counted, seen
 from tests.generator import WORDS, Maker, Session, commands, word_line
 from tests.support import Case, program
 
-from pp6600.engine.plain.console import FORMS
+from pp6600.engine.plain.lines import FORMS
 from pp6600.engine.plain.instructions import INSTRUCTIONS
 from pp6600.engine.plain.program import run as run_python
 
