@@ -119,7 +119,7 @@ impl Pass {
     /// Puts words into the cells from here on. Of lines that follow one another only the first is reported if they can't be.
     pub fn put(&mut self, here: &Here, first: usize, count: usize) -> Result<(), Stop> {
         if self.made > MOST_WORDS {
-            return Err(Stop::Ends(0, Fault::new("more than 100000 (decimal) words")));
+            return Err(Stop::too_much("more than 100000 (decimal) words"));
         }
         self.row(here, first, true)?;
         let size = i64::try_from(count).unwrap_or(0);

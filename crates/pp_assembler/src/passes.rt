@@ -22,15 +22,15 @@ pub fn assemble(alloc: Global, source: &[u8]) -> Result<Assembly, AllocError>
     ensures warnings { IfOk result (λ made. All (IsOfLine (line_lengths source.now)) made.warnings.items) }
 {
     let spans = cut_lines(alloc, source)?;
-    let lines = read_lines(alloc, source, &spans)?;
+    let mut lines = read_lines(alloc, source, &spans)?;
     let mut first = Pass::new(alloc, Symbols::new(alloc), false)?;
-    if let Err(ending) = first.run(&lines) {
+    if let Err(ending) = first.run(&mut lines) {
         return ended(alloc, lines, first, &spans, ending);
     }
     let Pass { mut symbols, .. } = first;
     symbols.begin_pass();
     let mut last = Pass::new(alloc, symbols, true)?;
-    if let Err(ending) = last.run(&lines) {
+    if let Err(ending) = last.run(&mut lines) {
         return ended(alloc, lines, last, &spans, ending);
     }
     assembly_of(alloc, lines, last, &spans)
@@ -68,6 +68,7 @@ fn assembly_of(
 {
     let Pass {
         symbols,
+        vocabulary,
         cells,
         words,
         rows,
@@ -83,6 +84,7 @@ fn assembly_of(
         program,
         lines,
         symbols,
+        vocabulary,
         words,
         rows,
         messages,

@@ -6,6 +6,7 @@ use crate::lines::Lines;
 use crate::message::Message;
 use crate::pass::Row;
 use crate::symbols::Symbols;
+use crate::vocabulary::Vocabulary;
 
 /// A word that a source puts into a cell of the memory.
 #[derive(Clone, Copy, Debug, PartialEq, Eq)]
@@ -64,6 +65,7 @@ pub struct Assembly {
     /// The lines, each with those that continue it.
     pub lines: Lines,
     pub symbols: Symbols,
+    pub vocabulary: Vocabulary,
     /// The words of the rows.
     pub words: Vec<u16>,
     pub rows: Vec<Row>,

@@ -198,6 +198,12 @@ impl Symbols {
         Ok(())
     }
 
+    /// Returns what a name stands for by a line above.
+    pub fn seen(&self, name: &[u8]) -> Option<Definition> {
+        let name = name.strip_prefix(b"//").unwrap_or(name);
+        self.all.get(self.index_of(name_of(name)?)?)?.seen
+    }
+
     /// Returns what a name stands for. Only a name of a line above counts if that is asked, and of SET in any case. In the first pass
     /// a name may stand for nothing yet.
     pub fn look_up(&self, text: &[u8], at: Place, is_last: bool) -> Result<Definition, Stop> {
