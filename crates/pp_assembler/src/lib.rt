@@ -27,6 +27,7 @@ mod symbols;
 #[cfg(test)]
 mod tests;
 mod texts;
+mod units;
 mod values;
 mod wording;
 
@@ -40,4 +41,5 @@ pub use passes::assemble;
 pub use program::{Assembly, Cell, Program};
 pub use source_text::write_source;
 pub use statement::{Kind, Name, Operand, Operation, Statement};
+pub use units::Unit;
 pub use wording::message_text;

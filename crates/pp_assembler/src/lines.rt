@@ -23,6 +23,13 @@ pub struct Span {
     pub end: usize,
 }
 
+impl Span {
+    /// Returns the bytes, of all.
+    pub fn of(self, all: &[u8]) -> &[u8] {
+        all.get(self.first..self.end).unwrap_or(b"")
+    }
+}
+
 /// The column, from 0, at which a line begins that continues another one, and its number.
 #[derive(Clone, Copy)]
 pub struct Join {

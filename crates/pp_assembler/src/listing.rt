@@ -15,6 +15,8 @@ const LOAD: usize = 5;
 const WORDS: usize = 11;
 
 const TAB: usize = 8;
+/// What is instead of a line of the source.
+const LITERAL: &[u8; 17] = b"*         LITERAL";
 
 /// Returns the lines of the listing for a row, each with a line feed. If code is assembled for another place, its address there comes
 /// first, and then > with that to which it is loaded.
@@ -26,9 +28,11 @@ pub fn listing_lines(alloc: Global, assembly: &Assembly, row: &Row) -> Result<Ve
     let words = assembly.words.get(row.first..row.end).unwrap_or(&[]);
     put_address(alloc, &mut out, row, 0)?;
     put_value_or_words(alloc, &mut out, row, words)?;
-    if let Some(line) = assembly.lines.all.get(row.statement) {
-        put_text(&mut out, assembly.lines.text_of(*line))?;
-    }
+    let text = match assembly.lines.all.get(row.statement) {
+        Some(line) => assembly.lines.text_of(*line),
+        None => LITERAL,
+    };
+    put_text(&mut out, text)?;
     end_line(&mut out, 0)?;
     for part in 1..words.len().div_ceil(WORDS_OF_LINE) {
         let first = part.saturating_mul(WORDS_OF_LINE);

@@ -1,4 +1,5 @@
 //! What is wrong in a source.
+use crate::lines::Span;
 use std::alloc::{AllocError, AllocFailed};
 
 /// A part of a line: its first column, from 0, and the column after its last one.
@@ -45,18 +46,20 @@ pub enum Argument {
     NearestOperation(Field),
     /// The instruction that takes a greater operand than that with this code, if there is one.
     Wider(Field, u8),
+    /// A name that the symbols keep.
+    Kept(Span),
     /// What reaches the target of the relative jump with this code.
     Reaching(Field, u8),
 }
-
-/// How many arguments a fault has.
-pub const ARGUMENTS: usize = 4;
 
 /// What is wrong: a text, and what stands in it in place of each `{}`.
 #[derive(Clone, Copy)]
 pub struct Fault {
     pub text: &'static str,
-    pub arguments: [Argument; ARGUMENTS],
+    pub first: Argument,
+    pub second: Argument,
+    pub third: Argument,
+    pub fourth: Argument,
 }
 
 impl Fault {
@@ -64,20 +67,23 @@ impl Fault {
     pub fn new(text: &'static str) -> Self {
         Fault {
             text,
-            arguments: [Argument::Nothing; ARGUMENTS],
+            first: Argument::Nothing,
+            second: Argument::Nothing,
+            third: Argument::Nothing,
+            fourth: Argument::Nothing,
         }
     }
 
     /// Returns the fault with one more argument, after those that it has.
     pub fn with(self, argument: Argument) -> Self {
-        let mut arguments = self.arguments;
-        for place in &mut arguments {
-            if matches!(*place, Argument::Nothing) {
-                *place = argument;
-                break;
-            }
+        let mut fault = self;
+        match (self.first, self.second, self.third) {
+            (Argument::Nothing, ..) => fault.first = argument,
+            (_, Argument::Nothing, _) => fault.second = argument,
+            (_, _, Argument::Nothing) => fault.third = argument,
+            _ => fault.fourth = argument,
         }
-        Fault { arguments, ..self }
+        fault
     }
 
     pub fn part(self, part: Field) -> Self {

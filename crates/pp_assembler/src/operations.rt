@@ -2,7 +2,8 @@
 use crate::instructions::code_of;
 use Operation::{
     Base, Bits, Block, Data, Deck, End, Equate, Error, Expressions, Greatest, Ignored, Inside,
-    Least, Lines, Location, NotYet, Origin, Refused, Set, Shortest, Space, Subroutine, Zeros,
+    Least, Lines, Literals, Location, NotYet, Origin, Qualifier, Refused, Set, Shortest, Space,
+    Subroutine, Use, Zeros,
 };
 
 /// What a name in the operation field is.
@@ -34,6 +35,9 @@ pub enum Operation {
     /// What makes no words here.
     Ignored,
     Subroutine,
+    Use,
+    Qualifier,
+    Literals,
     /// A directive that is not known yet.
     NotYet,
     /// What begins a block, and is not known yet.
@@ -61,7 +65,7 @@ pub enum Test {
 const NO_SUCH_INSTRUCTION: &str = "the 6600 has no such instruction";
 
 /// The operations that are no instructions, each with its names.
-pub static OPERATIONS: [(&str, Operation); 44] = [
+pub static OPERATIONS: [(&str, Operation); 46] = [
     ("CON", Expressions),
     ("DATA", Data),
     ("VFD", Bits),
@@ -90,7 +94,9 @@ pub static OPERATIONS: [(&str, Operation); 44] = [
         "ABS SST ENTRY TITLE TTL SPACE EJECT LIST NOREF XREF COMMENT CTEXT ENDX NOLABEL NIL",
         Ignored,
     ),
-    ("USE QUAL LIT", NotYet),
+    ("USE", Use),
+    ("QUAL", Qualifier),
+    ("LIT", Literals),
     ("MICRO DECMIC OCTMIC MICCNT", NotYet),
     (
         "IF IFC IFEQ IFNE IFGT IFGE IFLT IFLE IFPL IFMI IFPP IFCP SKIP",

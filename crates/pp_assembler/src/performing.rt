@@ -1,4 +1,5 @@
 //! The statements of a source, performed one after another.
+use crate::directives::the_only;
 use crate::fields::Statement;
 use crate::lines::{Content, Lines, MOST_MADE};
 use crate::message::{Argument, Fault, Field, Stop};
@@ -46,7 +47,20 @@ impl Pass {
                 },
             }
         }
-        Ok(())
+        if self.has_ended {
+            return Ok(());
+        }
+        let last = lines.all.len().wrapping_sub(1);
+        let Some(line) = lines.all.get(last).copied() else {
+            return Ok(());
+        };
+        let here = Here {
+            index: last,
+            line,
+            text: lines.capitals_of(line),
+            joins: lines.joins_of(line),
+        };
+        self.end_unit(&here).map_err(|_| Ending::NoMemory)
     }
 
     /// Performs a line.
@@ -97,6 +111,9 @@ impl Pass {
             Operation::End => self.end(here, statement),
             Operation::Origin => self.set_origin(here, statement),
             Operation::Location => self.set_location(here, statement),
+            Operation::Use => self.set_block(here, statement),
+            Operation::Qualifier => self.set_qualifier(here, statement),
+            Operation::Literals => self.literals(here, statement),
             Operation::Subroutine => self.subroutine(here, statement),
             Operation::NotYet | Operation::Block | Operation::Lines => {
                 Err(Stop::not_yet(statement.operation))
@@ -119,12 +136,27 @@ impl Pass {
             Operation::None => self.plain_row(here, true),
             Operation::Instruction(code) => self.instruction(here, statement, code),
             Operation::Shortest { .. } => self.shortest(here, statement, operation),
+            Operation::Space => self.space(here, statement),
+            _ => {
+                let words = self.words_made(here, statement, operation)?;
+                self.put(here, &words)
+            }
+        }
+    }
+
+    /// Returns the words of a directive that makes some.
+    fn words_made(
+        &mut self,
+        here: &Here,
+        statement: Statement,
+        operation: Operation,
+    ) -> Result<Vec<u16>, Stop> {
+        match operation {
             Operation::Expressions => self.expressions(here, statement),
-            Operation::Data => self.numbers_and_texts(here, statement),
+            Operation::Data => self.data(here, statement),
             Operation::Bits => self.bits(here, statement),
             Operation::Text => self.text(here, statement),
-            Operation::Zeros => self.zeros(here, statement),
-            Operation::Space => self.space(here, statement),
+            Operation::Zeros => self.zeros(here, the_only(here, statement)?),
             _ => Err(self.why_not(here, statement, operation)),
         }
     }

@@ -6,6 +6,7 @@ use crate::lines::Lines;
 use crate::message::Message;
 use crate::pass::Row;
 use crate::symbols::Symbols;
+use crate::units::Unit;
 
 /// A word that a source puts into a cell of the memory.
 #[derive(Clone, Copy, Debug, PartialEq, Eq)]
@@ -61,6 +62,8 @@ impl Program {
 #[derive(Drop)]
 pub struct Assembly {
     pub program: Program,
+    /// The programs of further IDENTs.
+    pub others: Vec<Unit>,
     /// The lines, each with those that continue it.
     pub lines: Lines,
     pub symbols: Symbols,

@@ -38,7 +38,13 @@ fn says_what_is_wrong(rt: HostRuntime) -> Result<(), Fail> {
 
 #[test]
 fn refuses_by_name_what_it_does_not_know(rt: HostRuntime) -> Result<(), Fail> {
-    let source = b"   LDN 100B\n   USE BUFFERS\n";
-    assert!(rt; is_wrong(rt, source, b"2:4: USE is not taken by this assembler yet\n")?);
+    let source = b"   LDN 100B\n   XTEXT BUFFERS\n";
+    assert!(rt;
+        is_wrong(
+            rt,
+            source,
+            b"2:4: XTEXT is not taken by this assembler yet\n"
+        )?
+    );
     Ok(())
 }

@@ -1,11 +1,10 @@
 //! The text of a message: what is wrong, and what to write instead.
 use crate::digits::put_octal;
-use crate::instructions::{INSTRUCTIONS, name_of};
+use crate::instructions::{INSTRUCTIONS, NAMES, name_of};
 use crate::message::{Argument, Fault, Field, Message};
 use crate::nearest::Nearest;
 use crate::operations::{OPERATIONS, Operation};
 use crate::program::Assembly;
-use crate::symbols::Name;
 use crate::texts::is_alphanumeric;
 use std::alloc::{AllocError, Global};
 
@@ -62,7 +61,14 @@ impl Writer<'_> {
     /// Writes the text of a fault, with its arguments.
     fn fault(&mut self, fault: Fault) -> Result<(), AllocError> {
         let mut rest = fault.text;
-        for argument in &fault.arguments {
+        let Fault {
+            first,
+            second,
+            third,
+            fourth,
+            ..
+        } = fault;
+        for argument in &[first, second, third, fourth] {
             let Some((before, after)) = rest.split_once("{}") else {
                 break;
             };
@@ -89,9 +95,12 @@ impl Writer<'_> {
             Argument::Instruction(code) => self.instruction(code),
             Argument::NearestSymbol(name) => self.nearest_symbol(name),
             Argument::NearestOperation(name) => {
-                self.nearest(nearest_operation(name.of(self.line)))
+                let mut nearest = Nearest::new(name.of(self.line));
+                see_operations(&mut nearest);
+                self.nearest(nearest.found())
             }
             Argument::Wider(operand, code) => self.wider(operand, code),
+            Argument::Kept(name) => self.text(self.assembly.symbols.text_of(name)),
             Argument::Reaching(target, code) => self.reaching(target, code),
         }
     }
@@ -101,21 +110,23 @@ impl Writer<'_> {
     }
 
     fn nearest_symbol(&mut self, name: Field) -> Result<(), AllocError> {
+        let symbols = &self.assembly.symbols;
         let mut nearest = Nearest::new(name.of(self.line));
-        for symbol in &self.assembly.symbols.all {
-            nearest.see(symbol.name);
+        for symbol in &symbols.all {
+            if symbol.is_known() {
+                nearest.see(symbols.text_of(symbol.key));
+            }
         }
         self.nearest(nearest.found())
     }
 
     /// Writes the name that may be meant.
-    fn nearest(&mut self, name: Option<Name>) -> Result<(), AllocError> {
+    fn nearest(&mut self, name: Option<&[u8]>) -> Result<(), AllocError> {
         let Some(name) = name else {
             return Ok(());
         };
         self.text(b"; ")?;
-        let characters = name.characters();
-        self.text(characters.get(..name.length()).unwrap_or(b""))?;
+        self.text(name)?;
         self.text(b" is")
     }
 
@@ -182,12 +193,11 @@ fn is_distance(text: &[u8]) -> bool {
     }
 }
 
-/// Returns the operation that may be meant by a name.
-fn nearest_operation(name: &[u8]) -> Option<Name> {
-    let mut nearest = Nearest::new(name);
+/// Looks at the names of all operations.
+fn see_operations(nearest: &mut Nearest) {
     for code in 0..INSTRUCTIONS {
         if code != 0o24 && code != 0o25 {
-            nearest.see_text(name_of(code as u8).as_slice());
+            nearest.see(NAMES[code].as_slice());
         }
     }
     for (names, operation) in &OPERATIONS {
@@ -196,9 +206,8 @@ fn nearest_operation(name: &[u8]) -> Option<Name> {
             Operation::Lines | Operation::Inside | Operation::Refused(_)
         ) {
             for one in names.split_whitespace() {
-                nearest.see_text(one.as_bytes());
+                nearest.see(one.as_bytes());
             }
         }
     }
-    nearest.found()
 }
