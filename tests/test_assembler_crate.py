@@ -70,14 +70,14 @@ def changed(choose: random.Random, lines: List[str]) -> List[str]:
     return found
 
 
-def sources() -> Iterator[List[str]]:
-    """Yields the lines of each source."""
+def sources(count: int = RANDOM) -> Iterator[List[str]]:
+    """Yields the lines of each source: those of the repository, and so many made at random."""
     paths = sorted(path for place in PLACES for path in glob.glob(os.path.join(TOP, place), recursive=True))
     real = [read(path).removesuffix("\n").split("\n") for path in paths]
     choose = random.Random(65)
     yield from filter(can_be_judged, real)
     made = 0
-    while made < RANDOM:
+    while made < count:
         lines = changed(choose, choose.choice(real)) if choose.random() < 0.4 else [
             *choose.choice([[], ["          ORG    100B"], ["          ORG    7770B"]]),
             *choose.choice([[], ["          BASE   OCTAL"], ["          BASE   OCTAL"], ["          BASE   DECIMAL"]]),

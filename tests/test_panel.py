@@ -14,13 +14,11 @@ from pp6600.devices.console_display import ConsoleDisplay
 from pp6600.devices.paper_tape import PaperTape
 from pp6600.engine.plain import places
 from pp6600.engine.plain.console import SYMBOLS
-from pp6600.engine.plain.console import Console as PlainConsole
-from pp6600.engine.plain.machine import Machine
 from pp6600.front import keys
 from pp6600.front.panel.screen import Shown, layout, screen, small_screen
 from pp6600.front.panel.text import CHANGED, CURSOR, HERE, OVERWRITTEN as OVER, REFUSED
 from pp6600.front.panel.view import View, memory_top
-from pp6600.run.state import State, questions
+from pp6600.run.state import state_of
 from pp6600.shell.device_options import device_of
 
 MACHINE_DUMPS = "DUMP PP 0", "DUMP PP 1", "DUMP M 0 0 7777", "DUMP H", "DUMP W", "DUMP CR", "DUMP LP"
@@ -44,11 +42,10 @@ def source_panel(case, script="STEP 1300\n", *options, source=LOADER, number=0, 
 
 def state_with(numbers=()):
     """Returns the state of a machine of the simulator in Python with some numbers at their places."""
-    machine = Machine()
+    console = Console(["plain"])
     for place in numbers:
-        machine.numbers[place] = numbers[place]
-    console = PlainConsole(machine)
-    return State([line for question in questions((0, 0o177)) for line in console.answer(question.encode())])
+        console.engine.machine.numbers[place] = numbers[place]
+    return state_of(console, (0, 0o177))
 
 
 def texts(state, before=None, size=(80, 24), **more):

@@ -27,7 +27,6 @@ OF_MACHINE = {"RegP": places.P, "RegA": places.A, "RegQ": places.Q, "Phase": pla
               "PaperColumn": places.PAPER_COLUMN, "PaperSymbol": places.PAPER}
 OWN = {"Card": places.CARD, "Column": places.CARD_COLUMN, "Mode": places.READER_MODE, "PrinterMode": places.PRINTER_MODE,
        "Length": places.PAPER_LENGTH, "PaperColumn": places.PAPER_COLUMN, "Symbol": places.PAPER}
-MODES = {places.READER_MODE: (0, 1, 3, 4), places.PRINTER_MODE: (0, 2, 3, 4)}  # how it numbers idle, active, status and sent
 
 
 def parts(text):
@@ -43,8 +42,7 @@ def parts(text):
 
 def numbers_of(text, place):
     """Returns the numbers of a list of pairs by their places."""
-    found = {place(*(word or "0" for word in pair[:3])): int(pair[3], 0) for pair in PAIR.findall(text)}
-    return {at: MODES[at][number] if at in MODES else number for at, number in found.items()}
+    return {place(*(word or "0" for word in pair[:3])): int(pair[3], 0) for pair in PAIR.findall(text)}
 
 
 def of_processor(kind, which, _):

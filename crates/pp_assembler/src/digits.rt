@@ -1,22 +1,16 @@
 //! Octal digits.
-use std::alloc::{AllocError, Global};
+ghost use Rattle.std.specs.Prelude.{◌≤◌};
 
-/// Writes an octal number, with zeros up to a width.
-pub fn put_octal(
-    alloc: Global,
-    out: &mut Vec<u8>,
-    number: i64,
-    width: usize,
-) -> Result<(), AllocError> {
-    let magnitude = number.unsigned_abs();
-    let digits = format!(in alloc; "{magnitude:o}")?;
-    let mut size = digits.len();
+use pp_arith::octal;
+use std::alloc::AllocError;
+
+/// Writes an octal number, with zeros up to a width, 1 to 22.
+pub fn put_octal(out: &mut Vec<u8>, number: i64, width: u8) -> Result<(), AllocError>
+    requires some { 1 ≤ width }
+    requires at_most { width ≤ 22 }
+{
     if number < 0 {
         out.push(b'-')?;
-        size = size.saturating_add(1);
     }
-    for _ in size..width {
-        out.push(b'0')?;
-    }
-    out.extend_from_slice(digits.as_bytes())
+    out.extend_from_slice(octal(number.unsigned_abs(), width).as_slice())
 }

@@ -33,7 +33,7 @@ mod wording;
 
 pub use cells::are_cells;
 pub use disassembly::disassemble;
-pub use forms::{complaints_text, listing_text, words_text};
+pub use forms::{complaints_text, lines_text, listing_text, names_text, words_text};
 pub use instructions::{Form, code_of, form_of, name_of, size_of};
 pub use message::{Argument, Fault, Field, Message};
 pub use pass::Row;

@@ -9,13 +9,14 @@ use crate::symbols::Symbols;
 use crate::units::Unit;
 
 /// A word that a source puts into a cell of the memory.
+#[repr(C)]
 #[derive(Clone, Copy, Debug, PartialEq, Eq)]
 pub struct Cell {
     /// Up to octal 7777.
     pub address: u16,
     /// Twelve bits.
     pub word: u16,
-    /// The line of the source, from 1.
+    /// The line of the source, from 1; 0 if the word is of no source.
     pub line: u32,
 }
 

@@ -86,8 +86,8 @@ impl Writer<'_> {
             Argument::Text(text) => self.text(text.as_bytes()),
             Argument::Symbol(b'\t') => self.text(b"\\t"),
             Argument::Symbol(symbol) => self.text(&[symbol]),
-            Argument::Octal(number) => put_octal(self.alloc, &mut self.out, number, 1),
-            Argument::Cell(cell) => put_octal(self.alloc, &mut self.out, i64::from(cell), 4),
+            Argument::Octal(number) => put_octal(&mut self.out, number, 1),
+            Argument::Cell(cell) => put_octal(&mut self.out, i64::from(cell), 4),
             Argument::Decimal(number) => {
                 let digits = format!(in self.alloc; "{number}")?;
                 self.text(digits.as_bytes())

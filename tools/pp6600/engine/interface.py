@@ -1,8 +1,9 @@
-"""What simulates, as the tools ask it: a session of the machine, by eight calls. Two engines have them, the proved library and the simulator
+"""What simulates, as the tools ask it: a session of the machine, by nine calls. Two engines have them, the proved library and the simulator
 in plain Python."""
 
 from __future__ import annotations
 
+import bisect
 from array import array
 from typing import List, NamedTuple, Protocol, Sequence, Tuple
 
@@ -11,6 +12,14 @@ from ..failure import Failure
 # The places in the flat order of the engines: a range of them begins at each of these numbers.
 CELLS, A, P, Q, PHASE, STATES, REGISTERS, CLOCK = 0, 40960, 40970, 40980, 40990, 41000, 41012, 41024
 FRAME, CARD, PAPER_LENGTH, PAPER_COLUMN, PAPER, SLOT, WATCHES, CENTRAL = 41025, 41041, 41044, 41045, 41047, 106583, 106584, 106592
+# The first place of each kind, in the order of the places. S is the state of a channel, LP a symbol of the paper.
+FIRST = {"M": CELLS, "A": A, "P": P, "Q": Q, "PHASE": PHASE, "S": STATES, "H": REGISTERS, "XP": FRAME,
+         "CR CARD": CARD, "CR COLUMN": CARD + 1, "CR MODE": CARD + 2,
+         "LP SYMBOLS": PAPER_LENGTH, "LP COLUMN": PAPER_COLUMN, "LP MODE": PAPER_COLUMN + 1, "LP": PAPER,
+         "SLOT": SLOT, "W": WATCHES, "C": CENTRAL}
+KINDS, FIRSTS = list(FIRST), list(FIRST.values())
+ONE = [kind for kind in KINDS if " " in kind or kind == "SLOT"]  # kinds with one place
+CELLS_OF_PROCESSOR = 0o10000
 
 
 class Rejection(Failure):
@@ -30,10 +39,10 @@ class Counts(NamedTuple):
 
 
 class Records(NamedTuple):
-    """Turns one after the other, with the numbers that they overwrote."""
+    """Actions one after the other, mostly turns, with the numbers that they overwrote."""
 
-    counts: Sequence[int]  # of each turn how many numbers it overwrote
-    olds: bytes  # of all turns the places and the numbers, in turn, eight bytes each; where a turn has one twice, the first counts
+    counts: Sequence[int]  # of each action how many numbers it overwrote
+    olds: bytes  # of all actions the places and the numbers, in turn, eight bytes each; where one has a place twice, the first counts
     is_watched: bool  # whether the last turn changed a watched number
 
     @property
@@ -64,6 +73,9 @@ class Engine(Protocol):
     def looks(self, places: Sequence[int], most: int) -> Tuple[Sequence[int], int]:
         """Makes turns as `turns` does. Returns the numbers at some places (1 to 16) after each of them, and how many turns they are."""
 
+    def again(self, count: int) -> Records:
+        """Performs undone actions again, and returns what each overwrote."""
+
     def back(self, count: int) -> None: ...
 
     def forward(self, count: int) -> None: ...
@@ -72,9 +84,14 @@ class Engine(Protocol):
 
 
 def place_number(kind: str, numbers: Sequence[int]) -> int:
-    """Returns the number of a place in the flat order, by its kind and numbers on the console. S is the state of a channel."""
+    """Returns the number of a place in the flat order, by its kind and its numbers."""
     if kind == "M":
-        return CELLS + 0o10000 * numbers[0] + numbers[1]
-    if kind == "S":
-        return STATES + numbers[0]
-    return {"A": A, "P": P, "Q": Q, "PHASE": PHASE, "C": CENTRAL, "XP": FRAME, "LP": PAPER, "H": REGISTERS}[kind] + numbers[0]
+        return CELLS + CELLS_OF_PROCESSOR * numbers[0] + numbers[1]
+    return FIRST[kind] + sum(numbers)
+
+
+def place_at(number: int) -> Tuple[str, Tuple[int, ...]]:
+    """Returns the kind and the numbers of a place, by its number in the flat order."""
+    kind = KINDS[bisect.bisect_right(FIRSTS, number) - 1]
+    at = number - FIRST[kind]
+    return kind, divmod(at, CELLS_OF_PROCESSOR) if kind == "M" else () if kind in ONE else (at,)

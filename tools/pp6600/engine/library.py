@@ -150,20 +150,20 @@ class Session:
 
     def turns(self, most: int) -> Tuple[List[Moment], bool]:
         """Performs turns, up to the first that changes a watched number. Returns them, and whether the last one did."""
-        _, made, records = self._recorded("turns", most, MOST_OLDS)
+        _, made, records = self.recorded("turns", most, MOST_OLDS)
         return moments_of(made, records), records.is_watched
 
     def again(self, count: int) -> Optional[List[Moment]]:
         """Performs undone actions again, and returns them; None if there are too few, and then none is performed."""
-        status, made, records = self._recorded("again", count, MOST_OLDS)
+        status, made, records = self.recorded("again", count, MOST_OLDS)
         return None if status == REFUSED else moments_of(made, records)
 
     def records(self, most: int, pairs_of_turn: int = PAIRS_OF_TURN) -> Tuple[Sequence[int], Records]:
         """As `turns`, in as few as the room of so many pairs for each turn makes it. Returns of each the processor and the number of places,
         in turn, and what they overwrote."""
-        return self._recorded("turns", most, pairs_of_turn)[1:]
+        return self.recorded("turns", most, pairs_of_turn)[1:]
 
-    def _recorded(self, call: str, most: int, pairs_of_turn: int) -> Tuple[int, Sequence[int], Records]:
+    def recorded(self, call: str, most: int, pairs_of_turn: int) -> Tuple[int, Sequence[int], Records]:
         """Makes a call that records actions, with room for so many pairs for each. Returns its status, and what `records` returns."""
         pairs = pairs_of_turn * most + MOST_OLDS
         made, olds, turns, used = (c_uint32 * (2 * most))(), (c_uint64 * (2 * pairs))(), c_size_t(), c_size_t()
@@ -239,6 +239,12 @@ class LibraryEngine:
 
     def turns(self, most: int) -> Records:
         return self.session.records(most)[1]
+
+    def again(self, count: int) -> Records:
+        status, _, records = self.session.recorded("again", count, MOST_OLDS)
+        if status == REFUSED:
+            raise Failure("the machine has fewer actions ahead")
+        return records
 
     def looks(self, places: Sequence[int], most: int) -> Tuple[Sequence[int], int]:
         if self.looked != places:

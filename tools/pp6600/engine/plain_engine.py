@@ -97,11 +97,16 @@ class PlainEngine:
         for _ in range(count):
             self.machine.forward()
 
+    def again(self, count: int) -> Records:
+        self.forward(count)
+        history = self.machine.history
+        return records_of([history[at] for at in range(len(history) - count, len(history))], False)
+
     def close(self) -> None:
         """Nothing is to be given back."""
 
 
 def records_of(made: Sequence[Record], is_watched: bool) -> Records:
-    """Returns the records of turns."""
+    """Returns the records of actions."""
     olds = array("Q", [one for record in made for place, number in record.items() for one in (flat_place(place), number)])
     return Records(array("I", map(len, made)), olds.tobytes(), is_watched)

@@ -55,16 +55,6 @@ def rows_around(word: Word, address: int, before: int, after: int, heads: Contai
     return rows[at - before:at + after + 1]
 
 
-def window(word: Word, top: int, address: int, count: int, heads: Container[int]) -> List[Row]:
-    """Returns so many rows with an address in one of them: from the top on if it is there with rows above it, else with some rows
-    before it."""
-    rows = rows_from(word, top, count, heads)
-    before = rows_above(next((at for at, row in enumerate(rows) if row.has(address)), None), count, top)
-    if before is None:
-        return rows
-    return rows_around(word, address, before, count - before - 1, heads)
-
-
 def rows_above(at: Optional[int], count: int, top: int) -> Optional[int]:
     """Returns how many rows a window of so many moves to have above the one that it must show; None if it stays. That one is at `at`
     now, or not in the window; nothing is above address 0."""

@@ -9,6 +9,7 @@ import functools
 import re
 from typing import Dict, Iterable, List, NamedTuple, Optional, Pattern, Sequence, Tuple
 
+from ..engine.interface import place_at, place_number
 from ..failure import Failure
 
 PROCESSORS = 10
@@ -24,6 +25,7 @@ COLUMNS_OF_CARD = 80
 MOST_TURNS = 0o1000000  # of one STEP
 MOST_WATCHES = 8
 REGISTERS = ("P", "A", "Q", "PHASE")
+MODES = {"CR MODE": ("IDLE", "READING", "STATUS", "SENT"), "LP MODE": ("IDLE", "PRINTING", "STATUS", "SENT")}  # of the devices
 STATES = "IEFX"  # of a channel: inactive, empty, full with data, full with a function code
 
 Registers = Dict[str, str]  # the registers of a processor by their names, each as its digits
@@ -45,12 +47,15 @@ KINDS = {
     "C": Kind((CENTRAL_ADDRESSES,), (6,), 20),
     "H": Kind((CLOCK + 1,), (2,), 4),
 }
-# Places that can't be watched: words of the frame, symbols of the paper, the phases of processors, and the states of channels.
+# Places that can't be watched: words of the frame, symbols of the paper, the phases of processors, the states of channels, and what
+# the devices are at.
 UNWATCHED = {
     "XP": Kind((FRAME_WORDS,), (2,), 20),
     "LP": Kind((SYMBOLS_OF_PAPER,), (6,), 2),
     "PHASE": Kind((PROCESSORS,), (2,), 4),
     "S": Kind((CHANNELS,), (2,), 1),
+    "CR CARD": Kind((), (), 4), "CR COLUMN": Kind((), (), 3), "CR MODE": Kind((), (), 1),
+    "LP SYMBOLS": Kind((), (), 6), "LP COLUMN": Kind((), (), 3), "LP MODE": Kind((), (), 1),
 }
 ALL_KINDS = {**KINDS, **UNWATCHED}
 
@@ -82,6 +87,16 @@ class Place(NamedTuple):
             if not re.fullmatch("[0-7]+", number):
                 raise Failure(f"{number} is not octal")
         return cls(kind, tuple(int(number, 8) for number in words[1:end])), words[end:]
+
+    @classmethod
+    def at(cls, number: int) -> Place:
+        """Returns the place with a number in the flat order of the engines."""
+        return cls(*place_at(number))
+
+    @property
+    def number(self) -> int:
+        """Its number in the flat order of the engines."""
+        return place_number(*self)
 
     @property
     def text(self) -> str:

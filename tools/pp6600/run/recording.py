@@ -6,7 +6,7 @@ import bisect
 import functools
 from array import array
 from itertools import accumulate
-from typing import Callable, Sequence
+from typing import Callable, Dict, Iterator, Sequence, Tuple
 
 from ..engine import interface as flat
 from ..engine.interface import Records
@@ -16,7 +16,19 @@ from .tape import Position
 from .turn import Processor, Turn
 
 AT_ONCE = 0o40000  # turns
-WIDTH = 16  # bytes of a place and its number
+NUMBER, WIDTH = 8, 16  # bytes of a number, and of a place and its number
+
+
+class Numbers(Dict[int, int]):
+    """The numbers at places, each read when it is first asked for."""
+
+    def __init__(self, run: Session) -> None:
+        super().__init__()
+        self.run = run
+
+    def __missing__(self, place: int) -> int:
+        self[place], = self.run.engine.numbers(place, 1)
+        return self[place]
 
 
 class Recording:
@@ -66,6 +78,15 @@ class Recording:
             found = self.olds.rfind(wanted, 0, found + WIDTH // 2 - 1)
         return bisect.bisect_right(self.starts, found) - 1 if found >= 0 else -1
 
+    def turns_back(self) -> Iterator[Tuple[int, Dict[int, int], Numbers]]:
+        """Yields each turn, the last one first: its number, what it overwrote, and the numbers after it."""
+        self.run.goto(self.last)
+        now, olds = Numbers(self.run), array("Q", self.olds)
+        for at in range(self.last - self.first - 1, -1, -1):
+            was = overwritten(olds[self.starts[at] // NUMBER:self.starts[at + 1] // NUMBER])
+            yield at, was, now
+            now.update(was)
+
     # ---- a turn
 
     def registers(self, number: int, at: int) -> Registers:
@@ -96,6 +117,29 @@ def recorded(run: Session, most: int) -> Records:
     records = run.engine.turns(most)
     run.history.performed(len(records.counts))
     return records
+
+
+def overwritten(olds: Sequence[int]) -> Dict[int, int]:
+    """Returns the numbers that were overwritten, by their places: of a place that is there twice the first one."""
+    return dict(zip(reversed(olds[::2]), reversed(olds[1::2])))
+
+
+def latest_changes(run: Session, count: int = 1) -> Dict[int, int]:
+    """Returns the numbers before the latest actions, so many, at the places where they are no longer so. The engine keeps the actions:
+    they are undone, and performed again."""
+    run.engine.back(count)
+    was = overwritten(array("Q", run.engine.again(count).olds))
+    now = Numbers(run)
+    return {place: number for place, number in was.items() if number != now[place]}
+
+
+def next_changes(run: Session, count: int = 1) -> Dict[int, int]:
+    """Returns the present numbers at the places where they are others after the next actions, so many, which the engine has undone. They are
+    performed again, and undone."""
+    run.engine.forward(count)
+    was = latest_changes(run, count)
+    run.engine.back(count)
+    return was
 
 
 def first_of(place: int, olds: bytes, begin: int = 0) -> int:

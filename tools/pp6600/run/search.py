@@ -19,6 +19,7 @@ from .turn import Processor
 
 FIRST_SPAN = 0o10000  # of turns at the end that are searched first
 WIDER = 8  # times as many in each span before
+MOST_PLACES = 16  # of the looks of an engine
 HELD = b"\1"
 OF_A_PROCESSOR = ("M", "A", "P", "Q", "PHASE")
 
@@ -63,10 +64,13 @@ class Looks:
         """Makes turns, at most so many."""
         self.run, self.first = run, run.position
         self.slot = run.next_slot
-        looked = places or [flat.SLOT]
-        numbers, self.turns = run.engine.looks(looked, most)
-        run.history.performed(self.turns)
-        self.columns: Dict[int, Sequence[int]] = {place: numbers[at::len(looked)] for at, place in enumerate(looked)}
+        self.columns: Dict[int, Sequence[int]] = {}
+        for begin in range(0, max(len(places), 1), MOST_PLACES):
+            looked = places[begin:begin + MOST_PLACES] or [flat.SLOT]
+            run.goto(self.first)
+            numbers, self.turns = run.engine.looks(looked, most)
+            run.history.performed(self.turns)
+            self.columns.update((place, numbers[at::len(looked)]) for at, place in enumerate(looked))
 
     def first_own(self, number: int) -> int:
         """Returns how many turns come before the first one of a processor."""

@@ -13,7 +13,7 @@ from .places import (
 ERRORS = (
     "", "NOT A COMMAND", "WORDS", "NUMBER", "RANGE", "LINE TOO LONG", "NOT ASCII", "TOO FEW KEPT", "NO CHANGE KEPT",
     "WATCHES FULL", "ALREADY WATCHED", "NOT WATCHED", "NO PANEL", "NOTHING WATCHED", "TOO FEW AHEAD")
-MODES = ("IDLE", "READING", "PRINTING", "STATUS", "SENT")
+READER_MODES, PRINTER_MODES = ("IDLE", "READING", "STATUS", "SENT"), ("IDLE", "PRINTING", "STATUS", "SENT")
 SYMBOLS = ":ABCDEFGHIJKLMNOPQRSTUVWXYZ0123456789+-*/()$= ,.#[]%\"_!&'?<>@\\^;"
 LONGEST_LINE, MOST_WATCHES = 255, 8
 words_of = re.compile("[^ \t]+").findall
@@ -180,14 +180,14 @@ class Console:
     def dump_reader(self, kind: str) -> Answer:
         machine, numbers = self.machine, self.machine.numbers
         return [f"CR H {machine.reader:02o} CARD {numbers[CARD]:04o} OF {len(machine.deck):04o} "
-                f"COLUMN {numbers[CARD_COLUMN]:03o} MODE {MODES[numbers[READER_MODE]]}"]
+                f"COLUMN {numbers[CARD_COLUMN]:03o} MODE {READER_MODES[numbers[READER_MODE]]}"]
 
     def dump_printer(self, kind: str) -> Answer:
         machine, numbers = self.machine, self.machine.numbers
         paper = "".join((SYMBOLS + "\n")[numbers[PAPER + i]] for i in range(numbers[PAPER_LENGTH]))
         *printed, rest = paper.split("\n")
         return [f"LP H {machine.printer:02o} SYMBOLS {len(paper):06o} COLUMN {numbers[PAPER_COLUMN]:03o} "
-                f"MODE {MODES[numbers[PRINTER_MODE]]}",
+                f"MODE {PRINTER_MODES[numbers[PRINTER_MODE]]}",
                 *("|" + line for line in printed), *(["/" + rest] if rest else [])]
 
     def dump_watches(self, kind: str) -> Answer:

@@ -12,7 +12,8 @@ from .places import (
 if TYPE_CHECKING:
     from .machine import Machine
 
-IDLE, READING, PRINTING, STATUS, SENT = range(5)
+IDLE, READING, STATUS, SENT = range(4)
+PRINTING = READING  # each device has modes of its own
 COLUMNS, PAPER_WIDTH, LINE_END = 80, 136, 0o100
 
 

@@ -1,10 +1,15 @@
 """Every change of a place over a whole run, or what each of its last turns changed."""
 
+from collections import ChainMap
+from itertools import takewhile
+
+from ...engine.interface import PAPER, PAPER_LENGTH
+from ...language.display_code import SYMBOLS
 from ...language.names import AllSymbols
 from ...language.symbol_options import add_symbols, symbols_of
 from ...run.conditions import Changes, column_of, first_place
-from ...run.forms import CENTRAL_ADDRESSES, FRAME_WORDS, dumps_from, kind_of
 from ...run.moments import text_of
+from ...run.recording import AT_ONCE, Recording
 from ...run.search import Condition, Search
 from ...run.state import differences
 from ...run.tape import STEP, SourceLine
@@ -12,6 +17,7 @@ from ...run.turn import places_of_setting
 from ...shell.command_line import arguments, count, words_after, write_lines
 from ...shell.script import replayed
 
+LINE_END = 0o100  # among the symbols of the paper
 DESCRIPTION = """Shows every change of a place (M 0 106, A 0, C 1000, H 12 ..) over the whole run of a script, however
 long: the turn, counted in octal from 1, the processor whose turn it was, its P before the turn, the name of its
 instruction, and the number before and after. H c is the register of a channel, with the state of the channel beside it.
@@ -20,10 +26,6 @@ name, with the turns before it. What the script took back and did not perform ag
 without PLACE, it shows what each of the last COUNT turns changed: the numbers of the processor whose turn it was, the channels
 and the clock, the frame (XP), reader and printer, and the central words from A to A+17; a turn changes no others. Of a channel
 it shows the state and the register in one; of the paper the number of symbols and the last line."""
-
-
-# Of the lines that show what a turn may change, the order in which their places are written.
-ORDER = ("PP", "M", "H", "XP", "CR", "LP", "PAPER", "C")
 
 
 def place_changes(run, place, symbols=AllSymbols()):
@@ -51,39 +53,48 @@ def source_of(line, place):
     return f"  {line.places[places_of_setting(line)[place]]}" if isinstance(line, SourceLine) else ""
 
 
-def lines_around(run, slot, a):
-    """Returns the lines that show all that a turn of the processor in the slot may change, and the last line of the paper. A says which
-    central words these are: as many as the frame has."""
-    central = dumps_from("DUMP C", a, FRAME_WORDS, CENTRAL_ADDRESSES, run.central_size)
-    answer = run.ask_all([f"DUMP PP {slot:o}", f"DUMP M {slot:o} 0 7777", "DUMP H", "DUMP XP", *central, "DUMP LP"])
-    paper = [line for line in answer if line[0] in "|/"]
-    return [line for line in answer if line[0] not in "|/"], (paper or ["EMPTY"])[-1]
-
-
-def changes_between(before, after, slot):
-    """Yields what differs between the lines before and after a turn."""
-    (lines, paper), (lines_after, paper_after) = before, after
-    pairs = [(ORDER.index(kind_of(was)), was, now) for was, now in zip(lines, lines_after) if was != now]
-    found = [(order, *change) for order, was, now in pairs for change in differences([was], [now], slot)]
-    found += [(ORDER.index("PAPER"), "PAPER", paper, paper_after)] if paper != paper_after else []
-    return [f"{place} {was} -> {now}" for _, place, was, now in sorted(found, key=lambda one: one[0])]
-
-
 def last_turns(run, count, symbols=AllSymbols()):
     """Yields a line with what it changed for each of the last turns, and the line of each action between them."""
-    for position, line in run.tape.stops(max(run.tape.turns - count, 0)):
-        run.goto(position)
-        if line != STEP:
-            yield line
-            continue
-        slot = run.next_slot
-        processor = run.processor(slot)
-        a = int(processor.registers["A"], 8)
-        before = lines_around(run, slot, a)
-        run.goto(position + 1)
-        changes = changes_between(before, lines_around(run, slot, a), slot)
-        yield f"TURN {run.turn:o} PP {slot:02o}: {', '.join(changes) or 'NOTHING'}{symbols.line_at_p(slot, processor)}"
+    position = run.tape.at_turn(max(run.tape.turns - count, 0))
+    for action in run.tape.actions(position):
+        end = position + action.times
+        if action.line != STEP:
+            yield action.line
+        for first in range(position, end, AT_ONCE) if action.line == STEP else ():
+            yield from lines_of(Recording(run, first, min(first + AT_ONCE, end)), symbols)
+        position = end
     run.end()
+
+
+def lines_of(recording, symbols):
+    """Returns a line with what it changed for each turn of a recording."""
+    lines = []
+    for at, was, now in recording.turns_back():
+        slot, processor = recording.processor(at), recording.turn(at).processor
+        changes = ", ".join(f"{place} {before} -> {after}" for place, before, after in shown(was, now)) or "NOTHING"
+        turn = recording.run.tape.turn(recording.position(at))
+        lines.append(f"TURN {turn:o} PP {slot:02o}: {changes}{symbols.line_at_p(slot, processor)}")
+    return reversed(lines)
+
+
+def shown(was, now):
+    """Returns what a turn changed as one reads it: the places, with the numbers before and after; after the printer the last line of its
+    paper."""
+    before = ChainMap(was, now)
+    found = differences([place for place, number in was.items() if number != now[place]], before, now)
+    if before[PAPER_LENGTH] != now[PAPER_LENGTH]:
+        at = next((at for at, (place, *_) in enumerate(found) if place.startswith("C ")), len(found))
+        found.insert(at, ("PAPER", *(last_line(numbers[PAPER_LENGTH], now) for numbers in (before, now))))
+    return found
+
+
+def last_line(length, numbers):
+    """Returns the last line of a paper of so many symbols, as a DUMP LP has it."""
+    if not length:
+        return "EMPTY"
+    is_whole = numbers[PAPER + length - 1] == LINE_END
+    symbols = takewhile(lambda symbol: symbol != LINE_END, (numbers[PAPER + at] for at in range(length - is_whole - 1, -1, -1)))
+    return "|" * is_whole + "/" * (not is_whole) + "".join(SYMBOLS[symbol] for symbol in symbols)[::-1]
 
 
 def main():

@@ -7,7 +7,7 @@ from ...language.versions import Versions
 from ...run.forms import PROCESSORS
 from ...run.search import Looks, halve
 from ...run.session import Session
-from ...run.state import central_of, differences, state_of
+from ...run.state import central_differences, central_of, state_of
 from ...run.tape import STEP
 from ...shell.command_line import Failure, arguments, processor, script_lines, simulator, words_after, write
 from ...shell.script import performed
@@ -77,7 +77,7 @@ class Comparison:
         found = list(states[0].differences(states[1]))
         for program in self.versions:
             found = [*program.differences(states), *(difference for difference in found if not program.replaces(difference))]
-        found += differences(*map(central_of, runs)) if with_central else ()
+        found += central_differences(*map(central_of, runs)) if with_central else ()
         return [difference for difference in found if difference[0] not in self.known]
 
     def first_after(self, same, end, with_central):

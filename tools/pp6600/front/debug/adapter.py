@@ -292,19 +292,19 @@ class Adapter(Requests, Setting):
 
     def report(self, stop):
         """Says why a run has stopped."""
-        ids = dict.fromkeys(one.point.number for one in stop.met)
+        ids = dict.fromkeys(point.number for point in stop.met if point.number)
         if stop.place:
             self.stopped(DATA, stop.number, stop.text, ids)
         elif ids:
-            self.stopped(stop.met[0].point.reason, stop.number, f"PP {stop.number:02o} is at {stop.address:04o}", ids)
+            self.stopped(stop.met[0].reason, stop.number, f"PP {stop.number:02o} is at {stop.address:04o}", ids)
         else:
             self.stopped("step", stop.number)
 
-    def write_log(self, stop, met):
+    def write_log(self, stop, point):
         """Writes the text of a log point."""
-        point = met.point
+        text = point.terms.log.said(stop.number, stop.position, self.machine.scout())
         source, line = (point.file.source, point.line - 1) if point.file else (self.listings.source(stop.number), stop.address)
-        self.wire.event("output", category="console", output=f"{met.text}\n", source=source, line=line + self.base)
+        self.wire.event("output", category="console", output=f"{text}\n", source=source, line=line + self.base)
 
     def step(self, way):
         """Makes a step of the processor of a request. It ends with a stop, or at its end."""

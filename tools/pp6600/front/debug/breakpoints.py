@@ -4,7 +4,7 @@ import re
 from typing import TYPE_CHECKING, Dict, FrozenSet, NamedTuple, Optional, Tuple
 
 from ...failure import Failure
-from ...run.forms import CELLS, MOST_WATCHES, PROCESSORS, Place
+from ...run.forms import CELLS, PROCESSORS, Place
 from .protocol import Refused
 from .terms import Terms
 
@@ -102,24 +102,3 @@ class Breakpoints:
     def places(self):
         """Returns the places of all data breakpoints, each once."""
         return list(dict.fromkeys(place for point in self.data for place in point.places))
-
-    def set_data(self, asked, own, terms_of):
-        """Sets data breakpoints, as they are asked for; the user watches places of their `own`. The function `terms_of` returns the terms
-        of one with its places, or refuses them. Returns for each why it is not set, or nothing."""
-        self.data, faults = [], []
-        for at, one in enumerate(asked):
-            try:
-                places = self.watched_places(one, own)
-                self.data.append(Point(DATA_ID | at, DATA, places=tuple(places), terms=terms_of(one, places)))
-                faults.append("")
-            except Refused as refused:
-                faults.append(str(refused))
-        return faults
-
-    def watched_places(self, one, own):
-        places = places_of(str(one.get("dataId")))
-        if one.get("accessType", "write") != "write":
-            raise Refused("only changes are seen")
-        if len({*own, *self.places(), *places}) > MOST_WATCHES:
-            raise Refused("at most eight places are watched, those of WATCH among them")
-        return places

@@ -33,12 +33,15 @@ class SourceFile:
         self.path = os.path.abspath(path)
         self.source = {"name": os.path.basename(path), "path": self.path}
         self.of = {}  # the lines by processors
-        self.lines, self.seen = self.read(), stamp(path)
-        self.is_told = False  # that it has changed
+        self.lines, self.is_told = self.read(), False  # that it has changed
 
     def read(self):
+        """Returns its lines as they are now; None if it can't be read."""
         from ...language.sources import source_lines  # few editors have sources
-        return source_lines(self.path)
+        try:
+            return source_lines(self.path)
+        except Failure:
+            return None
 
     def add(self, number, source):
         self.of[number] = SourceLines(source)
@@ -61,14 +64,8 @@ class SourceFile:
 
     def has_changed(self):
         """Returns whether the file is another one than at the launch; once."""
-        if self.is_told or stamp(self.path) == self.seen:
-            return False
-        self.seen = stamp(self.path)
-        try:
-            self.is_told = self.read() != self.lines
-        except Failure:
-            self.is_told = True
-        return self.is_told
+        was, self.is_told = self.is_told, self.is_told or self.read() != self.lines
+        return self.is_told and not was
 
 
 class OwnSources:
@@ -116,12 +113,3 @@ def rows_of_lines(rows):
                 found.setdefault(line, []).append(row)
             due = set()
     return found
-
-
-def stamp(path):
-    """Returns what says at once whether a file may have been changed."""
-    try:
-        status = os.stat(path)
-        return status.st_mtime_ns, status.st_size, status.st_ino
-    except OSError:
-        return None

@@ -91,7 +91,7 @@ class Requests:
 
     def calls_of(self, number):
         """Returns the subroutines that a processor is in, the innermost first."""
-        source, scout = self.own.of.get(number), self.machine.scout("looks")
+        source, scout = self.own.of.get(number), self.machine.scout()
         found = calls(scout, number, source, self.machine.position) if source else []
         return [variable(f"{at}", sentence(scout, number, call, self.own.symbols)) for at, call in enumerate(found, 1)]
 

@@ -1,8 +1,10 @@
 """The requests that set breakpoints."""
 
+import itertools
+
 from ...failure import Failure
-from ...run.forms import CELLS
-from .breakpoints import DATA_ID, INSTRUCTION, INSTRUCTION_ID, LINE, LINE_ID, SOURCE_ID, Cell, Point, places_of
+from ...run.forms import CELLS, MOST_WATCHES
+from .breakpoints import DATA, DATA_ID, INSTRUCTION, INSTRUCTION_ID, LINE, LINE_ID, SOURCE_ID, Cell, Point, places_of
 from .protocol import Refused
 from .terms import Terms
 from .variables import place_of, scope_and_number, value_of
@@ -117,16 +119,23 @@ class Setting:
         return {"dataId": text, "description": f"a change of {text}", "accessTypes": ["write"], "canPersist": True}
 
     def check(self, places):
-        """Sees that central words are there."""
+        """Sees that places are there."""
         for place in places:
-            if place.kind == "C":
-                value_of(self.machine, place)
+            value_of(self.machine, place)
 
     def do_setDataBreakpoints(self, breakpoints, **_):
-        def terms_of(one, places):
-            self.check(places)
-            return self.terms({**one, "logMessage": None}, [])  # the protocol has no such log points
+        self.points.data, numbers = [], itertools.count(DATA_ID)
+        return {"breakpoints": self.set_points(breakpoints, lambda one: self.data_point(next(numbers), one))[0]}
 
-        faults = self.points.set_data(breakpoints, self.machine.state.watched, terms_of)
-        return {"breakpoints": [{"id": DATA_ID | at, "verified": not fault, **({"message": fault} if fault else {})}
-                                for at, fault in enumerate(faults)]}
+    def data_point(self, number, one):
+        """Returns the answer and a data breakpoint, which is set."""
+        places = places_of(str(one.get("dataId")))
+        if one.get("accessType", "write") != "write":
+            raise Refused("only changes are seen")
+        if len({*self.machine.state.watched, *self.points.places(), *places}) > MOST_WATCHES:
+            raise Refused("at most eight places are watched, those of WATCH among them")
+        self.check(places)
+        terms = self.terms({**one, "logMessage": None}, [])  # the protocol has no such log points
+        point = Point(number, DATA, places=tuple(places), terms=terms)
+        self.points.data.append(point)
+        return {"id": number}, point

@@ -9,7 +9,7 @@ from ...run.forms import CELLS
 from .debugged import latest_turn
 from .stops import Aim
 
-OUTSIDE_BLOCKS = frozenset(f"{cell:04o}0000" for cell in range(CELLS))
+ALL_CELLS = frozenset(range(CELLS))
 
 
 class Stepper:
@@ -34,7 +34,7 @@ class Stepper:
             if not aim:
                 return self.runner.to_turn(self.number)  # so that a breakpoint there is not met again
             stop, before = self.runner.forward(self.number, aim), None
-            if stop and not stop.place and not stop.met:
+            if stop and not stop.place and not any(point.number for point in stop.met):
                 stop = None
         return stop
 
@@ -45,7 +45,7 @@ class Stepper:
             return Aim(self.number, entry=entry)
         has_stayed = before is not None and after.p == before.p and not before.goes_on_in
         if after.phase or after.p in line.addresses and not has_stayed:
-            return Aim(self.number, OUTSIDE_BLOCKS - {f"{address:04o}0000" for address in line.addresses})
+            return Aim(self.number, ALL_CELLS - line.addresses)
         return None
 
     def entry_called(self):
@@ -63,7 +63,7 @@ class Stepper:
         entry = self.entry_of_call()
         stop = self.runner.step(self.number) if entry is None else None
         if not stop and (entry is not None or self.machine.processor(self.number).phase):
-            stop = self.runner.forward(self.number, Aim(self.number, OUTSIDE_BLOCKS if entry is None else frozenset(), entry))
+            stop = self.runner.forward(self.number, Aim(self.number, ALL_CELLS if entry is None else frozenset(), entry))
         return stop
 
     def entry_of_call(self):
@@ -112,7 +112,7 @@ class Stepper:
 
     @property
     def scout(self):
-        return self.machine.scout("looks")
+        return self.machine.scout()
 
     def cell(self, address):
         """Returns the number in a cell of the processor, as the scout sees it."""

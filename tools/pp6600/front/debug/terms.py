@@ -12,7 +12,7 @@ from typing import NamedTuple, Optional
 
 from ...failure import Failure
 from ...run.conditions import first_place, parsed
-from ...run.search import Condition
+from ...run.search import Column, Condition
 from .protocol import Refused
 
 SIGNS = {"=": operator.eq, "==": operator.eq, ">": operator.gt, ">=": operator.ge, "<": operator.lt, "<=": operator.le,
@@ -53,9 +53,10 @@ class Log:
         expressions = EXPRESSION.findall(text)
         self.places = {number: [place_of(one, number, symbols) for one in expressions] for number in numbers}
 
-    def said(self, number, values):
-        """Returns the text at a processor, with the values of its places."""
-        left = iter(values)
+    def said(self, number, position, scout):
+        """Returns the text at a processor, with the values of its places at a position."""
+        scout.goto(position)
+        left = (Column(place).shown(scout)[0][1] for place in self.places[number])
         return EXPRESSION.sub(lambda _: next(left), self.text)
 
 

@@ -4,7 +4,8 @@ import re
 
 from ...failure import Failure
 from ...language.names import AllSymbols
-from ...run.forms import CLOCK, KINDS, PROCESSORS, REGISTERS, Place
+from ...run.forms import KINDS, PROCESSORS, REGISTERS, Place
+from ...run.search import Column
 from .breakpoints import Cell, checked
 from .protocol import Refused
 from .terms import of_processor
@@ -62,15 +63,9 @@ def devices(state):
 
 def value_of(machine, place):
     """Returns the digits of the number at a place; of a channel the state too."""
-    if place.kind == "C":
-        answer = machine.ask(f"DUMP C {place.numbers[0]:o} {place.numbers[0]:o}")[0]
-        if answer.startswith("ERR "):
-            raise Refused(f"{answer}: {place.short} is not in central memory")
-        return answer.split()[2]
-    digits = machine.state.number_at(place)
-    if place.kind == "H" and place.numbers[0] < CLOCK:
-        return f"{machine.state.channels[place.numbers[0]].state} {digits}"
-    return digits
+    if place.kind == "C" and place.numbers[0] >= machine.central_size:
+        raise Refused(f"ERR 04 RANGE: {place.short} is not in central memory")
+    return Column(place).shown(machine)[0][1]
 
 
 def place_of(text, number=None, symbols=AllSymbols()):

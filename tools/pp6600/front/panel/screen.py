@@ -6,8 +6,7 @@ from typing import Optional
 from ...language.names import AllSymbols
 from ...run.forms import CELLS, ROW, Place
 from ...run.state import State
-from .program import WIDTH, program_lines, sentence_line
-from .source_pane import source_lines
+from .rows_pane import WIDTH, rows_pane, sentence_line
 from .text import (
     CHANGED, CHOSEN, CURSOR, HEAD, HERE, REFUSED, SLOT, TITLE, WATCHED, Line, beside, in_height)
 from .view import View, central_top, memory_top
@@ -198,11 +197,8 @@ def memory_part(shown, rows, width):
     """Returns the memory of the chosen processor, with central memory beside it, or a source in the whole width."""
     view = shown.view
     if not view.shows_central:
-        return source_lines(shown, rows, width)
-    if view.source is not None:
-        memory = source_lines(shown, rows, WIDTH)
-    else:
-        memory = (program_lines if view.as_program else memory_lines)(shown, rows)
+        return rows_pane(shown, rows, width)
+    memory = rows_pane(shown, rows, WIDTH) if view.is_by_rows else memory_lines(shown, rows)
     return beside(memory, central_lines(shown, rows), CENTRAL_FROM)
 
 

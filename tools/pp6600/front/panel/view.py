@@ -7,8 +7,7 @@ from typing import TYPE_CHECKING, Optional
 from ...failure import Failure
 from ...run.disassembly import moved
 from ...run.forms import CELLS, CLOCK, KINDS, PROCESSORS, ROW
-from .program import present, program_of, rows_of
-from .source_pane import Cells, window_of
+from .rows_pane import Cells
 
 if TYPE_CHECKING:
     from ...language.sources import Source
@@ -27,13 +26,13 @@ class View:
     cell: int = 0
     following: bool = True  # the memory follows P
     top: int = 0  # the first cell shown
+    top_of_rows: tuple = (0, 0)  # the address of the first row shown, and how many of its lines are above
     as_program: bool = False  # the cells are shown as instructions
     has_display_code: bool = False  # and beside them as two symbols each
     as_source: bool = True  # they are shown as the source of their processor, if it has one
     source: Optional["Source"] = None  # that is shown
-    top_of_source: tuple = (0, 0)  # the address of the first row of it, and how many of its lines are above
     has_central: bool = False  # central memory is beside it
-    program: tuple = ()  # the cells, and the addresses at which an instruction begins
+    rows: Optional[Cells] = None  # the cells that are shown by rows
     word: int = 0  # the central address
     central_top: int = 0
 
@@ -101,8 +100,7 @@ class View:
 
     def move_rows(self, steps):
         """Moves the cursor by so many instructions."""
-        word, heads = self.program
-        self.go_to_cell(moved(word, self.cell, max(min(steps, CELLS), -CELLS), heads))
+        self.go_to_cell(moved(self.rows.word, self.cell, max(min(steps, CELLS), -CELLS), self.rows))
 
     def move_channel(self, steps, is_across):
         """Moves the cursor down, or across the two columns if there is a channel."""
@@ -143,17 +141,16 @@ class View:
             self.pane, self.processor = "processors", numbers[0]
             self.register = kind if kind in REGISTERS else self.register
 
+    def cells(self, state):
+        return Cells(state, self.processor, self.source)
+
     def scroll(self, state, rows, size):
         """Moves the windows to their cursors; each has so many rows, and central memory so many words."""
+        self.rows = self.cells(state)
         if self.following:
-            self.cell = present(state, self.processor) if self.is_by_rows else state.processors[self.processor].p
-        if self.source is not None:
-            cells = Cells(self.source, state, self.processor)
-            self.program = cells.word, cells.heads
-            _, self.top_of_source = window_of(state, self, rows)
-        elif self.as_program:
-            self.program = program_of(state, self.processor)
-            self.top = rows_of(state, self, rows)[0].address
+            self.cell = self.rows.present if self.is_by_rows else state.processors[self.processor].p
+        if self.is_by_rows:
+            _, self.top_of_rows = self.rows.window(self.top_of_rows, self.cell, rows)
         else:
             self.top = memory_top(self.top, self.cell, rows)
         self.central_top = central_top(self.central_top, self.word, rows, size)

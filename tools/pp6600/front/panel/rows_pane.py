@@ -1,0 +1,180 @@
+"""The memory of the chosen processor by rows: an instruction each, or as the source: a row for each instruction, with the line that it is of,
+or was, and before it the lines without words, as notes. `Source.line_of` says whose line a cell is. A cell of no line has its own row."""
+
+import functools
+import os
+from typing import TYPE_CHECKING, NamedTuple, Optional
+
+from ...language.display_code import text_of
+from ...language.source.statements import TAB, Line as SourceText
+from ...run.disassembly import Row, rows_above, rows_around, rows_from
+from ...run.forms import CELLS
+from ...run.sentences import sentence
+from .text import CURSOR, HEAD, HERE, OVERWRITTEN, WATCHED, Line
+
+if TYPE_CHECKING:
+    from ...language.sources import CellLine
+
+TEXT_FROM, LABEL_FROM = 17, 33  # the columns of an instruction and of its label
+DISPLAY_WIDTH = 5
+WIDTH = 52  # beside central memory
+
+
+class Entry(NamedTuple):
+    """What a line of the pane shows: a row of cells, with the source line that it is of, or was; or a line without words before it."""
+
+    row: Row
+    line: Optional["CellLine"] = None
+    note: Optional[SourceText] = None
+
+    def has(self, address):
+        return self.note is None and self.row.has(address)
+
+
+class Notes:
+    """The lines of a source without words, by what comes after them: a row of words, or the address of cells that a line leaves out, as
+    BSS does. Those that a macro made are none."""
+
+    def __init__(self, rows):
+        """The rows are those of the listing."""
+        self.before, self.at, waiting = {}, {}, []
+        self.digits = len(str(max(row.line.number for row in rows)))
+        for row, after in zip(rows, [*rows[1:], None]):
+            if row.words:
+                self.before[row], waiting = waiting, []
+                continue
+            waiting += [] if row.line.call else [row.line]
+            if after is None or row.has_address and after.origin != row.origin:
+                self.at.setdefault((row.location if after else row.origin) % CELLS, []).extend(waiting)
+                waiting = []
+
+    def of(self, address, line):
+        """Returns those that come before a cell, which is of a line."""
+        return self.at.get(address, []) + (self.before[line.row] if begins(line) else [])
+
+
+@functools.lru_cache(maxsize=None)
+def notes_of(source):
+    return Notes(source.program.rows)
+
+
+def begins(line):
+    """Returns whether a line begins at its cell, and is still there."""
+    return line is not None and line.is_there and not line.at
+
+
+class Cells:
+    """The cells of a processor, with the lines of its source if it has one."""
+
+    def __init__(self, state, number, source=None):
+        self.processor, memory, self.source = state.processors[number], state.memories[number], source
+        self.word, p = memory.word, self.processor.p
+        self.back = (memory.number(0) + 1) % CELLS if self.processor.phase else None  # where a block transfer goes on
+        self.here = self.processor.address(memory.number)  # its instruction, or that which began a block transfer, if it is there
+        self.present = p if self.here is None else self.here
+        self.heads = {self.present, p, self.back}
+
+    def __contains__(self, address):
+        """Returns whether a row begins at an address: one of the machine's, or where a line of the source begins."""
+        return address in self.heads or self.source is not None and begins(self.line(address))
+
+    def line(self, address):
+        """Returns the line that a cell is of, or was; None if it is of none."""
+        return self.source and self.source.line_of(address, self.word(address), self.word(address + 1))
+
+    def entries(self, rows):
+        """Returns what is shown of rows of cells."""
+        found = []
+        for row in rows:
+            line = self.line(row.address)
+            notes = notes_of(self.source).of(row.address, line) if self.source else ()
+            found += [*(Entry(row, note=note) for note in notes), Entry(row, line)]
+        return found
+
+    def window(self, top, address, count):
+        """Returns so many entries with a cell among them: from the top on if it is there with rows above it, else with some before it. The
+        top is the address of a row, and how many of its entries are above the window. Returns the top too."""
+        first, above = top
+        found = self.entries(rows_from(self.word, first, count + above, self))[above:above + count]
+        before = rows_above(next((at for at, entry in enumerate(found) if entry.has(address)), None), count, first)
+        if before is None:
+            return found, top
+        found = self.entries(rows_around(self.word, address, before, count - before - 1, self))
+        start = next(at for at, entry in enumerate(found) if entry.has(address)) - before
+        top = found[start].row.address, sum(entry.row == found[start].row for entry in found[:start])
+        return found[start:start + count], top
+
+
+# ---- the lines of the pane
+
+def sign_of(row, here, back, watched):
+    """Returns what is before a row: > for the cell at P, r where a block transfer goes on, w for a watched cell."""
+    if row.address in (here, back):
+        return ">" if row.address == here else "r"
+    return "w" if any(row.has(address) for address in watched) else " "
+
+
+def cells_line(shown, cells, row):
+    """Returns the beginning of the line of a row: what is before it, its address and its words."""
+    view, was = shown.view, shown.before.memories[shown.view.processor]
+    watched = shown.state.watched_cells(view.processor)
+    sign = sign_of(row, cells.processor.p, cells.back, watched)
+    line = Line(sign, HERE if sign in ">r" else None).add(f"{row.address:04o} ")
+    for at, word in enumerate(row.words):
+        address = (row.address + at) % CELLS
+        cursor = CURSOR if view.pane == "memory" and address == view.cell else None
+        line.add_number(word, was.word(address), cursor, WATCHED if address in watched else None)
+    return line.fit(TEXT_FROM)
+
+
+def instruction_line(shown, cells, row, named="", *marks):
+    """Returns the line of a row: its address, its words, the instruction, and beside it a text, or else its label."""
+    line, symbols, number, address = cells_line(shown, cells, row), shown.symbols, shown.view.processor, f"{row.address:04o}"
+    if shown.view.has_display_code:
+        line.add(text_of(row.words).ljust(DISPLAY_WIDTH))
+    line.add(row.text)
+    named = named or symbols.text(number, address, row.words[0]) or symbols.name(number, address)
+    return line.fit(max(LABEL_FROM, len(line.text) + 1)).add(named, *marks) if named else line
+
+
+def source_line(line, entry, is_present, digits, width):
+    """Appends to the beginning of a line the source line of an entry. The present one has > before its number; a + after it says that a
+    macro made the text."""
+    source, cell = entry.note or entry.line.row.line, entry.line
+    text, note = "" if cell and cell.at else source.text.expandtabs(TAB).rstrip(), cell.note if cell else ""
+    mark, mark_of_note = HERE if is_present else None, OVERWRITTEN if cell and cell.second is not None else None
+    line.fit(TEXT_FROM).add(f"{'>' if is_present else ' '}{source.number:{digits}}{'+' if source.call else ' '}", mark)
+    room = width - len(line.text) - len(note)
+    return line.add_line(Line(text, mark).fit(min(len(text), room))).add(note, mark_of_note)
+
+
+def entry_line(shown, cells, entry, width):
+    """Returns the line of an entry."""
+    row, line, source = entry.row, entry.line, cells.source
+    if entry.note or line and line.is_there:
+        begun = Line() if entry.note else cells_line(shown, cells, row)
+        return source_line(begun, entry, not entry.note and row.address == cells.here, notes_of(source).digits, width)
+    was = f"was {os.path.basename(source.path)}:{line.number}" if line else ""
+    return instruction_line(shown, cells, row, was, OVERWRITTEN if was else None)
+
+
+def head_line(shown, cells):
+    """Returns the line above the rows: what they are, and where the processor is."""
+    number, source = shown.view.processor, cells.source
+    at = shown.symbols.name(number, cells.processor.registers["P"]) if cells.back is None else ""
+    head = Line(f"PP {number:02o}  {'SOURCE' if source else 'INSTRUCTIONS'}", HEAD).add(f"   P is {at}" if at else "")
+    head.add("" if cells.back is None else f"   in a block; returns to {cells.back:04o}")
+    return head.add(f"   {os.path.basename(source.path)}, lines in decimal" if source else "")
+
+
+def rows_pane(shown, count, width):
+    """Returns so many lines of the memory by rows, around P or the cursor, below a head."""
+    view, cells = shown.view, shown.view.cells(shown.state)
+    entries, _ = cells.window(view.top_of_rows, view.cell, count)
+    return [head_line(shown, cells).fit(width), *(entry_line(shown, cells, entry, width).fit(width) for entry in entries)]
+
+
+def sentence_line(shown):
+    """Returns what the next turn of the chosen processor does."""
+    number, state = shown.view.processor, shown.state
+    return Line(f"PP {number:02o} {sentence(state.processors[number], state.memories[number].number, state.channels)}")
