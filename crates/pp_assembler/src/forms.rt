@@ -1,11 +1,10 @@
 //! What is written of a source: what is wrong with it, its words, its listing, whose line each word is, its names.
 use crate::digits::put_octal;
 use crate::listing::put_row;
-use crate::message::Message;
+use crate::message::Complaint;
 use crate::pass::CELLS;
 use crate::program::Assembly;
 use crate::symbols::Symbol;
-use crate::wording::message_text;
 use std::alloc::{AllocError, Global};
 
 /// Returns a line for each message and then for each warning: its line and its column, decimal and from 1, and its text.
@@ -14,25 +13,21 @@ use std::alloc::{AllocError, Global};
 /// Memory ran out.
 pub fn complaints_text(alloc: Global, made: &Assembly) -> Result<Vec<u8>, AllocError> {
     let mut out = Vec::new(alloc);
-    put_messages(alloc, &mut out, made, made.messages.as_slice())?;
-    put_messages(alloc, &mut out, made, made.warnings.as_slice())?;
+    put_complaints(alloc, &mut out, &made.messages)?;
+    put_complaints(alloc, &mut out, &made.warnings)?;
     Ok(out)
 }
 
-/// Writes a line for each message.
-fn put_messages(
+/// Writes a line for each complaint.
+fn put_complaints(
     alloc: Global,
     out: &mut Vec<u8>,
-    made: &Assembly,
-    messages: &[Message],
+    complaints: &[Complaint],
 ) -> Result<(), AllocError> {
-    for message in messages {
-        let line = message.line;
-        let column = message.column;
-        let place = format!(in alloc; "{line}:{column}: ")?;
-        out.extend_from_slice(place.as_bytes())?;
-        let text = message_text(alloc, made, message)?;
-        out.extend_from_slice(text.as_slice())?;
+    for complaint in complaints {
+        let (line, column) = (complaint.line, complaint.column);
+        out.extend_from_slice(format!(in alloc; "{line}:{column}: ")?.as_bytes())?;
+        out.extend_from_slice(&complaint.text)?;
         out.push(b'\n')?;
     }
     Ok(())
@@ -88,7 +83,12 @@ pub fn lines_text(alloc: Global, made: &Assembly) -> Result<Vec<u8>, AllocError>
 }
 
 /// Writes the rest of a line: a location, an origin and words, each after a blank.
-fn put_numbers(out: &mut Vec<u8>, location: i64, origin: i64, words: &[u16]) -> Result<(), AllocError> {
+fn put_numbers(
+    out: &mut Vec<u8>,
+    location: i64,
+    origin: i64,
+    words: &[u16],
+) -> Result<(), AllocError> {
     for address in [location, origin] {
         out.push(b' ')?;
         put_octal(out, address, 4)?;
@@ -118,7 +118,10 @@ fn put_name(out: &mut Vec<u8>, key: &[u8], symbol: &Symbol) -> Result<(), AllocE
     let Some(definition) = symbol.seen else {
         return Ok(());
     };
-    let Some(value) = definition.value.filter(|value| *value >= 0 && !definition.is_set) else {
+    let Some(value) = definition
+        .value
+        .filter(|value| *value >= 0 && !definition.is_set)
+    else {
         return Ok(());
     };
     out.extend_from_slice(without_qualifier(key))?;

@@ -162,7 +162,17 @@ impl<T: Drop> From<AllocFailed<T>> for Stop {
     }
 }
 
-/// A fault, or a warning, of a source.
+/// What is wrong with a source, or what is to be known, at a place of it.
+#[derive(Drop, PartialEq, Eq, PartialOrd, Ord)]
+pub struct Complaint {
+    /// From 1.
+    pub line: u32,
+    /// From 1.
+    pub column: u32,
+    pub text: Vec<u8>,
+}
+
+/// A fault, or a warning, of a statement.
 #[derive(Clone, Copy)]
 pub struct Message {
     /// From 1.

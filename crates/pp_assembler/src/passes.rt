@@ -7,7 +7,7 @@ use crate::lines::{Lines, Span, cut_lines, read_lines};
 use crate::message::{Fault, Message};
 use crate::pass::{CELLS, Pass, Slot};
 use crate::performing::Ending;
-use crate::places::{placed, sorted};
+use crate::places::complaints;
 use crate::program::{Assembly, Cell, Program};
 use crate::symbols::Symbols;
 use crate::units::{Blocks, Unit};
@@ -111,17 +111,22 @@ fn assembly_of(
         let Unit { program, .. } = units.remove(0);
         program
     };
-    let messages = placed(alloc, sorted(messages)?.as_slice(), spans)?;
-    let warnings = placed(alloc, sorted(warnings)?.as_slice(), spans)?;
-    Ok(Assembly {
+    let made = Assembly {
         program,
         others: units,
         lines,
         symbols,
         words,
         rows,
+        messages: Vec::new(alloc),
+        warnings: Vec::new(alloc),
+    };
+    let messages = complaints(alloc, &made, &messages, spans)?;
+    let warnings = complaints(alloc, &made, &warnings, spans)?;
+    Ok(Assembly {
         messages,
         warnings,
+        ..made
     })
 }
 

@@ -3,7 +3,7 @@ ghost use Rattle.std.specs.Prelude.{◌≡◌};
 ghost use Rattle.pp_assembler.specs.Cells.{IsProgram, IsStart};
 
 use crate::lines::Lines;
-use crate::message::Message;
+use crate::message::Complaint;
 use crate::pass::Row;
 use crate::symbols::Symbols;
 use crate::units::Unit;
@@ -72,7 +72,7 @@ pub struct Assembly {
     pub words: Vec<u16>,
     pub rows: Vec<Row>,
     /// What is wrong, in the order of the lines.
-    pub messages: Vec<Message>,
+    pub messages: Vec<Complaint>,
     /// What is to be known, in the order of the lines.
-    pub warnings: Vec<Message>,
+    pub warnings: Vec<Complaint>,
 }

@@ -118,9 +118,9 @@ impl Literals {
 
     /// Returns the address of these words; equal ones are there once.
     pub fn address_of(&mut self, words: &[u16]) -> Result<i64, AllocError> {
-        for literal in &self.all {
-            if self.words.get(literal.first..literal.end) == Some(words) {
-                return Ok(self.address_at(literal.first));
+        for index in 0..self.all.len() {
+            if self.words_at(index) == words {
+                return Ok(self.address_at(self.all[index].first));
             }
         }
         let first = self.words.len();
