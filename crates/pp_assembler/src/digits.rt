@@ -1,4 +1,4 @@
-//! Octal digits.
+//! Octal and decimal digits.
 ghost use Rattle.std.specs.Prelude.{◌≤◌};
 
 use pp_arith::octal;
@@ -13,4 +13,22 @@ pub fn put_octal(out: &mut Vec<u8>, number: i64, width: u8) -> Result<(), AllocE
         out.push(b'-')?;
     }
     out.extend_from_slice(octal(number.unsigned_abs(), width).as_slice())
+}
+
+/// Writes the digits of a number after its sign, with zeros up to a width.
+pub fn put_digits(
+    out: &mut Vec<u8>,
+    number: i64,
+    digits: &[u8],
+    width: usize,
+) -> Result<(), AllocError> {
+    let mut size = digits.len();
+    if number < 0 {
+        out.push(b'-')?;
+        size = size.saturating_add(1);
+    }
+    for _ in size..width {
+        out.push(b'0')?;
+    }
+    out.extend_from_slice(digits)
 }

@@ -111,7 +111,7 @@ impl Pass {
     pub fn put(&mut self, here: &Here, words: &[u16]) -> Result<(), Stop> {
         self.made = self.made.saturating_add(words.len());
         if self.made > MOST_WORDS {
-            return Err(Stop::Ends(0, Fault::new("more than 100000 (decimal) words")));
+            return Err(Stop::too_much("more than 100000 (decimal) words"));
         }
         self.row(here, words)?;
         let mut cell = self.origin;

@@ -1,7 +1,9 @@
 //! The language of PP programs, as docs/ASSEMBLER.md has it: a source to words.
 #![tactic(auto)]
 
+mod blocks;
 mod cells;
+mod conditions;
 mod digits;
 mod directives;
 mod disassembly;
@@ -12,8 +14,10 @@ mod forms;
 mod instructions;
 mod lines;
 mod listing;
+mod macros;
 mod makers;
 mod message;
+mod micros;
 mod nearest;
 mod operations;
 mod pass;
@@ -21,6 +25,8 @@ mod passes;
 mod performing;
 mod places;
 mod program;
+mod remote;
+mod running;
 mod source_text;
 mod statement;
 mod symbols;
@@ -29,6 +35,7 @@ mod tests;
 mod texts;
 mod units;
 mod values;
+mod vocabulary;
 mod wording;
 
 pub use cells::are_cells;

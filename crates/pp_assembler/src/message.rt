@@ -42,14 +42,16 @@ pub enum Argument {
     Instruction(u8),
     /// The symbol that may be meant by this one, if there is one.
     NearestSymbol(Field),
-    /// The operation that may be meant by this one, if there is one.
-    NearestOperation(Field),
+    /// The operation that may be meant by this one, if there is one, of which so many are macros.
+    NearestOperation(Field, usize),
     /// The instruction that takes a greater operand than that with this code, if there is one.
     Wider(Field, u8),
     /// A name that the symbols keep.
     Kept(Span),
     /// What reaches the target of the relative jump with this code.
     Reaching(Field, u8),
+    /// The names of a macro's operands.
+    Names(Span),
 }
 
 /// What is wrong: a text, and what stands in it in place of each `{}`.
@@ -131,6 +133,8 @@ pub enum Stop {
     Follows,
     /// A fault at a column, from 0, after which nothing is assembled.
     Ends(usize, Fault),
+    /// The source makes too much.
+    TooMuch(Fault),
     /// Memory ran out.
     NoMemory,
 }
@@ -139,6 +143,10 @@ impl Stop {
     /// Returns a fault at the first column of a part, which is its argument.
     pub fn of(text: &'static str, part: Field) -> Self {
         Stop::At(part.first, Fault::new(text).part(part))
+    }
+
+    pub fn too_much(text: &'static str) -> Self {
+        Stop::TooMuch(Fault::new(text))
     }
 
     /// Returns that this assembler does not know a part of the line yet.

@@ -1,17 +1,25 @@
 //! One pass over the statements of a source: its counters, its names, and what it has made.
 use crate::fields::Statement;
-use crate::lines::{Join, Line};
+use crate::lines::{Join, Line, Lines, Span};
+use crate::macros::Repetition;
 use crate::message::{Argument, Fault, Field, Message, Stop};
+use crate::running::{Job, Run};
 use crate::symbols::{Definition, Symbols};
 use crate::texts::{Filling, Text, text_at, without_code};
 use crate::units::{Blocks, Literals, Unit};
 use crate::values::{Base, Expression, Scope, Value, number_of};
+use crate::vocabulary::Vocabulary;
 use std::alloc::{AllocError, Global};
 
 /// The number of cells of a memory.
 pub const CELLS: usize = 4096;
 /// How many statements a source has, those of a macro of its own among them.
-const MOST_STATEMENTS: u32 = 100_000;
+pub const MOST_STATEMENTS: u32 = 100_000;
+
+/// Returns that a source makes too many statements.
+pub fn too_many_statements() -> Stop {
+    Stop::too_much("more than 100000 (decimal) statements")
+}
 
 /// The line that is performed.
 #[derive(Clone, Copy)]
@@ -23,18 +31,47 @@ pub struct Here<'a> {
     pub joins: &'a [Join],
 }
 
-impl Here<'_> {
+impl<'a> Here<'a> {
+    /// Returns a line with an index.
+    pub fn new(lines: &'a Lines, index: usize) -> Self {
+        let nothing = Span { first: 0, end: 0 };
+        let line = lines.all.get(index).copied().unwrap_or(Line {
+            number: 0,
+            text: nothing,
+            read: nothing,
+            joins: nothing,
+            call: None,
+        });
+        Here {
+            index,
+            line,
+            text: lines.capitals_of(line),
+            joins: lines.joins_of(line),
+        }
+    }
+
+    /// Returns where a part of the line is in the capitals of all lines.
+    pub fn span_of(&self, part: Field) -> Span {
+        let before = self.line.read.first;
+        Span {
+            first: before.saturating_add(part.first),
+            end: before.saturating_add(part.end),
+        }
+    }
+
     /// Returns the line and the column, from 1, of a column of the line, from 0.
-    fn place_of(&self, column: usize) -> (u32, usize) {
+    pub fn place_of(&self, column: usize) -> (u32, usize) {
         if let Some(call) = self.line.call {
-            return (self.line.number, call.saturating_add(1));
+            return (self.line.number, call.column.saturating_add(1));
         }
         let mut place = (self.line.number, column.saturating_add(1));
         for join in self.joins {
             if join.column <= column {
                 place = (
                     join.number,
-                    column.saturating_sub(join.column).saturating_add(2),
+                    column
+                        .saturating_sub(join.column)
+                        .saturating_add(join.first),
                 );
             }
         }
@@ -48,6 +85,16 @@ impl Here<'_> {
             line,
             column: u32::try_from(column).unwrap_or(u32::MAX),
             statement: self.index,
+            fault,
+        }
+    }
+
+    /// Returns a message of the line that is the last one.
+    pub fn last_message(&self, fault: Fault) -> Message {
+        Message {
+            line: self.line.number,
+            column: 1,
+            statement: usize::MAX,
             fault,
         }
     }
@@ -119,6 +166,18 @@ pub struct Pass {
     /// How many words and statements there are.
     pub made: usize,
     pub performed: u32,
+    /// How many lines macros have made, or HERE has performed.
+    pub made_lines: u32,
+    pub vocabulary: Vocabulary,
+    /// The index of the present line, and the run that it is of.
+    pub at: usize,
+    pub present: Run,
+    /// What is still to be done, first the last one.
+    pub jobs: Vec<Job>,
+    /// The names of the statements whose end is looked for.
+    pub open_names: Vec<Span>,
+    /// The lines between two IRP that the next lines of a macro are within.
+    pub parts: Vec<Repetition>,
 }
 
 impl Pass {
@@ -156,7 +215,14 @@ impl Pass {
             unit_name: Vec::new(alloc),
             units: Vec::new(alloc),
             made: 0,
-            performed: 1,
+            performed: 0,
+            made_lines: 0,
+            vocabulary: Vocabulary::new(alloc),
+            at: 0,
+            present: Run::new(),
+            jobs: Vec::new(alloc),
+            open_names: Vec::new(alloc),
+            parts: Vec::new(alloc),
         };
         pass.begin_unit(b"")?;
         Ok(pass)
@@ -171,7 +237,16 @@ impl Pass {
     pub fn count_statement(&mut self) -> Result<(), Stop> {
         self.performed = self.performed.saturating_add(1);
         if self.performed > MOST_STATEMENTS {
-            return Err(Stop::Ends(0, Fault::new("more than 100000 (decimal) statements")));
+            return Err(too_many_statements());
+        }
+        Ok(())
+    }
+
+    /// Counts one more line that another one makes.
+    pub fn count_made(&mut self) -> Result<(), Stop> {
+        self.made_lines = self.made_lines.saturating_add(1);
+        if self.made_lines > MOST_STATEMENTS {
+            return Err(too_many_statements());
         }
         Ok(())
     }
@@ -189,7 +264,7 @@ impl Pass {
         match stop {
             Stop::At(column, fault) => self.report(here, column, fault),
             Stop::Follows => Ok(()),
-            Stop::Ends(..) | Stop::NoMemory => Err(stop),
+            Stop::Ends(..) | Stop::TooMuch(_) | Stop::NoMemory => Err(stop),
         }
     }
 

@@ -30,14 +30,14 @@ pub fn assemble(alloc: Global, source: &[u8]) -> Result<Assembly, AllocError>
     ensures warnings { IfOk result (λ made. All (IsOfLine (line_lengths source.now)) made.warnings.items) }
 {
     let spans = cut_lines(alloc, source)?;
-    let lines = read_lines(alloc, source, &spans)?;
+    let mut lines = read_lines(alloc, source, &spans)?;
     let mut pass = Pass::new(alloc, Symbols::new(alloc), Blocks::new(alloc), false)?;
-    if let Err(ending) = pass.run(&lines) {
+    if let Err(ending) = pass.run(&mut lines) {
         return ended(alloc, lines, pass, &spans, ending);
     }
     for _ in 1..MOST_PASSES {
         pass = next_pass(alloc, pass)?;
-        if let Err(ending) = pass.run(&lines) {
+        if let Err(ending) = pass.run(&mut lines) {
             return ended(alloc, lines, pass, &spans, ending);
         }
         if pass.has_settled() {
@@ -96,6 +96,7 @@ fn assembly_of(
 {
     let Pass {
         symbols,
+        vocabulary,
         cells,
         words,
         rows,
@@ -116,6 +117,7 @@ fn assembly_of(
         others: units,
         lines,
         symbols,
+        vocabulary,
         words,
         rows,
         messages: Vec::new(alloc),

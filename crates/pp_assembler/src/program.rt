@@ -7,6 +7,7 @@ use crate::message::Complaint;
 use crate::pass::Row;
 use crate::symbols::Symbols;
 use crate::units::Unit;
+use crate::vocabulary::Vocabulary;
 
 /// A word that a source puts into a cell of the memory.
 #[repr(C)]
@@ -68,6 +69,7 @@ pub struct Assembly {
     /// The lines, each with those that continue it.
     pub lines: Lines,
     pub symbols: Symbols,
+    pub vocabulary: Vocabulary,
     /// The words of the rows.
     pub words: Vec<u16>,
     pub rows: Vec<Row>,

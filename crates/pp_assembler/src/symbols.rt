@@ -185,7 +185,7 @@ impl Symbols {
     /// Returns whether a line above or the pass before has defined a name.
     pub fn is_named(&self, name: &[u8]) -> bool {
         match self.meant(name) {
-            Some(symbol) if symbol.seen.is_some() => true,
+            Some(Symbol { seen: Some(_), .. }) => true,
             _ => match self.index_of(b"", name) {
                 Some(index) => self.all[index].before.is_some(),
                 None => false,
@@ -248,6 +248,11 @@ impl Symbols {
                 seen: Some(definition),
             })?,
         )
+    }
+
+    /// Returns what a name stands for by a line above.
+    pub fn seen(&self, name: &[u8]) -> Option<Definition> {
+        self.meant(name)?.seen
     }
 
     /// Returns what a name stands for. Only a name of a line above counts if that is asked, and of SET in any case. In the first pass

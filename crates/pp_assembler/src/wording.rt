@@ -1,14 +1,16 @@
 //! The text of a message: what is wrong, and what to write instead.
 use crate::digits::put_octal;
+use crate::fields::length_without_blanks;
 use crate::instructions::{INSTRUCTIONS, NAMES, name_of};
+use crate::lines::{Line, Span};
 use crate::message::{Argument, Fault, Field, Message};
 use crate::nearest::Nearest;
 use crate::operations::{OPERATIONS, Operation};
 use crate::program::Assembly;
-use crate::texts::is_alphanumeric;
+use crate::texts::{after_blanks, is_alphanumeric};
 use std::alloc::{AllocError, Global};
 
-/// How many symbols of a line that SUBR made are shown.
+/// How many symbols of a line that a macro made are shown.
 const MOST_SHOWN: usize = 72;
 
 /// A text that is written, about a line in capitals.
@@ -41,13 +43,20 @@ pub fn message_text(
         out: Vec::new(alloc),
     };
     writer.fault(message.fault)?;
-    if let Some(line) = line {
-        if line.call.is_some() {
-            writer.text(b" (in the macro SUBR: ")?;
-            let text = assembly.lines.text_of(line).get(1..).unwrap_or(b"");
-            writer.text(text.get(..MOST_SHOWN).unwrap_or(text))?;
-            writer.text(b")")?;
-        }
+    if let Some(
+        Line {
+            call: Some(call),
+            text,
+            ..
+        },
+    ) = line
+    {
+        writer.text(b" (in the macro ")?;
+        writer.text(call.name.of(&assembly.lines.capitals))?;
+        writer.text(b": ")?;
+        let text = stripped(text.of(&assembly.lines.text));
+        writer.text(text.get(..MOST_SHOWN).unwrap_or(text))?;
+        writer.text(b")")?;
     }
     let Writer { out, .. } = writer;
     Ok(out)
@@ -94,14 +103,11 @@ impl Writer<'_> {
             }
             Argument::Instruction(code) => self.instruction(code),
             Argument::NearestSymbol(name) => self.nearest_symbol(name),
-            Argument::NearestOperation(name) => {
-                let mut nearest = Nearest::new(name.of(self.line));
-                see_operations(&mut nearest);
-                self.nearest(nearest.found())
-            }
+            Argument::NearestOperation(name, macros) => self.nearest_operation(name, macros),
             Argument::Wider(operand, code) => self.wider(operand, code),
             Argument::Kept(name) => self.text(self.assembly.symbols.text_of(name)),
             Argument::Reaching(target, code) => self.reaching(target, code),
+            Argument::Names(operands) => self.names(operands),
         }
     }
 
@@ -118,6 +124,30 @@ impl Writer<'_> {
             }
         }
         self.nearest(nearest.found())
+    }
+
+    /// Writes the operation that may be meant, of which so many are macros.
+    fn nearest_operation(&mut self, name: Field, macros: usize) -> Result<(), AllocError> {
+        let mut nearest = Nearest::new(name.of(self.line));
+        see_operations(&mut nearest);
+        let vocabulary = &self.assembly.vocabulary;
+        for one in vocabulary.macros.get(..macros).unwrap_or(&[]) {
+            nearest.see(vocabulary.text_of(one.name));
+        }
+        self.nearest(nearest.found())
+    }
+
+    /// Writes the names of a macro's operands.
+    fn names(&mut self, operands: Span) -> Result<(), AllocError> {
+        let vocabulary = &self.assembly.vocabulary;
+        for index in operands.first..operands.end {
+            if let Some(operand) = vocabulary.operands.get(index) {
+                self.text(if index > operands.first { b", " } else { b"" })?;
+                self.text(vocabulary.text_of(operand.name))?;
+                self.text(b"=")?;
+            }
+        }
+        Ok(())
     }
 
     /// Writes the name that may be meant.
@@ -193,7 +223,13 @@ fn is_distance(text: &[u8]) -> bool {
     }
 }
 
-/// Looks at the names of all operations.
+/// Returns a text without the blanks at its ends.
+fn stripped(text: &[u8]) -> &[u8] {
+    let text = text.get(..length_without_blanks(text)).unwrap_or(text);
+    text.get(after_blanks(text, 0)..).unwrap_or(b"")
+}
+
+/// Looks at the operations that are no macros.
 fn see_operations(nearest: &mut Nearest) {
     for code in 0..INSTRUCTIONS {
         if code != 0o24 && code != 0o25 {
@@ -203,7 +239,7 @@ fn see_operations(nearest: &mut Nearest) {
     for (names, operation) in &OPERATIONS {
         if !matches!(
             operation,
-            Operation::Lines | Operation::Inside | Operation::Refused(_)
+            Operation::Lines(_) | Operation::Inside | Operation::Refused(_)
         ) {
             for one in names.split_whitespace() {
                 nearest.see(one.as_bytes());

@@ -1,0 +1,107 @@
+//! Directives that perform lines from elsewhere, or give operations other names.
+use crate::directives::the_only;
+use crate::fields::Statement;
+use crate::lines::{Lines, Span};
+use crate::message::Stop;
+use crate::operations::Elsewhere;
+use crate::pass::{Here, Pass};
+use crate::texts::find;
+use crate::vocabulary::{Macro, Meaning};
+
+impl Pass {
+    pub fn elsewhere(
+        &mut self,
+        lines: &mut Lines,
+        statement: Statement,
+        directive: Elsewhere,
+    ) -> Result<(), Stop> {
+        let here = Here::new(lines, self.at);
+        match directive {
+            Elsewhere::Deck => Err(Stop::not_yet(statement.operation)),
+            Elsewhere::Synonym => self.name_operation(&here, statement),
+            Elsewhere::Purge => self.purge(&here, statement),
+            Elsewhere::Here => {
+                self.plain_row(&here, false)?;
+                let name = if statement.location.is_empty() {
+                    statement.operand
+                } else {
+                    statement.location
+                };
+                let name = self.vocabulary.keep(name.of(here.text))?;
+                let first = lines.all.len();
+                self.copy_remote(lines, name)?;
+                let end = lines.all.len();
+                self.push_run(Span { first, end }, 1, 0)
+            }
+        }
+    }
+
+    /// Copies the lines of RMT with a name, which are then no longer kept.
+    fn copy_remote(&mut self, lines: &mut Lines, name: Span) -> Result<(), Stop> {
+        for index in 0..self.vocabulary.remote.len() {
+            let Some(remote) = self.vocabulary.remote.get(index).copied() else {
+                break;
+            };
+            let words = &self.vocabulary;
+            if remote.is_taken || words.text_of(remote.name) != words.text_of(name) {
+                continue;
+            }
+            if let Some(remote) = self.vocabulary.remote.get_mut(index) {
+                remote.is_taken = true;
+            }
+            self.copy_lines(lines, remote.lines)?;
+        }
+        Ok(())
+    }
+
+    fn copy_lines(&mut self, lines: &mut Lines, span: Span) -> Result<(), Stop> {
+        for index in span.first..span.end {
+            self.count_made()?;
+            if let Some(line) = lines.all.get(index).copied() {
+                lines.all.push(line)?;
+            }
+        }
+        Ok(())
+    }
+
+    /// Copies all lines of RMT, those with one name after those with another, and returns where they are.
+    pub fn all_remote(&mut self, lines: &mut Lines) -> Result<Span, Stop> {
+        let first = lines.all.len();
+        for index in 0..self.vocabulary.remote.len() {
+            if let Some(remote) = self.vocabulary.remote.get(index).copied() {
+                self.copy_remote(lines, remote.name)?;
+            }
+        }
+        Ok(Span {
+            first,
+            end: lines.all.len(),
+        })
+    }
+
+    /// OPSYN gives an operation another name; a macro with it is the same macro.
+    fn name_operation(&mut self, here: &Here, statement: Statement) -> Result<(), Stop> {
+        let old = the_only(here, statement)?.of(here.text);
+        let words = &mut self.vocabulary;
+        let name = words.keep(statement.location.of(here.text))?;
+        match words.macro_of(old) {
+            Some(one) => words.macros.push(Macro { name, ..one })?,
+            None => {
+                let text = words.keep(old)?;
+                words.synonyms.push(Meaning { name, text })?;
+            }
+        }
+        self.plain_row(here, false)
+    }
+
+    /// PURGMAC forgets macros.
+    fn purge(&mut self, here: &Here, statement: Statement) -> Result<(), Stop> {
+        let names = statement.operand.of(here.text);
+        let mut first: usize = 0;
+        for _ in 0..names.len() {
+            let end = find(names, first, b',').unwrap_or(names.len());
+            self.vocabulary.purge(names.get(first..end).unwrap_or(b""));
+            first = end.saturating_add(1);
+        }
+        self.plain_row(here, false)
+    }
+}
