@@ -222,7 +222,7 @@ class InC(LibraryCase):
 
     def test_examples_run_and_leak_nothing(self):
         folder = os.path.join(TOP, "docs", "library")
-        for name in ("session", "statuses"):
+        for name in ("assembler", "session", "statuses"):
             target = self.compiled(os.path.join(folder, f"{name}.c"))
             done = self.run_under(target)
             self.assertEqual((done.returncode, done.stderr), (0, ""))

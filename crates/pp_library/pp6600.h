@@ -35,6 +35,12 @@ typedef struct {
     uint32_t processor, count;
 } pp6600_turn;
 
+/* A cell of a program: its address and its word, each of 12 bits, and the line of the source, or 0. */
+typedef struct {
+    uint16_t address, word;
+    uint32_t line;
+} pp6600_cell;
+
 /* What a call returns. If it is not DONE, ROOM or WATCHED, or LIMIT of pp6600_answer, the call has changed no session. */
 enum {
     PP6600_DONE = 0,
@@ -43,7 +49,8 @@ enum {
     PP6600_CLOSED = 3,    /* the handle has no session */
     PP6600_OPEN = 4,      /* the handle has a session already */
     PP6600_NO_MEMORY = 5, /* memory ran out */
-    PP6600_REFUSED = 6,   /* open: the program refuses this; numbers, looks: no such place; back, forward, again: too few actions */
+    PP6600_REFUSED = 6,   /* open: the program refuses this; numbers, looks: no such place; back, forward, again: too few actions;
+                           * assemble: no such form; load_lines: a fault, or no such processor; disassemble: more than 12 bits */
     PP6600_LIMIT = 7,     /* answer: it stopped before a line past 1,000,000 lines or 268,435,456 bytes */
     PP6600_NOT_A_TURN = 8 /* not used */
 };
@@ -117,12 +124,33 @@ uint32_t pp6600_looks(pp6600 *session, uint32_t most, const uint32_t *places, si
 /* Closes the session, and gives its memory back. The handle can be opened again. */
 uint32_t pp6600_close(pp6600 *session);
 
-/* Assembles a source, and writes into `into` what form asks for. 0: a line for each fault and each warning, as "3:18: LATER is not defined".
- * 1: a line for each word, as "0100 1405", and "P 0100" if END says where the program begins. 2: the listing. *count: the bytes of it.
- * *messages: how many faults the source has; if there is one, its words are not to be used. ROOM: `into` has room for fewer than *count
- * bytes, and nothing is written. REFUSED: no such form. No session is needed. */
+/* What pp6600_assemble writes of a source. Numbers are octal, but for those of COMPLAINTS. */
+enum {
+    PP6600_COMPLAINTS = 0, /* a line for each fault and then each warning, as "3:18: LATER is not defined": line and column, from 1 */
+    PP6600_WORDS = 1,      /* a line for each word, as "0100 1405", and "P 0100" if END says where the program begins */
+    PP6600_LISTING = 2,    /* the listing */
+    PP6600_LINES = 3,      /* a line for each row of the listing that has words: the number of its line of the source, the address of its
+                            * first word, the address to which this is loaded, and its words, as "5 0101 0101 0100 0300" */
+    PP6600_NAMES = 4       /* a line for each label, as "START 0100", and for each other name of one number, as "SIZE = 12" */
+};
+
+/* The calls below need no session. *count: the bytes of the text that they write. ROOM: `into` has room for fewer than *count bytes, and
+ * nothing is written. */
+
+/* Assembles a source, and writes into `into` what form asks for. *messages: how many faults the source has; if there is one, its words are
+ * not to be used. REFUSED: no such form. */
 uint32_t pp6600_assemble(const uint8_t *source, size_t source_bytes, uint32_t form, uint8_t *into, size_t room, size_t *count,
     size_t *messages);
+
+/* Assembles a source, and writes the lines of the console that load its program into a processor, 0 to 9: the SET M lines, and SET P if END
+ * says where the program begins. REFUSED: no such processor, or *messages faults, for which PP6600_COMPLAINTS has the texts. */
+uint32_t pp6600_load_lines(const uint8_t *source, size_t source_bytes, uint32_t processor, uint8_t *into, size_t room, size_t *count,
+    size_t *messages);
+
+/* Writes a source that assembles to these cells. What a processor reaches from the entries on is code, and the rest is data; an entry that is
+ * no address of a cell is passed over. REFUSED: an address or a word has more than 12 bits. */
+uint32_t pp6600_disassemble(const pp6600_cell *cells, size_t cell_count, const uint16_t *entries, size_t entry_count, uint8_t *into,
+    size_t room, size_t *count);
 
 #ifdef __cplusplus
 }

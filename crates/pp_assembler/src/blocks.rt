@@ -288,7 +288,8 @@ impl Pass {
         let word = statement.operation.of(here.text);
         let name = statement.location.of(here.text);
         if word == outer.end().as_bytes() {
-            self.open_names.truncate(opened_by(lines, &self.open_names, name));
+            self.open_names
+                .truncate(opened_by(lines, &self.open_names, name));
             return Ok(false);
         }
         match operation_of(word) {
@@ -298,10 +299,12 @@ impl Pass {
                 }
                 Ok(false)
             }
-            _ => Ok(matches!(word, b"ELSE")
-                && outer.is_condition()
-                && !has_middle
-                && opened_by(lines, &self.open_names, name) == 0),
+            _ => Ok(
+                matches!(word, b"ELSE")
+                    && outer.is_condition()
+                    && !has_middle
+                    && opened_by(lines, &self.open_names, name) == 0,
+            ),
         }
     }
 

@@ -5,8 +5,8 @@ use crate::message::{Fault, Field, Stop};
 use crate::pass::{Here, Pass};
 use crate::texts::{after_blanks, code_of, end_of_word, find};
 
-const TEXTS_WANTED: &str =
-    "IFC wants EQ, NE, GT, GE, LT or LE, a comma and *one text*other text*";
+const TEXTS_WANTED: &str = "IFC wants EQ, NE, GT, GE, LT or LE, a comma and *one text*other text*";
+
 const ATTRIBUTE_WANTED: &str =
     "IF wants DEF, SET, MIC, ABS, REL, EXT, COM, LCM, REG, SST or one of these after a minus, and a symbol";
 
@@ -148,12 +148,7 @@ impl Pass {
     }
 
     /// Returns whether a symbol or an expression has an attribute: IF DEF,X; a minus before it turns it round.
-    fn has_attribute(
-        &self,
-        here: &Here,
-        attribute: Field,
-        operand: Field,
-    ) -> Result<bool, Stop> {
+    fn has_attribute(&self, here: &Here, attribute: Field, operand: Field) -> Result<bool, Stop> {
         let name = operand.of(here.text);
         let seen = self.symbols.seen(name);
         let word = attribute.of(here.text);

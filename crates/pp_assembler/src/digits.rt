@@ -1,30 +1,22 @@
 //! Octal and decimal digits.
-use std::alloc::{AllocError, Global};
+ghost use Rattle.std.specs.Prelude.{◌≤◌};
 
-/// Writes an octal number, with zeros up to a width.
-pub fn put_octal(
-    alloc: Global,
-    out: &mut Vec<u8>,
-    number: i64,
-    width: usize,
-) -> Result<(), AllocError> {
-    let magnitude = number.unsigned_abs();
-    put_digits(out, number, format!(in alloc; "{magnitude:o}")?.as_bytes(), width)
-}
+use pp_arith::octal;
+use std::alloc::AllocError;
 
-/// Writes a decimal number, with zeros up to a width.
-pub fn put_decimal(
-    alloc: Global,
-    out: &mut Vec<u8>,
-    number: i64,
-    width: usize,
-) -> Result<(), AllocError> {
-    let magnitude = number.unsigned_abs();
-    put_digits(out, number, format!(in alloc; "{magnitude}")?.as_bytes(), width)
+/// Writes an octal number, with zeros up to a width, 1 to 22.
+pub fn put_octal(out: &mut Vec<u8>, number: i64, width: u8) -> Result<(), AllocError>
+    requires some { 1 ≤ width }
+    requires at_most { width ≤ 22 }
+{
+    if number < 0 {
+        out.push(b'-')?;
+    }
+    out.extend_from_slice(octal(number.unsigned_abs(), width).as_slice())
 }
 
 /// Writes the digits of a number after its sign, with zeros up to a width.
-fn put_digits(
+pub fn put_digits(
     out: &mut Vec<u8>,
     number: i64,
     digits: &[u8],

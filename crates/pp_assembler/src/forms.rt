@@ -1,9 +1,10 @@
-//! What is written of a source: what is wrong with it, its words, its listing.
+//! What is written of a source: what is wrong with it, its words, its listing, whose line each word is, its names.
 use crate::digits::put_octal;
-use crate::listing::listing_lines;
-use crate::message::Message;
+use crate::listing::put_row;
+use crate::message::Complaint;
+use crate::pass::CELLS;
 use crate::program::Assembly;
-use crate::wording::message_text;
+use crate::symbols::Symbol;
 use std::alloc::{AllocError, Global};
 
 /// Returns a line for each message and then for each warning: its line and its column, decimal and from 1, and its text.
@@ -12,25 +13,21 @@ use std::alloc::{AllocError, Global};
 /// Memory ran out.
 pub fn complaints_text(alloc: Global, made: &Assembly) -> Result<Vec<u8>, AllocError> {
     let mut out = Vec::new(alloc);
-    put_messages(alloc, &mut out, made, made.messages.as_slice())?;
-    put_messages(alloc, &mut out, made, made.warnings.as_slice())?;
+    put_complaints(alloc, &mut out, &made.messages)?;
+    put_complaints(alloc, &mut out, &made.warnings)?;
     Ok(out)
 }
 
-/// Writes a line for each message.
-fn put_messages(
+/// Writes a line for each complaint.
+fn put_complaints(
     alloc: Global,
     out: &mut Vec<u8>,
-    made: &Assembly,
-    messages: &[Message],
+    complaints: &[Complaint],
 ) -> Result<(), AllocError> {
-    for message in messages {
-        let line = message.line;
-        let column = message.column;
-        let place = format!(in alloc; "{line}:{column}: ")?;
-        out.extend_from_slice(place.as_bytes())?;
-        let text = message_text(alloc, made, message)?;
-        out.extend_from_slice(text.as_slice())?;
+    for complaint in complaints {
+        let (line, column) = (complaint.line, complaint.column);
+        out.extend_from_slice(format!(in alloc; "{line}:{column}: ")?.as_bytes())?;
+        out.extend_from_slice(&complaint.text)?;
         out.push(b'\n')?;
     }
     Ok(())
@@ -44,14 +41,14 @@ fn put_messages(
 pub fn words_text(alloc: Global, made: &Assembly) -> Result<Vec<u8>, AllocError> {
     let mut out = Vec::new(alloc);
     for cell in made.program.cells() {
-        put_octal(alloc, &mut out, i64::from(cell.address), 4)?;
+        put_octal(&mut out, i64::from(cell.address), 4)?;
         out.push(b' ')?;
-        put_octal(alloc, &mut out, i64::from(cell.word), 4)?;
+        put_octal(&mut out, i64::from(cell.word), 4)?;
         out.push(b'\n')?;
     }
     if let Some(start) = made.program.start() {
         out.extend_from_slice(b"P ")?;
-        put_octal(alloc, &mut out, i64::from(start), 4)?;
+        put_octal(&mut out, i64::from(start), 4)?;
         out.push(b'\n')?;
     }
     Ok(out)
@@ -64,8 +61,88 @@ pub fn words_text(alloc: Global, made: &Assembly) -> Result<Vec<u8>, AllocError>
 pub fn listing_text(alloc: Global, made: &Assembly) -> Result<Vec<u8>, AllocError> {
     let mut out = Vec::new(alloc);
     for row in &made.rows {
-        let lines = listing_lines(alloc, made, row)?;
-        out.extend_from_slice(lines.as_slice())?;
+        put_row(&mut out, made, row)?;
     }
     Ok(out)
+}
+
+/// Returns a line for each row of the listing that has words: the number of its line, its location, its origin and its words, octal.
+///
+/// # Errors
+/// Memory ran out.
+pub fn lines_text(alloc: Global, made: &Assembly) -> Result<Vec<u8>, AllocError> {
+    let mut out = Vec::new(alloc);
+    for row in &made.rows {
+        let words = made.words.get(row.first..row.end).unwrap_or(&[]);
+        if let (Some(line), Some(_)) = (made.lines.all.get(row.statement), words.first()) {
+            put_octal(&mut out, i64::from(line.number), 1)?;
+            put_numbers(&mut out, row.location, row.origin, words)?;
+        }
+    }
+    Ok(out)
+}
+
+/// Writes the rest of a line: a location, an origin and words, each after a blank.
+fn put_numbers(
+    out: &mut Vec<u8>,
+    location: i64,
+    origin: i64,
+    words: &[u16],
+) -> Result<(), AllocError> {
+    for address in [location, origin] {
+        out.push(b' ')?;
+        put_octal(out, address, 4)?;
+    }
+    for word in words {
+        out.push(b' ')?;
+        put_octal(out, i64::from(*word), 4)?;
+    }
+    out.push(b'\n')?;
+    Ok(())
+}
+
+/// Returns a line for each label, as `LOOP 0106`, and for each other name of one number that is not minus, as `SIZE = 12`, octal.
+///
+/// # Errors
+/// Memory ran out.
+pub fn names_text(alloc: Global, made: &Assembly) -> Result<Vec<u8>, AllocError> {
+    let mut out = Vec::new(alloc);
+    for symbol in &made.symbols.all {
+        put_name(&mut out, made.symbols.text_of(symbol.key), symbol)?;
+    }
+    Ok(out)
+}
+
+/// Writes the line of a name, if it has one number.
+fn put_name(out: &mut Vec<u8>, key: &[u8], symbol: &Symbol) -> Result<(), AllocError> {
+    let Some(definition) = symbol.seen else {
+        return Ok(());
+    };
+    let Some(value) = definition
+        .value
+        .filter(|value| *value >= 0 && !definition.is_set)
+    else {
+        return Ok(());
+    };
+    out.extend_from_slice(without_qualifier(key))?;
+    if definition.is_address && value < CELLS as i64 {
+        out.push(b' ')?;
+        put_octal(out, value, 4)?;
+    } else {
+        out.extend_from_slice(b" = ")?;
+        put_octal(out, value, 1)?;
+    }
+    out.push(b'\n')?;
+    Ok(())
+}
+
+/// Returns a name without its qualifier.
+fn without_qualifier(key: &[u8]) -> &[u8] {
+    let mut name = key;
+    for at in 0..key.len() {
+        if key.get(at) == Some(&b'/') {
+            name = key.get(at.saturating_add(1)..).unwrap_or(b"");
+        }
+    }
+    name
 }

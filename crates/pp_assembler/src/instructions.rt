@@ -23,7 +23,7 @@ pub enum Form {
 pub const INSTRUCTIONS: usize = 64;
 
 /// The names in the order of their codes. Codes 24 and 25 pass, as 00 does, and are named like it.
-static NAMES: [[u8; 3]; INSTRUCTIONS] = [
+pub static NAMES: [[u8; 3]; INSTRUCTIONS] = [
     *b"PSN", *b"LJM", *b"RJM", *b"UJN", *b"ZJN", *b"NJN", *b"PJN", *b"MJN", *b"SHN", *b"LMN",
     *b"LPN", *b"SCN", *b"LDN", *b"LCN", *b"ADN", *b"SBN", *b"LDC", *b"ADC", *b"LPC", *b"LMC",
     *b"PSN", *b"PSN", *b"EXN", *b"RPN", *b"LDD", *b"ADD", *b"SBD", *b"LMD", *b"STD", *b"RAD",

@@ -33,18 +33,19 @@ mod symbols;
 #[cfg(test)]
 mod tests;
 mod texts;
+mod units;
 mod values;
 mod vocabulary;
 mod wording;
 
 pub use cells::are_cells;
 pub use disassembly::disassemble;
-pub use forms::{complaints_text, listing_text, words_text};
+pub use forms::{complaints_text, lines_text, listing_text, names_text, words_text};
 pub use instructions::{Form, code_of, form_of, name_of, size_of};
-pub use message::{Argument, Fault, Field, Message};
+pub use message::Complaint;
 pub use pass::Row;
 pub use passes::assemble;
 pub use program::{Assembly, Cell, Program};
 pub use source_text::write_source;
 pub use statement::{Kind, Name, Operand, Operation, Statement};
-pub use wording::message_text;
+pub use units::Unit;

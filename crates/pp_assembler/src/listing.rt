@@ -3,41 +3,42 @@ use crate::digits::put_octal;
 use crate::fields::length_without_blanks;
 use crate::pass::{CELLS, Row};
 use crate::program::Assembly;
-use std::alloc::{AllocError, Global};
+use std::alloc::AllocError;
 
 /// How many words a line of the listing has.
 const WORDS_OF_LINE: usize = 2;
 /// The columns of an address, of the address to which a word is loaded, and of the words.
-const ADDRESS: usize = 4;
+const ADDRESS: u8 = 4;
 
 const LOAD: usize = 5;
 
 const WORDS: usize = 11;
 
 const TAB: usize = 8;
+/// What is instead of a line of the source.
+const LITERAL: &[u8; 17] = b"*         LITERAL";
 
-/// Returns the lines of the listing for a row, each with a line feed. If code is assembled for another place, its address there comes
-/// first, and then > with that to which it is loaded.
-///
-/// # Errors
-/// Memory ran out.
-pub fn listing_lines(alloc: Global, assembly: &Assembly, row: &Row) -> Result<Vec<u8>, AllocError> {
-    let mut out = Vec::new(alloc);
+/// Writes the lines of the listing for a row. If code is assembled for another place, its address there comes first, and then > with that
+/// to which it is loaded.
+pub fn put_row(out: &mut Vec<u8>, assembly: &Assembly, row: &Row) -> Result<(), AllocError> {
+    let start = out.len();
     let words = assembly.words.get(row.first..row.end).unwrap_or(&[]);
-    put_address(alloc, &mut out, row, 0)?;
-    put_value_or_words(alloc, &mut out, row, words)?;
-    if let Some(line) = assembly.lines.all.get(row.statement) {
-        put_text(&mut out, assembly.lines.text_of(*line))?;
-    }
-    end_line(&mut out, 0)?;
+    put_address(out, row, 0)?;
+    put_value_or_words(out, row, words)?;
+    let text = match assembly.lines.all.get(row.statement) {
+        Some(line) => assembly.lines.text_of(*line),
+        None => LITERAL,
+    };
+    put_text(out, text)?;
+    end_line(out, start)?;
     for part in 1..words.len().div_ceil(WORDS_OF_LINE) {
         let first = part.saturating_mul(WORDS_OF_LINE);
         let start = out.len();
-        put_address(alloc, &mut out, row, first)?;
-        put_words(alloc, &mut out, words.get(first..).unwrap_or(&[]))?;
-        end_line(&mut out, start)?;
+        put_address(out, row, first)?;
+        put_words(out, words.get(first..).unwrap_or(&[]))?;
+        end_line(out, start)?;
     }
-    Ok(out)
+    Ok(())
 }
 
 /// Returns the address that a row names.
@@ -49,7 +50,7 @@ fn named(row: &Row) -> Option<i64> {
 }
 
 /// Writes the address of a word of a row, or the address that the row names.
-fn put_address(alloc: Global, out: &mut Vec<u8>, row: &Row, word: usize) -> Result<(), AllocError> {
+fn put_address(out: &mut Vec<u8>, row: &Row, word: usize) -> Result<(), AllocError> {
     let index = i64::try_from(word).unwrap_or(0);
     let address = if row.has_address {
         Some(row.location.wrapping_add(index))
@@ -58,14 +59,14 @@ fn put_address(alloc: Global, out: &mut Vec<u8>, row: &Row, word: usize) -> Resu
     };
     let start = out.len();
     if let Some(address) = address {
-        put_octal(alloc, out, address, ADDRESS)?;
+        put_octal(out, address, ADDRESS)?;
     }
-    fill(out, start, ADDRESS)?;
+    fill(out, start, usize::from(ADDRESS))?;
     out.push(b' ')?;
     let start = out.len();
     if row.has_address && row.origin != row.location {
         out.push(b'>')?;
-        put_octal(alloc, out, row.origin.wrapping_add(index), ADDRESS)?;
+        put_octal(out, row.origin.wrapping_add(index), ADDRESS)?;
     }
     fill(out, start, LOAD)?;
     out.push(b' ')?;
@@ -73,27 +74,22 @@ fn put_address(alloc: Global, out: &mut Vec<u8>, row: &Row, word: usize) -> Resu
 }
 
 /// Writes the number that a row names, if it is no address, or else the first words.
-fn put_value_or_words(
-    alloc: Global,
-    out: &mut Vec<u8>,
-    row: &Row,
-    words: &[u16],
-) -> Result<(), AllocError> {
+fn put_value_or_words(out: &mut Vec<u8>, row: &Row, words: &[u16]) -> Result<(), AllocError> {
     match row.value {
         Some(value) if !row.has_address && named(row).is_none() => {
             let start = out.len();
-            put_octal(alloc, out, value, 1)?;
+            put_octal(out, value, 1)?;
             fill(out, start, WORDS)
         }
-        _ => put_words(alloc, out, words),
+        _ => put_words(out, words),
     }
 }
 
 /// Writes the first words of some, as many as a line has.
-fn put_words(alloc: Global, out: &mut Vec<u8>, words: &[u16]) -> Result<(), AllocError> {
+fn put_words(out: &mut Vec<u8>, words: &[u16]) -> Result<(), AllocError> {
     let start = out.len();
     for word in words.get(..WORDS_OF_LINE).unwrap_or(words) {
-        put_octal(alloc, out, i64::from(*word), 4)?;
+        put_octal(out, i64::from(*word), 4)?;
         out.push(b' ')?;
     }
     fill(out, start, WORDS)

@@ -295,7 +295,11 @@ impl Pass {
     fn replace_line(&mut self, lines: &Lines, here: &Here) -> Result<(), Stop> {
         self.vocabulary.made.clear();
         if here.text.first() == Some(&b'*') {
-            return Ok(self.vocabulary.made.extend_from_slice(lines.text_of(here.line))?);
+            return Ok(
+                self.vocabulary
+                    .made
+                    .extend_from_slice(lines.text_of(here.line))?,
+            );
         }
         let statement = match self.statement(here) {
             Ok(Some(statement)) => statement,
@@ -450,7 +454,7 @@ impl Vocabulary {
             self.locals = self.locals.saturating_add(1);
             let first = self.text.len();
             self.text.extend_from_slice(b"Z.")?;
-            put_octal(self.alloc, &mut self.text, i64::from(self.locals), 4)?;
+            put_octal(&mut self.text, i64::from(self.locals), 4)?;
             let end = self.text.len();
             self.values.push(Meaning {
                 name,

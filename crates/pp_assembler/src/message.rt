@@ -46,20 +46,22 @@ pub enum Argument {
     NearestOperation(Field, usize),
     /// The instruction that takes a greater operand than that with this code, if there is one.
     Wider(Field, u8),
+    /// A name that the symbols keep.
+    Kept(Span),
     /// What reaches the target of the relative jump with this code.
     Reaching(Field, u8),
     /// The names of a macro's operands.
     Names(Span),
 }
 
-/// How many arguments a fault has.
-pub const ARGUMENTS: usize = 4;
-
 /// What is wrong: a text, and what stands in it in place of each `{}`.
 #[derive(Clone, Copy)]
 pub struct Fault {
     pub text: &'static str,
-    pub arguments: [Argument; ARGUMENTS],
+    pub first: Argument,
+    pub second: Argument,
+    pub third: Argument,
+    pub fourth: Argument,
 }
 
 impl Fault {
@@ -67,20 +69,23 @@ impl Fault {
     pub fn new(text: &'static str) -> Self {
         Fault {
             text,
-            arguments: [Argument::Nothing; ARGUMENTS],
+            first: Argument::Nothing,
+            second: Argument::Nothing,
+            third: Argument::Nothing,
+            fourth: Argument::Nothing,
         }
     }
 
     /// Returns the fault with one more argument, after those that it has.
     pub fn with(self, argument: Argument) -> Self {
-        let mut arguments = self.arguments;
-        for place in &mut arguments {
-            if matches!(*place, Argument::Nothing) {
-                *place = argument;
-                break;
-            }
+        let mut fault = self;
+        match (self.first, self.second, self.third) {
+            (Argument::Nothing, ..) => fault.first = argument,
+            (_, Argument::Nothing, _) => fault.second = argument,
+            (_, _, Argument::Nothing) => fault.third = argument,
+            _ => fault.fourth = argument,
         }
-        Fault { arguments, ..self }
+        fault
     }
 
     pub fn part(self, part: Field) -> Self {
@@ -165,7 +170,17 @@ impl<T: Drop> From<AllocFailed<T>> for Stop {
     }
 }
 
-/// A fault, or a warning, of a source.
+/// What is wrong with a source, or what is to be known, at a place of it.
+#[derive(Drop, PartialEq, Eq, PartialOrd, Ord)]
+pub struct Complaint {
+    /// From 1.
+    pub line: u32,
+    /// From 1.
+    pub column: u32,
+    pub text: Vec<u8>,
+}
+
+/// A fault, or a warning, of a statement.
 #[derive(Clone, Copy)]
 pub struct Message {
     /// From 1.

@@ -1,10 +1,10 @@
 //! Micros: names of texts, which stand between two marks in a line in place of these.
-use crate::digits::{put_decimal, put_octal};
+use crate::digits::put_digits;
 use crate::directives::{the_only, wants_operand};
 use crate::fields::{Statement, first_parts};
 use crate::lines::{Lines, Span};
 use crate::message::{Fault, Field, Stop};
-use crate::pass::{Here, Pass, Row};
+use crate::pass::{Here, Pass};
 use crate::symbols::end_of_name;
 use crate::texts::find;
 use crate::values::Base;
@@ -51,7 +51,9 @@ impl Pass {
         let words = &mut self.vocabulary;
         match text {
             Some(text) => words.made.extend_from_slice(text.of(&words.text))?,
-            None => words.made.extend_from_slice(here.text.get(at..end).unwrap_or(b""))?,
+            None => words
+                .made
+                .extend_from_slice(here.text.get(at..end).unwrap_or(b""))?,
         }
         Ok(end)
     }
@@ -67,7 +69,10 @@ impl Pass {
                 Some(Base::Octal | Base::Mixed) => b"O",
                 _ => b"D",
             },
-            b"QUAL" => b"",
+            b"QUAL" => {
+                let text = self.vocabulary.keep(self.symbols.qualifier())?;
+                return Ok(Some(text));
+            }
             b"CODE" => b"D",
             b"DATE" | b"JDATE" | b"TIME" | b"MODLEVEL" | b"PCOMMENT" => {
                 let fault = Fault::new("warning: the micro {} is blank here").part(name);
@@ -125,13 +130,15 @@ impl Pass {
         } else {
             number
         };
+        let magnitude = number.unsigned_abs();
+        let digits = if is_decimal {
+            format!(in self.alloc; "{magnitude}")?
+        } else {
+            format!(in self.alloc; "{magnitude:o}")?
+        };
         let words = &mut self.vocabulary;
         let first = words.text.len();
-        if is_decimal {
-            put_decimal(words.alloc, &mut words.text, number, size)?;
-        } else {
-            put_octal(words.alloc, &mut words.text, number, size)?;
-        }
+        put_digits(&mut words.text, number, digits.as_bytes(), size)?;
         let end = words.text.len();
         let first = if size > 0 {
             first.max(end.saturating_sub(size))
@@ -162,18 +169,7 @@ impl Pass {
         };
         let count = i64::try_from(text.end.saturating_sub(text.first)).unwrap_or(0);
         self.define(here, statement.location, Some(count), false, true)?;
-        let at = self.words.len();
-        let (origin, location) = (self.origin, self.location);
-        self.add_row(Row {
-            statement: here.index,
-            origin,
-            location,
-            first: at,
-            end: at,
-            has_address: false,
-            value: Some(count),
-            is_set: true,
-        })
+        self.value_row(here, Some(count), true)
     }
 }
 

@@ -1,10 +1,11 @@
 //! The operations that are no instructions.
-use crate::instructions::code_of;
 use crate::blocks::Opening;
 use crate::conditions::Order;
+use crate::instructions::code_of;
 use Operation::{
     Base, Bits, Block, Data, Deck, End, Equate, Error, Expressions, Greatest, Ignored, Inside,
-    Least, Lines, Location, NotYet, Origin, Refused, Set, Shortest, Space, Zeros,
+    Least, Lines, Literals, Location, NotYet, Origin, Qualifier, Refused, Set, Shortest, Space,
+    Use, Zeros,
 };
 
 /// What a name in the operation field is.
@@ -35,6 +36,9 @@ pub enum Operation {
     End,
     /// What makes no words here.
     Ignored,
+    Use,
+    Qualifier,
+    Literals,
     Micro,
     /// DECMIC, or OCTMIC.
     NumberMicro { is_decimal: bool },
@@ -73,7 +77,7 @@ pub enum Test {
 const NO_SUCH_INSTRUCTION: &str = "the 6600 has no such instruction";
 
 /// The operations that are no instructions, each with its names.
-pub static OPERATIONS: [(&str, Operation); 59] = [
+pub static OPERATIONS: [(&str, Operation); 61] = [
     ("CON", Expressions),
     ("DATA", Data),
     ("VFD", Bits),
@@ -101,7 +105,9 @@ pub static OPERATIONS: [(&str, Operation); 59] = [
         "ABS SST ENTRY TITLE TTL SPACE EJECT LIST NOREF XREF COMMENT CTEXT ENDX NOLABEL NIL",
         Ignored,
     ),
-    ("USE QUAL LIT", NotYet),
+    ("USE", Use),
+    ("QUAL", Qualifier),
+    ("LIT", Literals),
     ("MICRO", Operation::Micro),
     ("DECMIC", Operation::NumberMicro { is_decimal: true }),
     ("OCTMIC", Operation::NumberMicro { is_decimal: false }),

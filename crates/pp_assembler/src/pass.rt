@@ -1,11 +1,12 @@
 //! One pass over the statements of a source: its counters, its names, and what it has made.
 use crate::fields::Statement;
 use crate::lines::{Join, Line, Lines, Span};
-use crate::message::{Argument, Fault, Field, Message, Stop};
 use crate::macros::Repetition;
+use crate::message::{Argument, Fault, Field, Message, Stop};
 use crate::running::{Job, Run};
 use crate::symbols::{Definition, Symbols};
 use crate::texts::{Filling, Text, text_at, without_code};
+use crate::units::{Blocks, Literals, Unit};
 use crate::values::{Base, Expression, Scope, Value, number_of};
 use crate::vocabulary::Vocabulary;
 use std::alloc::{AllocError, Global};
@@ -68,7 +69,9 @@ impl<'a> Here<'a> {
             if join.column <= column {
                 place = (
                     join.number,
-                    column.saturating_sub(join.column).saturating_add(join.first),
+                    column
+                        .saturating_sub(join.column)
+                        .saturating_add(join.first),
                 );
             }
         }
@@ -153,6 +156,13 @@ pub struct Pass {
     pub has_ended: bool,
     pub has_more: bool,
     pub has_name: bool,
+    pub alloc: Global,
+    pub blocks: Blocks,
+    pub literals: Literals,
+    /// The name of the present program.
+    pub unit_name: Vec<u8>,
+    /// The programs that have ended.
+    pub units: Vec<Unit>,
     /// How many words and statements there are.
     pub made: usize,
     pub performed: u32,
@@ -172,9 +182,14 @@ pub struct Pass {
 
 impl Pass {
     /// Returns a pass before its first line.
-    pub fn new(alloc: Global, symbols: Symbols, is_last: bool) -> Result<Self, AllocError> {
+    pub fn new(
+        alloc: Global,
+        symbols: Symbols,
+        blocks: Blocks,
+        is_last: bool,
+    ) -> Result<Self, AllocError> {
         let cells = vec![in alloc; Slot { word: 0, line: 0 }; CELLS]?;
-        Ok(Pass {
+        let mut pass = Pass {
             is_last,
             symbols,
             base: None,
@@ -194,6 +209,11 @@ impl Pass {
             has_ended: false,
             has_more: false,
             has_name: false,
+            alloc,
+            blocks,
+            literals: Literals::new(alloc),
+            unit_name: Vec::new(alloc),
+            units: Vec::new(alloc),
             made: 0,
             performed: 0,
             made_lines: 0,
@@ -203,7 +223,14 @@ impl Pass {
             jobs: Vec::new(alloc),
             open_names: Vec::new(alloc),
             parts: Vec::new(alloc),
-        })
+        };
+        pass.begin_unit(b"")?;
+        Ok(pass)
+    }
+
+    /// Returns whether each name and each block is as in the pass before.
+    pub fn has_settled(&self) -> bool {
+        self.symbols.have_settled() && self.blocks.have_settled(&self.symbols.text)
     }
 
     /// Counts one more statement.
@@ -243,14 +270,20 @@ impl Pass {
 
     /// Keeps a warning, of each kind the first one.
     pub fn warn(&mut self, here: &Here, column: usize, fault: Fault) -> Result<(), Stop> {
-        if !self.is_last || has_kind(&self.warnings, fault) {
+        self.warn_at(here.message(column, fault))
+    }
+
+    /// Keeps a warning at its place, of each kind the first one.
+    pub fn warn_at(&mut self, message: Message) -> Result<(), Stop> {
+        if !self.is_last || has_kind(&self.warnings, message.fault) {
             return Ok(());
         }
-        Ok(self.warnings.push(here.message(column, fault))?)
+        Ok(self.warnings.push(message)?)
     }
 
     /// Sets the counters.
     pub fn move_to(&mut self, origin: i64, location: i64) {
+        self.reach();
         self.origin = origin;
         self.location = location;
         self.open = None;
@@ -265,12 +298,26 @@ impl Pass {
         is_address: bool,
         is_set: bool,
     ) -> Result<(), Stop> {
-        let definition = Definition {
-            value,
-            line: here.line.number,
-            is_address,
-            is_set,
-        };
+        self.define_as(
+            here,
+            name,
+            Definition {
+                value,
+                line: here.line.number,
+                is_address,
+                is_set,
+                is_here: false,
+            },
+        )
+    }
+
+    /// Gives a name of a line its meaning, or reports why that can't be.
+    pub fn define_as(
+        &mut self,
+        here: &Here,
+        name: Field,
+        definition: Definition,
+    ) -> Result<(), Stop> {
         match self.symbols.define(here.text, name, definition) {
             Ok(()) => Ok(()),
             Err(stop) => self.report_stop(here, stop),
@@ -341,7 +388,13 @@ impl Pass {
         bits: u32,
         code: Option<u8>,
     ) -> Result<u64, Stop> {
-        match self.checked_field(here, operand, bits, code) {
+        let number = self.checked_field(here, operand, bits, code);
+        self.reported(here, number)
+    }
+
+    /// Returns a number; 0 if it is wrong, which is reported.
+    pub fn reported(&mut self, here: &Here, number: Result<u64, Stop>) -> Result<u64, Stop> {
+        match number {
             Ok(number) => Ok(number),
             Err(stop) => {
                 self.report_stop(here, stop)?;
@@ -364,51 +417,64 @@ impl Pass {
                 return text_field(operand, text, alone, bits);
             }
         }
-        if text.first() == Some(&b'=') {
-            return Err(Stop::not_yet(operand));
-        }
-        let number = self.number(here, operand, false)?;
-        let top = 1i64.wrapping_shl(bits).wrapping_sub(1);
-        if number > top || number < top.wrapping_neg() {
-            let fault = Fault::new("{} (octal) does not fit in {} (decimal) bits{}");
-            let fault = fault.octal(number).decimal(bits);
-            return Err(Stop::At(
-                operand.first,
-                match code {
-                    Some(code) => fault.with(Argument::Wider(operand, code)),
-                    None => fault,
-                },
-            ));
-        }
-        let positive = if matches!(text, b"-0") {
-            top
-        } else if number >= 0 {
-            number
+        let number = if text.first() == Some(&b'=') {
+            self.literal(here, operand)?
         } else {
-            top.wrapping_add(number)
+            self.number(here, operand, false)?
         };
-        Ok(u64::try_from(positive).unwrap_or(0))
+        fitting(here, operand, number, bits, code)
     }
 
-    /// Adds a line to the listing, with words that have just been made.
-    pub fn row(&mut self, here: &Here, first: usize, has_address: bool) -> Result<(), Stop> {
-        let row = Row {
+    /// Returns a number without a name as one of so many bits.
+    pub fn number_field(&mut self, here: &Here, operand: Field, bits: u32) -> Result<u64, Stop> {
+        let number = self.number(here, operand, false)?;
+        fitting(here, operand, number, bits, None)
+    }
+
+    /// Returns what the listing has of a line without words.
+    fn row_of(&self, here: &Here) -> Row {
+        let end = self.words.len();
+        Row {
             statement: here.index,
             origin: self.origin,
             location: self.location,
-            first,
-            end: self.words.len(),
-            has_address,
+            first: end,
+            end,
+            has_address: false,
             value: None,
             is_set: false,
+        }
+    }
+
+    /// Adds a line with words to the listing.
+    pub fn row(&mut self, here: &Here, words: &[u16]) -> Result<(), Stop> {
+        if !self.is_last {
+            return Ok(());
+        }
+        let row = Row {
+            has_address: true,
+            end: self.words.len().saturating_add(words.len()),
+            ..self.row_of(here)
         };
+        self.words.extend_from_slice(words)?;
         self.add_row(row)
     }
 
     /// Adds a line without words to the listing.
     pub fn plain_row(&mut self, here: &Here, has_address: bool) -> Result<(), Stop> {
-        let first = self.words.len();
-        self.row(here, first, has_address)
+        self.add_row(Row {
+            has_address,
+            ..self.row_of(here)
+        })
+    }
+
+    /// Adds a line that names a number to the listing.
+    pub fn value_row(&mut self, here: &Here, value: Option<i64>, is_set: bool) -> Result<(), Stop> {
+        self.add_row(Row {
+            value,
+            is_set,
+            ..self.row_of(here)
+        })
     }
 
     /// Adds a line to the listing, in the last pass.
@@ -428,6 +494,36 @@ fn has_kind(warnings: &[Message], fault: Fault) -> bool {
         }
     }
     false
+}
+
+/// Returns a number as one of so many bits: minus is the ones complement.
+fn fitting(
+    here: &Here,
+    operand: Field,
+    number: i64,
+    bits: u32,
+    code: Option<u8>,
+) -> Result<u64, Stop> {
+    let top = 1i64.wrapping_shl(bits).wrapping_sub(1);
+    if number > top || number < top.wrapping_neg() {
+        let fault = Fault::new("{} (octal) does not fit in {} (decimal) bits{}");
+        let fault = fault.octal(number).decimal(bits);
+        return Err(Stop::At(
+            operand.first,
+            match code {
+                Some(code) => fault.with(Argument::Wider(operand, code)),
+                None => fault,
+            },
+        ));
+    }
+    let positive = if matches!(operand.of(here.text), b"-0") {
+        top
+    } else if number >= 0 {
+        number
+    } else {
+        top.wrapping_add(number)
+    };
+    Ok(u64::try_from(positive).unwrap_or(0))
 }
 
 /// Returns a text as a number of so many bits.

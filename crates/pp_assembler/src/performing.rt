@@ -1,4 +1,5 @@
 //! The statements of a source, performed one after another.
+use crate::directives::the_only;
 use crate::fields::Statement;
 use crate::message::{Argument, Fault, Field, Stop};
 use crate::operations::{Operation, is_operation};
@@ -21,7 +22,12 @@ impl Pass {
     }
 
     /// Performs an instruction or a directive.
-    pub fn one(&mut self, here: &Here, statement: Statement, operation: Operation) -> Result<(), Stop> {
+    pub fn one(
+        &mut self,
+        here: &Here,
+        statement: Statement,
+        operation: Operation,
+    ) -> Result<(), Stop> {
         match operation {
             Operation::Equate | Operation::Set | Operation::Greatest | Operation::Least =>
                 self.equate(here, statement, operation),
@@ -35,6 +41,9 @@ impl Pass {
             }
             Operation::Origin => self.set_origin(here, statement),
             Operation::Location => self.set_location(here, statement),
+            Operation::Use => self.set_block(here, statement),
+            Operation::Qualifier => self.set_qualifier(here, statement),
+            Operation::Literals => self.literals(here, statement),
             Operation::Micro => self.name_text(here, statement),
             Operation::NumberMicro { is_decimal } => {
                 self.name_digits(here, statement, is_decimal)
@@ -59,12 +68,27 @@ impl Pass {
             Operation::None => self.plain_row(here, true),
             Operation::Instruction(code) => self.instruction(here, statement, code),
             Operation::Shortest { .. } => self.shortest(here, statement, operation),
+            Operation::Space => self.space(here, statement),
+            _ => {
+                let words = self.words_made(here, statement, operation)?;
+                self.put(here, &words)
+            }
+        }
+    }
+
+    /// Returns the words of a directive that makes some.
+    fn words_made(
+        &mut self,
+        here: &Here,
+        statement: Statement,
+        operation: Operation,
+    ) -> Result<Vec<u16>, Stop> {
+        match operation {
             Operation::Expressions => self.expressions(here, statement),
-            Operation::Data => self.numbers_and_texts(here, statement),
+            Operation::Data => self.data(here, statement),
             Operation::Bits => self.bits(here, statement),
             Operation::Text => self.text(here, statement),
-            Operation::Zeros => self.zeros(here, statement),
-            Operation::Space => self.space(here, statement),
+            Operation::Zeros => self.zeros(here, the_only(here, statement)?),
             _ => Err(self.why_not(here, statement, operation)),
         }
     }
@@ -91,10 +115,10 @@ impl Pass {
             ),
             _ => {
                 let fault = Fault::new("{} is no instruction, directive or macro{}").part(name);
-                Stop::At(name.first, fault.with(Argument::NearestOperation(
-                    name,
-                    self.vocabulary.macros.len(),
-                )))
+                Stop::At(
+                    name.first,
+                    fault.with(Argument::NearestOperation(name, self.vocabulary.macros.len())),
+                )
             }
         }
     }

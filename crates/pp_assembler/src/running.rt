@@ -49,14 +49,27 @@ impl Pass {
     pub fn run(&mut self, lines: &mut Lines) -> Result<(), Ending> {
         lines.forget_made();
         let (first, end) = (SUBR_LINES, lines.own);
-        self.run_all(lines, Span { first: 0, end: first })?;
+        self.run_all(
+            lines,
+            Span {
+                first: 0,
+                end: first,
+            },
+        )?;
         self.rows.clear();
         self.run_all(lines, Span { first, end })?;
         if self.has_ended {
             return Ok(());
         }
         match self.all_remote(lines) {
-            Ok(rest) => self.run_all(lines, rest),
+            Ok(rest) => self.run_all(lines, rest)?,
+            Err(stop) => self.stopped(lines, stop)?,
+        }
+        if self.has_ended {
+            return Ok(());
+        }
+        match self.end_unit(&Here::new(lines, self.at)) {
+            Ok(()) => Ok(()),
             Err(stop) => self.stopped(lines, stop),
         }
     }
@@ -106,11 +119,13 @@ impl Pass {
                 self.perform(lines)
             }
             Job::Run(run) if run.times > 1 && run.all.first < run.all.end => {
-                Ok(self.jobs.push(Job::Run(Run {
-                    next: run.all.first,
-                    times: run.times.wrapping_sub(1),
-                    ..run
-                }))?)
+                Ok(
+                    self.jobs.push(Job::Run(Run {
+                        next: run.all.first,
+                        times: run.times.wrapping_sub(1),
+                        ..run
+                    }))?,
+                )
             }
             Job::Run(_) => Ok(()),
         }
@@ -118,20 +133,26 @@ impl Pass {
 
     /// Lets lines be performed next, so many times, in the present ones or in a call of a macro more.
     pub fn push_run(&mut self, all: Span, times: i64, calls: u32) -> Result<(), Stop> {
-        let Run { level, calls: outer, .. } = self.present;
+        let Run {
+            level,
+            calls: outer,
+            ..
+        } = self.present;
         if level >= MOST_NESTED {
             return Err(Stop::too_much("lines are nested more than 100 (decimal) deep"));
         }
         if times < 1 {
             return Ok(());
         }
-        Ok(self.jobs.push(Job::Run(Run {
-            all,
-            next: all.first,
-            times,
-            level: level.saturating_add(1),
-            calls: outer.saturating_add(calls),
-        }))?)
+        Ok(
+            self.jobs.push(Job::Run(Run {
+                all,
+                next: all.first,
+                times,
+                level: level.saturating_add(1),
+                calls: outer.saturating_add(calls),
+            }))?,
+        )
     }
 
     /// Passes over lines of the present run, which belong to the line before them.
@@ -212,10 +233,14 @@ impl Pass {
             return Ok(statement);
         };
         words.made.clear();
-        words.made.extend_from_slice(here.text.get(..first).unwrap_or(b""))?;
+        words
+            .made
+            .extend_from_slice(here.text.get(..first).unwrap_or(b""))?;
         words.made.extend_from_slice(name.of(&words.text))?;
         let after = words.made.len();
-        words.made.extend_from_slice(here.text.get(end..).unwrap_or(b""))?;
+        words
+            .made
+            .extend_from_slice(here.text.get(end..).unwrap_or(b""))?;
         let (number, column) = here.place_of(end);
         let mut line = here.line;
         line.joins = joins_from(

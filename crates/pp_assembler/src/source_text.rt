@@ -1,6 +1,5 @@
 //! Writes statements as the lines of a source.
-ghost use Rattle.std.specs.Prelude.{◌≤◌};
-
+use crate::digits::put_octal;
 use crate::instructions::name_of;
 use crate::statement::{Kind, Name, Operand, Operation, Statement};
 use crate::texts::SYMBOLS;
@@ -14,14 +13,6 @@ const OPERATION: usize = 6;
 
 /// The column, from 0, of the symbols of words, a comment.
 const COMMENT: usize = 39;
-
-/// Appends a number in octal, with at least as many digits as are asked for, 1 to 22.
-fn put_octal(text: &mut Vec<u8>, number: u32, digits: u8) -> Result<(), AllocError>
-    requires some { 1 ≤ digits }
-    requires at_most { digits ≤ 22 }
-{
-    text.extend_from_slice(octal(u64::from(number), digits).as_slice())
-}
 
 /// Appends blanks up to a length.
 fn pad(text: &mut Vec<u8>, length: usize) -> Result<(), AllocError> {
@@ -40,7 +31,7 @@ fn put_name(text: &mut Vec<u8>, name: Name) -> Result<(), AllocError> {
         Kind::Exit => (b'S', 1),
     };
     text.push(letter)?;
-    put_octal(text, u32::from(name.address) + more, 4)?;
+    put_octal(text, i64::from(name.address) + more, 4)?;
     if name.kind == Kind::Exit {
         text.push(b'X')?;
     }
@@ -50,17 +41,17 @@ fn put_name(text: &mut Vec<u8>, name: Name) -> Result<(), AllocError> {
 /// Appends an operand.
 fn put_operand(text: &mut Vec<u8>, operand: Operand) -> Result<(), AllocError> {
     match operand {
-        Operand::Number(number) => put_octal(text, number, 1),
+        Operand::Number(number) => put_octal(text, i64::from(number), 1),
         Operand::Minus(number) => {
             text.push(b'-')?;
-            put_octal(text, number, 1)
+            put_octal(text, i64::from(number), 1)
         }
         Operand::Here => Ok(text.push(b'*')?),
         Operand::Named(name, more) => {
             put_name(text, name)?;
             if more > 0 {
                 text.push(b'+')?;
-                put_octal(text, u32::from(more), 1)?;
+                put_octal(text, i64::from(more), 1)?;
             }
             Ok(())
         }
@@ -83,7 +74,7 @@ fn put_words(text: &mut Vec<u8>, start: usize, words: &[u16]) -> Result<(), Allo
             text.push(b',')?;
         }
         is_first = false;
-        put_octal(text, u32::from(*word), 1)?;
+        put_octal(text, i64::from(*word), 1)?;
     }
     pad(text, start.saturating_add(COMMENT))?;
     for word in words {
@@ -114,12 +105,12 @@ fn operation_field(operation: &Operation) -> [u8; OPERATION] {
 fn put_variable(text: &mut Vec<u8>, start: usize, operation: &Operation) -> Result<(), AllocError> {
     match operation {
         Operation::Base => text.extend_from_slice(b"OCTAL"),
-        Operation::Origin(address) => put_octal(text, u32::from(*address), 1),
+        Operation::Origin(address) => put_octal(text, i64::from(*address), 1),
         Operation::Instruction(_, first, second) => {
             put_optional(text, *first)?;
             if let Some(d) = second {
                 text.push(b',')?;
-                put_octal(text, u32::from(*d), 1)?;
+                put_octal(text, i64::from(*d), 1)?;
             }
             Ok(())
         }

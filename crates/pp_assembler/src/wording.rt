@@ -1,13 +1,12 @@
 //! The text of a message: what is wrong, and what to write instead.
 use crate::digits::put_octal;
 use crate::fields::length_without_blanks;
-use crate::instructions::{INSTRUCTIONS, name_of};
+use crate::instructions::{INSTRUCTIONS, NAMES, name_of};
 use crate::lines::{Line, Span};
 use crate::message::{Argument, Fault, Field, Message};
 use crate::nearest::Nearest;
 use crate::operations::{OPERATIONS, Operation};
 use crate::program::Assembly;
-use crate::symbols::Name;
 use crate::texts::{after_blanks, is_alphanumeric};
 use std::alloc::{AllocError, Global};
 
@@ -44,11 +43,13 @@ pub fn message_text(
         out: Vec::new(alloc),
     };
     writer.fault(message.fault)?;
-    if let Some(Line {
-        call: Some(call),
-        text,
-        ..
-    }) = line
+    if let Some(
+        Line {
+            call: Some(call),
+            text,
+            ..
+        },
+    ) = line
     {
         writer.text(b" (in the macro ")?;
         writer.text(call.name.of(&assembly.lines.capitals))?;
@@ -69,7 +70,14 @@ impl Writer<'_> {
     /// Writes the text of a fault, with its arguments.
     fn fault(&mut self, fault: Fault) -> Result<(), AllocError> {
         let mut rest = fault.text;
-        for argument in &fault.arguments {
+        let Fault {
+            first,
+            second,
+            third,
+            fourth,
+            ..
+        } = fault;
+        for argument in &[first, second, third, fourth] {
             let Some((before, after)) = rest.split_once("{}") else {
                 break;
             };
@@ -87,8 +95,8 @@ impl Writer<'_> {
             Argument::Text(text) => self.text(text.as_bytes()),
             Argument::Symbol(b'\t') => self.text(b"\\t"),
             Argument::Symbol(symbol) => self.text(&[symbol]),
-            Argument::Octal(number) => put_octal(self.alloc, &mut self.out, number, 1),
-            Argument::Cell(cell) => put_octal(self.alloc, &mut self.out, i64::from(cell), 4),
+            Argument::Octal(number) => put_octal(&mut self.out, number, 1),
+            Argument::Cell(cell) => put_octal(&mut self.out, i64::from(cell), 4),
             Argument::Decimal(number) => {
                 let digits = format!(in self.alloc; "{number}")?;
                 self.text(digits.as_bytes())
@@ -97,6 +105,7 @@ impl Writer<'_> {
             Argument::NearestSymbol(name) => self.nearest_symbol(name),
             Argument::NearestOperation(name, macros) => self.nearest_operation(name, macros),
             Argument::Wider(operand, code) => self.wider(operand, code),
+            Argument::Kept(name) => self.text(self.assembly.symbols.text_of(name)),
             Argument::Reaching(target, code) => self.reaching(target, code),
             Argument::Names(operands) => self.names(operands),
         }
@@ -107,9 +116,12 @@ impl Writer<'_> {
     }
 
     fn nearest_symbol(&mut self, name: Field) -> Result<(), AllocError> {
+        let symbols = &self.assembly.symbols;
         let mut nearest = Nearest::new(name.of(self.line));
-        for symbol in &self.assembly.symbols.all {
-            nearest.see(symbol.name);
+        for symbol in &symbols.all {
+            if symbol.is_known() {
+                nearest.see(symbols.text_of(symbol.key));
+            }
         }
         self.nearest(nearest.found())
     }
@@ -120,7 +132,7 @@ impl Writer<'_> {
         see_operations(&mut nearest);
         let vocabulary = &self.assembly.vocabulary;
         for one in vocabulary.macros.get(..macros).unwrap_or(&[]) {
-            nearest.see_text(vocabulary.text_of(one.name));
+            nearest.see(vocabulary.text_of(one.name));
         }
         self.nearest(nearest.found())
     }
@@ -139,13 +151,12 @@ impl Writer<'_> {
     }
 
     /// Writes the name that may be meant.
-    fn nearest(&mut self, name: Option<Name>) -> Result<(), AllocError> {
+    fn nearest(&mut self, name: Option<&[u8]>) -> Result<(), AllocError> {
         let Some(name) = name else {
             return Ok(());
         };
         self.text(b"; ")?;
-        let characters = name.characters();
-        self.text(characters.get(..name.length()).unwrap_or(b""))?;
+        self.text(name)?;
         self.text(b" is")
     }
 
@@ -222,7 +233,7 @@ fn stripped(text: &[u8]) -> &[u8] {
 fn see_operations(nearest: &mut Nearest) {
     for code in 0..INSTRUCTIONS {
         if code != 0o24 && code != 0o25 {
-            nearest.see_text(name_of(code as u8).as_slice());
+            nearest.see(NAMES[code].as_slice());
         }
     }
     for (names, operation) in &OPERATIONS {
@@ -231,7 +242,7 @@ fn see_operations(nearest: &mut Nearest) {
             Operation::Lines(_) | Operation::Inside | Operation::Refused(_)
         ) {
             for one in names.split_whitespace() {
-                nearest.see_text(one.as_bytes());
+                nearest.see(one.as_bytes());
             }
         }
     }

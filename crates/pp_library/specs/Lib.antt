@@ -1,3 +1,4 @@
+pub mod Assembling
 pub mod Calls
 pub mod Moving
 pub mod Owning

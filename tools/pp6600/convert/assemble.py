@@ -2,11 +2,9 @@
 
 import sys
 
-from ..language.source.forms import lines_of
-from ..language.source.passes import assembled
-from ..language.sources import complaints, source_lines, texts_in, unit_of
+from ..language.assembling import assembled_lines
 from ..language.symbol_options import add_texts
-from ..shell.command_line import Parser, processor, write_lines
+from ..shell.command_line import Parser, bytes_of, processor, write_lines
 
 DESCRIPTION = """Assembles a program of a peripheral processor, in COMPASS notation, and writes a line for each word: its address
 and the word. What is wrong with the source is one line each on standard error, as FILE:LINE:COLUMN: and a text, and then nothing
@@ -31,10 +29,10 @@ def main() -> int:
     asked = parser.parse()
     form = "words" if asked.set is None else "set"
     form = next((name for name in FORMS if getattr(asked, name)), form)
-    program = assembled(source_lines(asked.file), texts_in(asked.text))
-    if program.messages or program.warnings:
-        print(*complaints(asked.file, program), sep="\n", file=sys.stderr)
-    if program.messages:
+    made = assembled_lines(bytes_of(asked.file), asked.file, form, asked.set or 0, asked.text, asked.unit)
+    if made.complaints:
+        print(*made.complaints, sep="\n", file=sys.stderr)
+    if made.is_wrong:
         return WRONG
-    write_lines(lines_of(program if asked.unit is None else unit_of(program, asked.unit), form, asked.set or 0))
+    write_lines(made.lines())
     return 0

@@ -1,9 +1,11 @@
 """Cells as a source in COMPASS notation."""
 
+from typing import Iterable, Mapping, Sequence
+
+from ..engine.assembler import assembler_here
 from ..language.listing import Listing
-from ..language.source.disassembler import Disassembler
 from ..shell.command_line import Failure, Parser, cell, write_lines
-from ..shell.text_files import named
+from ..shell.text_files import lines_of, named
 
 DESCRIPTION = """Writes cells as a source that assembles to the same words. FILE has the rows of DUMP M or of save --listing, or is
 a listing, whose labels are kept. What a processor reaches from the entries on is code, and the rest is data."""
@@ -19,4 +21,13 @@ def main() -> None:
     cells = {address: int(word, 8) for address, (word, _) in listing.cells.items()}
     if not cells:
         raise Failure(f"{named(asked.file)} has no cell")
-    write_lines(Disassembler(cells, asked.entry or [min(cells)], listing.names.labels).lines())
+    write_lines(source_of(cells, asked.entry or [min(cells)], listing.names.labels))
+
+
+def source_of(cells: Mapping[int, int], entries: Sequence[int], labels: Mapping[int, Sequence[str]]) -> Iterable[str]:
+    """Returns the lines of a source: those of the library, or if addresses have labels or there is no library those in Python."""
+    assembler = None if labels else assembler_here()
+    if assembler:
+        return lines_of(assembler.disassembled(cells, entries).decode("ascii"))
+    from ..language.source.disassembler import Disassembler
+    return Disassembler(cells, entries, labels).lines()

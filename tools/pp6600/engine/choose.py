@@ -5,7 +5,7 @@ from __future__ import annotations
 import functools
 import os
 import sys
-from typing import Optional, Sequence
+from typing import List, Optional, Sequence
 
 from ..failure import Failure
 from .choice import HOME, LIBRARIES, THIS_IS, machine_here
@@ -38,24 +38,31 @@ def library_named(name: str) -> Optional[str]:
     """Returns the path of the library that a name means; None where it is the simulator in plain Python."""
     if name.endswith(SUFFIXES):
         return name
-    folder, program = os.path.split(os.path.abspath(name))
-    is_own = os.path.join(folder, program) == os.path.join(HOME, "pp6600")
-    if program.startswith("pp6600-python"):
+    if os.path.basename(name).startswith("pp6600-python"):
         return None
-    library = next(iter(LIBRARIES.get(machine_here(), ())), "")
-    if not is_own and not os.path.exists(name):
-        raise Failure(f"{name} is not the simulator: there is no {library or 'library'} beside it")
-    led_to = os.path.dirname(os.path.realpath(name))  # by links
-    built = os.path.normpath(os.path.join(folder, "..", "..", "..", "targets", "out"))  # where ./prove puts what it makes of crates/pp6600/out
-    for place in (folder, os.path.join(folder, "dist"), os.path.join(folder, "lib"), led_to, built):
-        path = os.path.join(place, library)
-        if library and os.path.exists(path) and loads(path):
-            return path
+    is_own = os.path.abspath(name) == os.path.join(HOME, "pp6600")
+    found = next(filter(loads, libraries_beside(name)), None) if is_own or os.path.exists(name) else None
+    if found:
+        return found
     if not is_own:
-        raise Failure(f"{name} is not the simulator: there is no {library or 'library'} beside it")
+        raise Failure(f"{name} is not the simulator: there is no {library_here() or 'library'} beside it")
     if sys.stderr is not None:
         print(f"pp6600: there is no library of the proved program for this machine; {THIS_IS}", file=sys.stderr, flush=True)
     return None
+
+
+def library_here() -> str:
+    """Returns the name of the library for this machine; of another machine it is empty."""
+    return next(iter(LIBRARIES.get(machine_here(), ())), "")
+
+
+def libraries_beside(name: str) -> List[str]:
+    """Returns the paths of the libraries that belong to a program, the best first."""
+    folder, library = os.path.dirname(os.path.abspath(name)), library_here()
+    led_to = os.path.dirname(os.path.realpath(name))  # by links
+    built = os.path.normpath(os.path.join(folder, "..", "..", "..", "targets", "out"))  # where ./prove puts what it makes of crates/pp6600/out
+    places = (folder, os.path.join(folder, "dist"), os.path.join(folder, "lib"), led_to, built)
+    return [path for path in (os.path.join(place, library) for place in places) if library and os.path.exists(path)]
 
 
 def loads(path: str) -> bool:

@@ -50,8 +50,13 @@ def input_lines() -> Iterator[str]:
 
 def read_lines(path: Optional[str]) -> List[str]:
     """Returns the lines of a text."""
+    return lines_in(bytes_of(path), path)
+
+
+def lines_in(data: bytes, path: Optional[str]) -> List[str]:
+    """Returns the lines of the text that these bytes of a file are."""
     try:
-        text = bytes_of(path).decode("utf-8")
+        text = data.decode("utf-8")
     except UnicodeDecodeError as error:
         raise Failure(f"{named(path)} is not text in UTF-8") from error
     return [line.rstrip("\r") for line in lines_of(text)]

@@ -28,10 +28,10 @@ from ..keys import for_page
 
 WEB = os.path.join(os.path.dirname(os.path.abspath(__file__)), "web")
 # The scripts, in the order in which they are joined: of the page and its worker, of the worker, of the page.
-SCRIPTS = {"shared": ("layout", "turns"),
-           "engine": ("library", "simulator", "recorder", "conditions", "session", "worker"),
+SCRIPTS = {"shared": ("layout", "turns", "library"),
+           "engine": ("simulator", "recorder", "conditions", "session", "worker"),
            "view": ("rows", "places", "engine", "machine", "program", "lines", "source", "pictures", "origin",
-                    "lanes", "barrel", "exercises", "editing", "console", "keys", "controls")}
+                    "lanes", "barrel", "exercises", "editing", "console", "assembler", "keys", "controls")}
 MODES = {"reader": ("IDLE", "READING", "STATUS", "SENT"), "printer": ("IDLE", "PRINTING", "STATUS", "SENT")}
 
 

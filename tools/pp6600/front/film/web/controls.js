@@ -279,7 +279,7 @@ function placeSections() {
 
 function build() {
   for (const part of [buildControls, buildKeys, buildProcessors, buildChannels, buildMemory, buildProgram, buildSource, buildPictures, buildCentral,
-    buildFrame, buildReader, buildPrinter, buildFiles, buildLanes, buildSigns, buildExercises, buildMeanings, buildConsole]) part();
+    buildFrame, buildReader, buildPrinter, buildFiles, buildLanes, buildSigns, buildExercises, buildMeanings, buildConsole, buildAssembler]) part();
   placeSections();
   const redraw = () => { drawLegend(); drawLanes(); showHead(); showSigns(); showBarrel(); };
   for (const query of ["(prefers-color-scheme: dark)", "print"]) matchMedia(query).addEventListener("change", redraw);

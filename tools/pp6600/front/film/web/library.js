@@ -20,20 +20,11 @@ const checked32 = (number) => {
   throw new RangeError(`pp6600.wasm: ${number} is no number of 32 bits`);
 };
 
-// A session. Addresses and sizes are 64 bits wide for the module, and so are places and numbers of the machine. Arrays are copies.
-class LibrarySession {
-  // The options are the program's; `central` is a count of words, and `deck` and `panel` are the bytes of their files.
-  constructor(calls, { history = 10000, central = 131072, reader = 0o12, printer = 0o13, deck = [], panel = [] } = {}) {
+// The module's memory for what calls are given and write. Addresses and sizes are 64 bits wide for the module.
+class Rooms {
+  constructor(calls) {
     this.calls = calls;
     this.rooms = {}; // the address and the size of the memory of each use
-    this.handle = this.given("handle", Uint32Array.of(0, 0))[0];
-    const machine = [history, central, reader, printer].map(checked32), line = this.room("line", 128);
-    const files = [...this.given("deck", deck), ...this.given("panel", panel)];
-    const status = calls.pp6600_open(...machine, ...files, this.handle, line, 128n, ...this.outs(2)), [size, exit] = this.results(2);
-    if (status === STATUS.DONE) return;
-    const error = new LibraryError(status, status === STATUS.OPEN ? "" : this.text(line, size), exit);
-    this.release();
-    throw error;
   }
 
   // Returns memory for a use, which grows as needed.
@@ -51,7 +42,6 @@ class LibrarySession {
   release() {
     for (const { at } of Object.values(this.rooms)) this.calls.pp6600_end_room(at);
     this.rooms = {};
-    this.handle = 0n;
   }
 
   // Returns a part of the memory. The next call may move it.
@@ -68,6 +58,27 @@ class LibrarySession {
   // Returns where a call puts the numbers that it returns beside its status; and those, of which each has 32 bits.
   outs = (count) => [0n, 8n, 16n, 24n].slice(0, count).map((more) => this.room("results", 32) + more);
   results = (count) => [0, 2, 4, 6].slice(0, count).map((at) => this.view(Uint32Array, this.room("results", 32), 8)[at]);
+}
+
+// A session. Places and numbers of the machine are 64 bits wide too. Arrays are copies.
+class LibrarySession extends Rooms {
+  // The options are the program's; `central` is a count of words, and `deck` and `panel` are the bytes of their files.
+  constructor(calls, { history = 10000, central = 131072, reader = 0o12, printer = 0o13, deck = [], panel = [] } = {}) {
+    super(calls);
+    this.handle = this.given("handle", Uint32Array.of(0, 0))[0];
+    const machine = [history, central, reader, printer].map(checked32), line = this.room("line", 128);
+    const files = [...this.given("deck", deck), ...this.given("panel", panel)];
+    const status = calls.pp6600_open(...machine, ...files, this.handle, line, 128n, ...this.outs(2)), [size, exit] = this.results(2);
+    if (status === STATUS.DONE) return;
+    const error = new LibraryError(status, status === STATUS.OPEN ? "" : this.text(line, size), exit);
+    this.release();
+    throw error;
+  }
+
+  release() {
+    super.release();
+    this.handle = 0n;
+  }
 
   call(name, ...words) {
     const status = this.calls[`pp6600_${name}`](this.handle, ...words);
@@ -128,3 +139,15 @@ class LibrarySession {
 }
 
 if (typeof module !== "undefined") module.exports = { STATUS, LibraryError, LibrarySession, openLibrary };
+
+// The assembler, whose calls need no session.
+class Assembler extends Rooms {
+  // Returns the lines that a call writes of a source, for a form or a processor, and how many faults the source has.
+  written(call, source, number, room = 1 << 16) {
+    const given = this.given("source", new TextEncoder().encode(source)), into = this.room("text", room);
+    const status = this.calls[`pp6600_${call}`](...given, number, into, BigInt(room), ...this.outs(2)), [count, faults] = this.results(2);
+    if (status === STATUS.ROOM) return this.written(call, source, number, count);
+    if (status !== STATUS.DONE) throw new LibraryError(status);
+    return { lines: new TextDecoder().decode(this.view(Uint8Array, into, count)).split("\n").slice(0, -1), faults };
+  }
+}

@@ -29,6 +29,16 @@ function buildSource() {
   byId("next-time").onclick = () => moveToTime(source.of.get(source.processor), 1);
 }
 
+// Shows the source that a processor has now.
+function rebuildSource(n) {
+  for (const { body } of source.of.values()) body.remove();
+  source.of.clear();
+  byId("source-of").replaceChildren();
+  buildSource();
+  source.processor = n;
+  growSource(0);
+}
+
 // Notes the times of the moments that came to the film after so many.
 function growSource(first) { for (const one of source.of.values()) addTimes(one, Math.max(first, 1)); noteLoaded(first); }
 

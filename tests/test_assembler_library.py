@@ -1,0 +1,114 @@
+"""The assembler of the library against the assembler in Python: what tools/assemble writes by either of them, and the other texts of the
+library; and tools/disassemble. Sources are those of the repository, right and wrong, and others made at random.
+
+    PP6600_SOURCES=N   makes N at random (decimal)
+"""
+
+import os
+import random
+import unittest
+from unittest import mock
+
+from . import test_disassemble
+from .support import TOP, Case, tool
+from .test_assemble import sections
+from .test_assembler_crate import sources
+
+from pp6600.engine.assembler import COMPLAINTS, LINES, NAMES, assembler_here
+from pp6600.language.assembling import NOT_YET, by_library, in_python
+from pp6600.language.source.disassembler import Disassembler
+from pp6600.language.source.passes import assembled
+from pp6600.language.sources import names_of
+
+COUNT = int(os.environ.get("PP6600_SOURCES", "3000"))
+FORMS = ("words", "set", "listing")
+WRONG = 1  # the status of tools/assemble
+
+
+def text_of(lines):
+    return "".join(f"{line}\n" for line in lines).encode("ascii")
+
+
+def rows_with_words(program):
+    """Returns what the form LINES has."""
+    return [" ".join([f"{row.line.number:o}", *(f"{number:04o}" for number in (row.location, row.origin, *row.words))])
+            for row in program.rows if row.words]
+
+
+def names_in(program):
+    """Returns what the form NAMES has, in the order of the names."""
+    names = names_of(program)
+    return sorted([*(f"{name} {number:04o}" for number, own in names.labels.items() for name in own),
+                   *(f"{name} = {number:o}" for number, own in names.equates.items() for name in own)])
+
+
+@unittest.skipUnless(assembler_here(), "there is no library with an assembler")
+class Library(Case):
+    def check(self, lines):
+        """Compares the two assemblers on a source. Returns whether the library takes it."""
+        source, taken = text_of(lines), False
+        for number, form in enumerate(FORMS):
+            got, wanted = by_library(assembler_here(), source, "a.pp", form, 9 - number), in_python(source, "a.pp", form, 9 - number, None, None)
+            if got is None:
+                (refusal,) = assembler_here().text(source, COMPLAINTS)[0].decode().splitlines()[:1]
+                self.assertTrue(refusal.endswith(NOT_YET), refusal)
+                continue
+            taken = True
+            self.assertEqual((wanted.complaints, wanted.is_wrong), (got.complaints, got.is_wrong))
+            if not got.is_wrong:
+                self.assertEqual(wanted.lines(), got.lines())
+        if taken:
+            self.check_texts(source, assembled(lines))
+        return taken
+
+    def check_texts(self, source, program):
+        """Compares what only the page asks for."""
+        if not program.messages:
+            self.assertEqual(rows_with_words(program), assembler_here().text(source, LINES)[0].decode().splitlines())
+            self.assertEqual(names_in(program), sorted(assembler_here().text(source, NAMES)[0].decode().splitlines()))
+
+    def test_sources(self):
+        taken = 0
+        for number, lines in enumerate(sources(COUNT)):
+            with self.subTest(number, lines=lines):
+                taken += self.check(lines)
+        self.assertGreater(taken, COUNT // 2)
+
+    def test_wrong_sources(self):
+        """tests/programs/faults.txt has them, with what is said of each."""
+        taken = [self.check(lines) for cases in sections("faults.txt").values() for lines, _ in cases if "".join(lines).isascii()]
+        self.assertGreater(sum(taken), len(taken) // 3)
+
+    def test_cells(self):
+        choose = random.Random(7)
+        for _ in range(600):
+            cells = test_disassemble.Law.window(choose, choose.choice((1, 2, 3, 8, 20, 60, 400)))
+            entries = [choose.choice(list(cells)) for _ in range(choose.choice((0, 1, 2, 5)))] + [choose.randrange(0o10000)]
+            self.assertEqual(list(Disassembler(cells, entries).lines()), assembler_here().disassembled(cells, entries).decode().splitlines())
+
+
+class Tools(Case):
+    """Both tools write the same with the library and without."""
+
+    def both(self, name, *words, **how):
+        """Returns what a tool writes, and its status."""
+        found = []
+        for engine in (os.environ.get("PP6600_ENGINE", ""), "plain"):
+            with mock.patch.dict(os.environ, PP6600_ENGINE=engine):
+                found.append(tool(name, *words, **how))
+        self.assertEqual(*found)
+        return found[0]
+
+    def test_assemble(self):
+        self.assertEqual(0, self.both("assemble", "--set", "3", os.path.join(TOP, "tests", "programs", "monitor.pp")).status)
+        for number, lines in enumerate((["  LDN 5"], ["  LDN"], [" A LDN A", "  IFEQ 1,1", "  UJN 0", "  ENDIF"], [], ["  LDC =5"], ["* É", " É LDN 100B"])):
+            path = self.file("".join(f"{line}\n" for line in lines), f"{number}.pp")
+            for words in ((), ("--listing",), ("--set", "0"), ("--panel",), ("--deck",), ("--unit", "A"), ("--text", TOP)):
+                with self.subTest(lines=lines, words=words):
+                    self.both("assemble", *words, path)
+
+    def test_disassemble(self):
+        words = self.file("0100 2000 0300 3420 0100 0100 1405\n")
+        self.assertEqual(0, self.both("disassemble", words).status)
+        self.both("disassemble", "--entry", "103", "--entry", "77", words)
+        self.both("disassemble", self.file(tool("assemble", "--listing", os.path.join(TOP, "tests", "programs", "mover.pp")).out))

@@ -1,0 +1,53 @@
+"""A source assembled for a tool: by the proved assembler of the library, or by the one in Python where there is no library, or where the
+source has what the library does not take."""
+
+import re
+from typing import Callable, List, NamedTuple, Optional
+
+from ..engine.assembler import COMPLAINTS, LISTING, WORDS, Assembler, assembler_here
+from ..shell.ending import shown_text
+from ..shell.text_files import lines_in, lines_of, named
+
+NOT_YET = " is not taken by this assembler yet"  # how the only message of the library ends about what Python's assembler may take
+PLAIN_TEXT = re.compile(rb"[\t\n\r -~]*")  # in other texts a column may be something else
+
+
+class Made(NamedTuple):
+    """What is written of a source: what is wrong with it, whether it is not to be used, and its lines."""
+
+    complaints: List[str]
+    is_wrong: bool
+    lines: Callable[[], List[str]]
+
+
+def assembled_lines(source: bytes, path: Optional[str], form: str, processor: int, decks: Optional[str], unit: Optional[str]) -> Made:
+    """Assembles the source of a file, with the folder of its common decks, if it has some. The lines are those of a form and, if they load
+    the program, for a processor; of the unit with a name, if there is one."""
+    assembler = assembler_here() if form in ("words", "set", "listing") and decks is None and unit is None else None
+    made = by_library(assembler, source, path, form, processor) if assembler and PLAIN_TEXT.fullmatch(source) else None
+    return made or in_python(source, path, form, processor, decks, unit)
+
+
+def by_library(assembler: Assembler, source: bytes, path: Optional[str], form: str, processor: int) -> Optional[Made]:
+    """Assembles a source by the library; None if it does not take it."""
+    text, faults = assembler.text(source, COMPLAINTS)
+    complaints = lines_of(text.decode("ascii"))
+    if faults and any(complaint.endswith(NOT_YET) for complaint in complaints[:faults]):
+        return None
+
+    def lines() -> List[str]:
+        if form == "set":
+            return lines_of(assembler.load_lines(source, processor).decode("ascii"))
+        found = lines_of(assembler.text(source, LISTING if form == "listing" else WORDS)[0].decode("ascii"))
+        return found[:-1] if form == "words" and found and found[-1].startswith("P") else found
+    return Made([shown_text(f"{named(path)}:{complaint}") for complaint in complaints], faults > 0, lines)
+
+
+def in_python(source: bytes, path: Optional[str], form: str, processor: int, decks: Optional[str], unit: Optional[str]) -> Made:
+    """Assembles a source by the assembler in Python."""
+    from .source import forms, passes
+    from .sources import complaints, texts_in, unit_of
+    from .listing import without_mark
+    program = passes.assembled(without_mark(lines_in(source, path)), texts_in(decks))
+    return Made(complaints(path, program), bool(program.messages),
+                lambda: list(forms.lines_of(program if unit is None else unit_of(program, unit), form, processor)))
