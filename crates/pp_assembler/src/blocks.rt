@@ -183,7 +183,7 @@ impl Pass {
         if found.count > before.saturating_add(1) {
             let more = part_at(here.text, statement.operand, before.saturating_add(1))?;
             let fault = Fault::new("{} takes {} (decimal) operands and a count of lines");
-            let fault = fault.part(statement.operation).decimal(before as u32);
+            let fault = fault.part(statement.operation).count(before);
             return Err(Stop::At(more.first, fault));
         }
         match found.parts.get(before) {
@@ -232,7 +232,7 @@ impl Pass {
             }
         }
         let fault = Fault::new("{} has fewer than {} (decimal) lines");
-        let fault = fault.part(statement.operation).decimal(count as u32);
+        let fault = fault.part(statement.operation).count(count);
         self.report(here, column, fault)?;
         Ok(Block::open(rest, false))
     }

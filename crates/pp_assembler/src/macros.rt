@@ -505,9 +505,9 @@ impl Vocabulary {
             Some(value) if index < most => value.name,
             _ => {
                 let fault = Fault::new("{} takes {} (decimal) operands, not {}");
-                let fault = fault.part(statement.operation).decimal(most as u32);
+                let fault = fault.part(statement.operation).count(most);
                 let count = count_of(here.text, statement.operand);
-                return Err(Stop::At(operand.column, fault.decimal(count)));
+                return Err(Stop::At(operand.column, fault.count(count)));
             }
         };
         let text = self.keep(operand.text.of(here.text))?;
@@ -653,9 +653,9 @@ fn without_all_parentheses(text: &[u8]) -> &[u8] {
 }
 
 /// Returns how many operands a call has.
-fn count_of(line: &[u8], operand: Field) -> u32 {
+fn count_of(line: &[u8], operand: Field) -> usize {
     let mut operands = Operands::new(operand);
-    let mut count: u32 = 0;
+    let mut count: usize = 0;
     for _ in 0..line.len() {
         if operands.next(line).is_none() {
             break;

@@ -113,6 +113,11 @@ impl Fault {
         self.with(Argument::Decimal(number))
     }
 
+    /// Returns the fault with a count.
+    pub fn count(self, count: usize) -> Self {
+        self.decimal(u32::try_from(count).unwrap_or(u32::MAX))
+    }
+
     /// Returns that a text has no such symbol at its end.
     pub fn no_text_end(symbol: u8) -> Self {
         Fault::new("the text has no {} at its end").symbol(symbol)

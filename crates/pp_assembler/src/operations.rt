@@ -4,8 +4,7 @@ use crate::conditions::Order;
 use crate::instructions::code_of;
 use Operation::{
     Base, Bits, Block, Data, Deck, End, Equate, Error, Expressions, Greatest, Ignored, Inside,
-    Least, Lines, Literals, Location, NotYet, Origin, Qualifier, Refused, Set, Shortest, Space,
-    Use, Zeros,
+    Least, Lines, Literals, Location, Origin, Qualifier, Refused, Set, Shortest, Space, Use, Zeros,
 };
 
 /// What a name in the operation field is.
@@ -43,8 +42,6 @@ pub enum Operation {
     /// DECMIC, or OCTMIC.
     NumberMicro { is_decimal: bool },
     MicroCount,
-    /// A directive that is not known yet.
-    NotYet,
     Block(Opening),
     Lines(Elsewhere),
     /// What is only within a block.

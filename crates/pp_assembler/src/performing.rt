@@ -49,7 +49,6 @@ impl Pass {
                 self.name_digits(here, statement, is_decimal)
             }
             Operation::MicroCount => self.count_micro(here, statement),
-            Operation::NotYet => Err(Stop::not_yet(statement.operation)),
             _ => {
                 self.label(here, statement)?;
                 self.labelled(here, statement, operation)

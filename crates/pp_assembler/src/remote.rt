@@ -2,11 +2,22 @@
 use crate::directives::the_only;
 use crate::fields::Statement;
 use crate::lines::{Lines, Span};
-use crate::message::Stop;
+use crate::message::{Fault, Stop};
 use crate::operations::Elsewhere;
 use crate::pass::{Here, Pass};
 use crate::texts::find;
 use crate::vocabulary::{Macro, Meaning};
+
+/// Returns that the lines of a common deck are in a file, of which none is read here.
+fn no_deck(statement: Statement) -> Stop {
+    let fault = Fault::new("{} is a common deck: name the folder that has it by --text DIR");
+    let fault = match (statement.operand.is_empty(), statement.location.is_empty()) {
+        (false, _) => fault.part(statement.operand),
+        (true, false) => fault.part(statement.location),
+        (true, true) => fault.part(statement.operation),
+    };
+    Stop::At(statement.operand.first, fault)
+}
 
 impl Pass {
     pub fn elsewhere(
@@ -17,7 +28,10 @@ impl Pass {
     ) -> Result<(), Stop> {
         let here = Here::new(lines, self.at);
         match directive {
-            Elsewhere::Deck => Err(Stop::not_yet(statement.operation)),
+            Elsewhere::Deck => {
+                self.plain_row(&here, false)?;
+                Err(no_deck(statement))
+            }
             Elsewhere::Synonym => self.name_operation(&here, statement),
             Elsewhere::Purge => self.purge(&here, statement),
             Elsewhere::Here => {

@@ -30,12 +30,12 @@ fn says_what_is_wrong(rt: HostRuntime) -> Result<(), Fail> {
 
 #[test]
 fn refuses_by_name_what_it_does_not_know(rt: HostRuntime) -> Result<(), Fail> {
-    let source = b"   LDN 100B\n   XTEXT BUFFERS\n";
+    let source = b"   LDN 100B\n   CON \xc3\xa9\n";
     assert!(rt;
         is_wrong(
             rt,
             source,
-            b"2:4: XTEXT is not taken by this assembler yet\n"
+            b"2:8: \xc3\xa9 is not taken by this assembler yet\n"
         )?
     );
     Ok(())

@@ -116,10 +116,16 @@ def made_line(state: "Pass", one: Line, values: Dict[str, str], name: Field) -> 
     """Returns a line that a macro's call makes of one of its lines."""
     line = state.line
     column, outer = line.call.column if line.call else name.column, line.call.lines if line.call else ()
-    text = replaced_line(state, one, values)
+    text = short_enough(replaced_line(state, one, values), name)
+    state.count_made()
+    return Line(line.number, text, Call(column, name.text, (*outer, one.number)))
+
+
+def short_enough(text: str, name: Field) -> str:
+    """Returns the text of a line that an operation makes."""
     if len(text) > LONGEST:
         raise Fault(name.column, f"a line that {name.text} makes has more than {LONGEST} (decimal) symbols")
-    return Line(line.number, text, Call(column, name.text, (*outer, one.number)))
+    return text
 
 
 def replaced_line(state: "Pass", line: Line, values: Dict[str, str]) -> str:

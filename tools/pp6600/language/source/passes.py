@@ -45,10 +45,16 @@ class Pass(State):
         self.macros: Dict[str, Macro] = {}
         self.synonyms: Dict[str, str] = {}  # of operations, by OPSYN
         self.remote: Dict[str, List[Line]] = {}  # lines of RMT by their names
-        self.depth = self.nested = self.locals = self.performed = 0
+        self.depth = self.nested = self.locals = self.performed = self.made_lines = 0
         self.has_more = False  # after END
         self.run([Line(0, text) for text in SUBR])
         self.rows = []
+
+    def count_made(self) -> None:
+        """Counts a line that another one makes."""
+        self.made_lines += 1
+        if self.made_lines > MOST_STATEMENTS:
+            raise TooMuch(f"more than {MOST_STATEMENTS} (decimal) statements")
 
     def new_local(self) -> str:
         self.locals += 1
@@ -200,6 +206,8 @@ class Pass(State):
     def run_remote(self, names: Sequence[str]) -> None:
         """Performs the lines of RMT with these names."""
         lines = [line for name in names for line in self.remote.pop(name, [])]
+        for _ in lines:
+            self.count_made()
         self.run(lines)
 
     def end(self) -> None:
