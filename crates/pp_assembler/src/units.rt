@@ -154,8 +154,8 @@ impl Pass {
         }
         self.blocks.all.clear();
         self.blocks.used.clear();
-        let nominal = self.block_of(b"")?;
-        self.block_of(NAME_OF_LITERALS)?;
+        let nominal = self.block_named(b"")?;
+        self.block_named(NAME_OF_LITERALS)?;
         self.literals = Literals::new(self.alloc);
         self.literals.first = self.base_of(NAME_OF_LITERALS);
         self.enter(nominal)
@@ -186,7 +186,7 @@ impl Pass {
     }
 
     /// Returns the index of the block with a name, which may be a new one.
-    fn block_of(&mut self, name: &[u8]) -> Result<usize, AllocError> {
+    fn block_named(&mut self, name: &[u8]) -> Result<usize, AllocError> {
         for index in 0..self.blocks.all.len() {
             if self.symbols.text_of(self.blocks.all[index].name) == name {
                 return Ok(index);
@@ -240,7 +240,7 @@ impl Pass {
             let _ = self.blocks.used.pop();
             self.blocks.used.pop().unwrap_or(NOMINAL)
         } else {
-            self.block_of(name)?
+            self.block_named(name)?
         };
         self.enter(index)
     }
