@@ -303,7 +303,7 @@ impl Pass {
                 matches!(word, b"ELSE")
                     && outer.is_condition()
                     && !has_middle
-                    && opened_by(lines, &self.open_names, name) == 0,
+                    && is_outermost(lines, &self.open_names, name),
             ),
         }
     }
@@ -392,7 +392,15 @@ fn part_at(line: &[u8], operand: Field, index: usize) -> Result<Field, Stop> {
     Ok(parts.next(line)?.unwrap_or(end))
 }
 
-/// Returns the index of the statement that an ELSE or an end with a name belongs to.
+/// Returns whether an ELSE with a name, or without, is that of the outermost statement.
+fn is_outermost(lines: &Lines, open: &[Span], name: &[u8]) -> bool {
+    match open {
+        [outer, ..] if !name.is_empty() => outer.of(&lines.capitals) == name,
+        _ => open.len() == 1,
+    }
+}
+
+/// Returns the index of the statement that an end with a name, or without, belongs to.
 fn opened_by(lines: &Lines, open: &[Span], name: &[u8]) -> usize {
     for index in 0..open.len() {
         if let Some(one) = open.get(index) {

@@ -114,13 +114,15 @@ impl Pass {
         let mut name = statement.location;
         let mut label = Field::new(0, 0);
         if name.is_empty() {
-            let Some(first) = operands.next(here.text) else {
-                return Err(Stop::of("{} wants a name", statement.operation));
-            };
-            name = first.text;
+            if let Some(first) = operands.next(here.text) {
+                name = first.text;
+            }
             if let Some(second) = operands.next(here.text) {
                 label = second.text;
             }
+        }
+        if name.is_empty() {
+            return Err(Stop::of("{} wants a name", statement.operation));
         }
         let kept = Macro {
             name: self.keep_name(here, name)?,

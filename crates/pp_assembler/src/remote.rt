@@ -95,6 +95,9 @@ impl Pass {
     /// OPSYN gives an operation another name; a macro with it is the same macro.
     fn name_operation(&mut self, here: &Here, statement: Statement) -> Result<(), Stop> {
         let old = the_only(here, statement)?.of(here.text);
+        if statement.location.is_empty() {
+            return Err(Stop::of("{} wants a name before it", statement.operation));
+        }
         let words = &mut self.vocabulary;
         let name = words.keep(statement.location.of(here.text))?;
         match words.macro_of(old) {

@@ -33,7 +33,7 @@ def define(state: "Pass", statement: Statement, body: Sequence[Line]) -> None:
     name, names, label = statement.location, arguments_of(statement.operand), Field("", 0)
     has_names = statement.operation.text == "MACROE"
     if not name.text:
-        if not names:
+        if not names or not names[0].text:
             raise Fault(statement.operation.column, f"{statement.operation.text} wants a name")
         name, label, *names = [*names, Field("", 0)] if len(names) == 1 else names
     pairs = [(Field(one.text.partition("=")[0] if has_names else one.text, one.column), one.text.partition("=")[2]) for one in names]

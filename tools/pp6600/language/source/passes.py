@@ -124,9 +124,11 @@ class Pass(State):
         if '"' in line.text and line.text[:1] != "*":
             line = line._replace(text=MICRO.sub(self.micro, line.capitals))
         statement = statement_of(line, self.macros)
-        if statement and statement.operation.text in self.synonyms:
-            return statement._replace(operation=statement.operation._replace(text=self.synonyms[statement.operation.text]))
-        return statement
+        if not statement:
+            return None
+        name = statement.operation.text
+        self.after_operation = line.text[statement.operation.column + len(name):]
+        return statement._replace(operation=statement.operation._replace(text=self.synonyms.get(name, name)))
 
     def micro(self, found: "re.Match[str]") -> str:
         """Returns what a name between two marks stands for; the same text if it is no micro, as in a comment."""
@@ -238,6 +240,8 @@ def here(state: Pass, statement: Statement) -> None:
 def opsyn(state: Pass, statement: Statement) -> None:
     """OPSYN gives an operation another name; a macro with it is the same macro."""
     old, new = the_only(statement).text, statement.location.text
+    if not new:
+        raise Fault(statement.operation.column, f"{statement.operation.text} wants a name before it")
     if old in state.macros:
         state.macros[new] = state.macros[old]
     else:
