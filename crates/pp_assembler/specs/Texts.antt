@@ -7,7 +7,8 @@ use Rattle.pp_assembler.specs.declared.program.Cell.{Cell}
 
 -- The line of a complaint: its line and its column, decimal, and its text.
 abbrev pub complaint_line : Complaint → List ℕ
-complaint_line complaint = decimal complaint.line ++ codes ":" ++ decimal complaint.column ++ codes ": " ++ complaint.text.items ++ 10 ∷ []
+complaint_line complaint =
+    decimal complaint.line ++ codes ":" ++ decimal complaint.column ++ codes ": " ++ complaint.text.items ++ 10 ∷ []
 
 -- A line for each complaint.
 abbrev pub complaint_lines : List Complaint → List ℕ

@@ -1,8 +1,8 @@
 //! Octal and decimal digits.
-ghost use Rattle.std.specs.Prelude.{◌≤◌};
+ghost use Rattle.std.specs.Prelude.{◌≡◌, ◌≤◌, ◌++◌, OnOk, decimal};
 
 use pp_arith::octal;
-use std::alloc::AllocError;
+use std::alloc::{AllocError, Global};
 
 /// Writes an octal number, with zeros up to a width, 1 to 22.
 pub fn put_octal(out: &mut Vec<u8>, number: i64, width: u8) -> Result<(), AllocError>
@@ -13,6 +13,14 @@ pub fn put_octal(out: &mut Vec<u8>, number: i64, width: u8) -> Result<(), AllocE
         out.push(b'-')?;
     }
     out.extend_from_slice(octal(number.unsigned_abs(), width).as_slice())
+}
+
+/// Writes a decimal number.
+pub fn put_decimal(alloc: Global, out: &mut Vec<u8>, number: u32) -> Result<(), AllocError>
+    ensures { OnOk result (out.new.items ≡ out.old.items ++ decimal number) }
+{
+    let digits = format!(in alloc; "{number}")?;
+    out.extend_from_slice(digits.as_bytes())
 }
 
 /// Writes the digits of a number after its sign, with zeros up to a width.

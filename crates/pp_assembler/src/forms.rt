@@ -3,7 +3,7 @@ ghost use Rattle.std.specs.Prelude.{◌≡◌, ◌++◌, IfOk, OnOk};
 ghost use Rattle.pp_arith.specs.Octal.{octal_text};
 ghost use Rattle.pp_assembler.specs.Texts.{cell_lines, complaint_lines, start_line};
 
-use crate::digits::put_octal;
+use crate::digits::{put_decimal, put_octal};
 use crate::listing::put_row;
 use crate::message::Complaint;
 use crate::pass::CELLS;
@@ -41,8 +41,10 @@ fn put_complaints(
     ensures { OnOk result (out.new.items ≡ out.old.items ++ complaint_lines complaints.now) }
 {
     for complaint in complaints {
-        let (line, column) = (complaint.line, complaint.column);
-        out.extend_from_slice(format!(in alloc; "{line}:{column}: ")?.as_bytes())?;
+        put_decimal(alloc, out, complaint.line)?;
+        out.push(b':')?;
+        put_decimal(alloc, out, complaint.column)?;
+        out.extend_from_slice(b": ")?;
         out.extend_from_slice(&complaint.text)?;
         out.push(b'\n')?;
     }

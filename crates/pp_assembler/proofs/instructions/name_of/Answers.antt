@@ -1,0 +1,5 @@
+use Rattle.std.proofs.lemmas.Option.{slice_get-get_or}
+use Rattle.pp_assembler.proofs.instructions.name_of.Goals as goal
+
+pub returns : goal.returns
+returns c = slice_get-get_or _ _ _ c.requires
