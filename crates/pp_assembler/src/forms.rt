@@ -1,21 +1,35 @@
 //! What is written of a source: what is wrong with it, its words, its listing, whose line each word is, its names.
+ghost use Rattle.std.specs.Prelude.{◌≡◌, ◌++◌, IfOk, OnOk};
+ghost use Rattle.pp_arith.specs.Octal.{octal_text};
+ghost use Rattle.pp_assembler.specs.Texts.{cell_lines, complaint_lines, start_line};
+
 use crate::digits::put_octal;
 use crate::listing::put_row;
 use crate::message::Complaint;
 use crate::pass::CELLS;
 use crate::program::Assembly;
 use crate::symbols::Symbol;
+use pp_arith::octal;
 use std::alloc::{AllocError, Global};
 
 /// Returns a line for each message and then for each warning: its line and its column, decimal and from 1, and its text.
 ///
 /// # Errors
 /// Memory ran out.
-pub fn complaints_text(alloc: Global, made: &Assembly) -> Result<Vec<u8>, AllocError> {
+pub fn complaints_text(alloc: Global, made: &Assembly) -> Result<Vec<u8>, AllocError>
+    ensures { IfOk result (λ text. text.items ≡ complaint_lines made.now.messages.items ++ complaint_lines made.now.warnings.items) }
+{
     let mut out = Vec::new(alloc);
     put_complaints(alloc, &mut out, &made.messages)?;
     put_complaints(alloc, &mut out, &made.warnings)?;
     Ok(out)
+}
+
+/// Writes a number in four octal digits.
+fn put_four(out: &mut Vec<u8>, number: u16) -> Result<(), AllocError>
+    ensures { OnOk result (out.new.items ≡ out.old.items ++ octal_text number 4) }
+{
+    out.extend_from_slice(octal(u64::from(number), 4).as_slice())
 }
 
 /// Writes a line for each complaint.
@@ -23,7 +37,9 @@ fn put_complaints(
     alloc: Global,
     out: &mut Vec<u8>,
     complaints: &[Complaint],
-) -> Result<(), AllocError> {
+) -> Result<(), AllocError>
+    ensures { OnOk result (out.new.items ≡ out.old.items ++ complaint_lines complaints.now) }
+{
     for complaint in complaints {
         let (line, column) = (complaint.line, complaint.column);
         out.extend_from_slice(format!(in alloc; "{line}:{column}: ")?.as_bytes())?;
@@ -38,17 +54,20 @@ fn put_complaints(
 ///
 /// # Errors
 /// Memory ran out.
-pub fn words_text(alloc: Global, made: &Assembly) -> Result<Vec<u8>, AllocError> {
+pub fn words_text(alloc: Global, made: &Assembly) -> Result<Vec<u8>, AllocError>
+    ensures { IfOk result (λ text. text.items ≡ cell_lines made.now.program.cells.items ++ start_line made.now.program.start) }
+{
     let mut out = Vec::new(alloc);
-    for cell in made.program.cells() {
-        put_octal(&mut out, i64::from(cell.address), 4)?;
+    let cells = made.program.cells();
+    for cell in cells {
+        put_four(&mut out, cell.address)?;
         out.push(b' ')?;
-        put_octal(&mut out, i64::from(cell.word), 4)?;
+        put_four(&mut out, cell.word)?;
         out.push(b'\n')?;
     }
     if let Some(start) = made.program.start() {
         out.extend_from_slice(b"P ")?;
-        put_octal(&mut out, i64::from(start), 4)?;
+        put_four(&mut out, start)?;
         out.push(b'\n')?;
     }
     Ok(out)

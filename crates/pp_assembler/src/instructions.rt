@@ -1,6 +1,6 @@
 //! The names of the 64 (decimal) instructions, and what each has as operand.
-ghost use Rattle.std.specs.Prelude.{◌≡◌, ◌<◌, ◌≤◌, IfSome};
-ghost use Rattle.pp_assembler.specs.Instructions.{form};
+ghost use Rattle.std.specs.Prelude.{◌≡◌, ◌≢◌, ◌<◌, ℕ, IfSome, None, Some, slice_get};
+ghost use Rattle.pp_assembler.specs.Instructions.{form, size};
 
 /// What an instruction has as operand.
 #[derive(Clone, Copy, Debug, PartialEq, Eq)]
@@ -36,13 +36,17 @@ pub static NAMES: [[u8; 3]; INSTRUCTIONS] = [
 /// Returns the name of the instruction with a code, up to octal 77.
 pub fn name_of(code: u8) -> [u8; 3]
     requires { code < 0o100 }
+    ensures { slice_get NAMES code ≡ Some result }
 {
     NAMES[code as usize]
 }
 
 /// Returns the code of the instruction with a name, in capitals; of PSN, which is three, the first.
 pub fn code_of(name: &[u8]) -> Option<u8>
-    ensures { IfSome result (λ code. code < 0o100) }
+    ensures at_most { IfSome result (λ code. code < 0o100) }
+    ensures named { IfSome result (λ code. slice_get NAMES code ≡ Some name.now) }
+    ensures first { IfSome result (λ code. (lower : ℕ) → lower < code → slice_get NAMES lower ≢ Some name.now) }
+    ensures unnamed { result ≡ None → (code : ℕ) → slice_get NAMES code ≢ Some name.now }
 {
     for code in 0..INSTRUCTIONS {
         if NAMES[code].as_slice() == name {
@@ -67,7 +71,9 @@ pub fn form_of(code: u8) -> Form
 }
 
 /// Returns how many words the instruction with a code has.
-pub fn size_of(code: u8) -> usize {
+pub fn size_of(code: u8) -> usize
+    ensures { result ≡ size (form code) }
+{
     match form_of(code) {
         Form::Constant | Form::Indexed | Form::Both => 2,
         Form::Alone | Form::D | Form::Target => 1,
