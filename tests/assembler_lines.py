@@ -17,7 +17,7 @@ MICROS = """MICRO 1,3,*ABCDEF*|MICRO 1,,/5/|MICRO 2,2,*A*|MICRO 0,2,*AB*|MICRO 1
 
 
 def line(label: str, text: str) -> str:
-    name, _, operand = text.strip().partition(" ")
+    name, _, operand = "".join(text.split("\n    ")).partition(" ")
     return f"{label:10}{name:6} {operand}".rstrip()
 
 

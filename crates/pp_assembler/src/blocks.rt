@@ -112,10 +112,13 @@ impl Pass {
         statement: Statement,
         opening: Opening,
     ) -> Result<(), Stop> {
-        let here = Here::new(lines, self.at);
-        self.plain_row(&here, false)?;
-        let block = self.block_of(lines, &here, statement, opening)?;
-        let begun = self.begin_block(lines, statement, opening, block);
+        let block = self.block_of(lines, statement, opening)?;
+        let begun = match self.begin_block(lines, statement, opening, block) {
+            Ok(()) if matches!(opening, Opening::Echo) && block.is_closed => {
+                self.echo(lines, statement, block.first)
+            }
+            begun => begun,
+        };
         if let Err(Stop::At(..) | Stop::Follows) = begun {
             self.pass_over(lines, block.first)?;
             self.pass_over(lines, block.second)?;
@@ -127,29 +130,31 @@ impl Pass {
     fn block_of(
         &mut self,
         lines: &Lines,
-        here: &Here,
         statement: Statement,
         opening: Opening,
     ) -> Result<Block, Stop> {
+        let here = Here::new(lines, self.at);
+        self.plain_row(&here, false)?;
         let rest = Span {
             first: self.present.next,
             end: self.present.all.end,
         };
-        let count = self.count_of(here, statement, opening)?;
+        let count = self.count_of(&here, statement, opening)?;
         if count > 0 {
-            return self.counted(lines, here, statement, rest, count);
+            return self.counted(lines, &here, statement, rest, count);
         }
         let found = if matches!(opening, Opening::Macro { .. } | Opening::Remote) {
             self.up_to_end(lines, opening, rest)
         } else {
-            self.nested(lines, here.span_of(statement.location), opening, rest)?
+            let name = here.span_of(statement.location);
+            self.nested(lines, name, opening, rest)?
         };
         if let Some(block) = found {
             return Ok(block);
         }
         let fault = Fault::new("{} has no {}").part(statement.operation);
         let fault = fault.with(Argument::Text(opening.end()));
-        self.report(here, statement.operation.first, fault)?;
+        self.report(&here, statement.operation.first, fault)?;
         Ok(Block::open(rest, true))
     }
 
@@ -216,7 +221,7 @@ impl Pass {
         let column = statement.operation.first;
         let mut left = count;
         for index in rest.first..rest.end {
-            if Here::new(lines, index).text.first() == Some(&b'*') {
+            if matches!(lines.part_of(index, Field::new(0, 1)), b"*") {
                 let fault = "warning: the notes among counted lines are not counted";
                 self.warn(here, column, Fault::new(fault))?;
                 continue;
@@ -312,7 +317,7 @@ impl Pass {
     /// are the next ones, since they may end with a SKIP of others.
     fn begin_block(
         &mut self,
-        lines: &mut Lines,
+        lines: &Lines,
         statement: Statement,
         opening: Opening,
         block: Block,
@@ -354,7 +359,7 @@ impl Pass {
                 let times = self.count(&here, found.parts[0], 0)?;
                 self.push_run(block.first, times, 0)
             }
-            Opening::Echo => self.echo(lines, statement, block.first),
+            Opening::Echo => Ok(()),
             _ => self.choose(lines, block, is_first?),
         }
     }

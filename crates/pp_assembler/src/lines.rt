@@ -3,6 +3,7 @@ ghost use Rattle.std.specs.Prelude.{◌≡◌, IfOk, map};
 ghost use Rattle.pp_assembler.specs.Places.{length_of, line_lengths};
 
 use crate::fields::{LAST_COLUMN, is_empty, length_without_blanks};
+use crate::message::Field;
 use std::alloc::{AllocError, Global};
 
 /// How many lines continue one.
@@ -103,6 +104,14 @@ impl Lines {
         self.joins
             .get(line.joins.first..line.joins.end)
             .unwrap_or(&[])
+    }
+
+    /// Returns a part of the line with an index, in capitals.
+    pub fn part_of(&self, index: usize, part: Field) -> &[u8] {
+        match self.all.get(index) {
+            Some(line) => part.of(self.capitals_of(*line)),
+            None => b"",
+        }
     }
 
     /// Adds bytes to the text.

@@ -130,6 +130,8 @@ impl Pass {
             operands: self.keep_operands(here, operands, has_names)?,
             has_names,
             body,
+            from: self.performed,
+            until: u32::MAX,
         };
         Ok(self.vocabulary.macros.push(kept)?)
     }
@@ -179,30 +181,23 @@ impl Pass {
         statement: Statement,
         called: Macro,
     ) -> Result<(), Stop> {
-        let here = Here::new(lines, self.at);
-        let name = statement.operation;
         let kept = self.vocabulary.text.len();
-        self.begin_call(&here, statement, called)?;
-        let line = Line {
-            joins: Span { first: 0, end: 0 },
-            call: Some(Call {
-                column: match here.line.call {
-                    Some(outer) => outer.column,
-                    None => name.first,
-                },
-                name: here.span_of(name),
-            }),
-            ..here.line
-        };
-        let made = self.expand(lines, name, line, called.body)?;
+        let line = self.begin_call(lines, statement, called)?;
+        let made = self.expand(lines, statement.operation, line, called.body)?;
         self.vocabulary.text.truncate(kept);
         self.push_run(made, 1, 1)
     }
 
-    /// Gives the operands of a call to the names of a macro, and its address to its label.
-    fn begin_call(&mut self, here: &Here, statement: Statement, called: Macro) -> Result<(), Stop> {
+    /// Gives the operands of a call to the names of a macro, and its address to its label. Returns a line as the call makes it.
+    fn begin_call(
+        &mut self,
+        lines: &Lines,
+        statement: Statement,
+        called: Macro,
+    ) -> Result<Line, Stop> {
+        let here = Here::new(lines, self.at);
         let name = statement.operation;
-        self.vocabulary.give_operands(here, statement, called)?;
+        self.vocabulary.give_operands(&here, statement, called)?;
         let has_label = !statement.location.is_empty();
         let is_named = called.label.is_empty();
         if !is_named && !has_label {
@@ -213,7 +208,7 @@ impl Pass {
             return Err(Stop::At(name.first, Fault::new(fault)));
         }
         if is_named {
-            self.label(here, statement)?;
+            self.label(&here, statement)?;
         } else {
             let text = self.vocabulary.keep(statement.location.of(here.text))?;
             self.vocabulary.values.push(Meaning {
@@ -221,7 +216,18 @@ impl Pass {
                 text,
             })?;
         }
-        self.plain_row(here, has_label && is_named)
+        self.plain_row(&here, has_label && is_named)?;
+        Ok(Line {
+            joins: Span { first: 0, end: 0 },
+            call: Some(Call {
+                column: match here.line.call {
+                    Some(outer) => outer.column,
+                    None => name.first,
+                },
+                name: here.span_of(name),
+            }),
+            ..here.line
+        })
     }
 
     /// Makes the lines of a macro's call. A name of LOCAL becomes another one in each call; the lines between two IRP are there once
@@ -259,27 +265,35 @@ impl Pass {
         line: Line,
         rest: Span,
     ) -> Result<Span, Stop> {
-        let here = Here::new(lines, rest.first);
         let after = Span {
             first: rest.first.saturating_add(1),
             end: rest.end,
         };
+        if let Some(next) = self.inside(lines, rest.first, after)? {
+            return Ok(next);
+        }
+        self.replace_line(lines, rest.first)?;
+        self.add_made(lines, name, line)?;
+        Ok(after)
+    }
+
+    /// Performs a LOCAL or an IRP of a macro, and returns the lines that come next.
+    fn inside(&mut self, lines: &Lines, index: usize, after: Span) -> Result<Option<Span>, Stop> {
+        let here = Here::new(lines, index);
         let (word, operand) = first_words(here.text);
+        let name = operand.of(here.text);
         match word.of(here.text) {
             b"LOCAL" => {
-                self.vocabulary.give_locals(operand.of(here.text))?;
-                return Ok(after);
+                self.vocabulary.give_locals(name)?;
+                Ok(Some(after))
             }
             b"IRP" if !operand.is_empty() => {
                 let end = end_of_parts(lines, after);
-                let name = self.vocabulary.keep(operand.of(here.text))?;
-                return self.begin_parts(name, after, end);
+                let name = self.vocabulary.keep(name)?;
+                Ok(Some(self.begin_parts(name, after, end)?))
             }
-            _ => {}
+            _ => Ok(None),
         }
-        self.replace_line(lines, &here)?;
-        self.add_made(lines, name, line)?;
-        Ok(after)
     }
 
     /// Adds the line that has been made.
@@ -294,26 +308,27 @@ impl Pass {
     }
 
     /// Makes a line of a macro's line with what is given for its names, in the usual columns and without its comment.
-    fn replace_line(&mut self, lines: &Lines, here: &Here) -> Result<(), Stop> {
+    fn replace_line(&mut self, lines: &Lines, index: usize) -> Result<(), Stop> {
+        let here = Here::new(lines, index);
         self.vocabulary.made.clear();
         if here.text.first() == Some(&b'*') {
-            return Ok(
-                self.vocabulary
-                    .made
-                    .extend_from_slice(lines.text_of(here.line))?,
-            );
+            let text = lines.text_of(here.line);
+            return Ok(self.vocabulary.made.extend_from_slice(text)?);
         }
-        let statement = match self.statement(here) {
+        let statement = match self.statement(&here) {
             Ok(Some(statement)) => statement,
             Ok(None) => return Ok(()),
             Err(_) => return Ok(self.vocabulary.replace(here.text)?),
         };
-        is_known(here, statement)?;
+        is_known(&here, statement)?;
+        let label = statement.location.of(here.text);
+        let name = statement.operation.of(here.text);
+        let operand = statement.operand.of(here.text);
         let words = &mut self.vocabulary;
         words.made.push(b' ')?;
-        words.replace_padded(statement.location.of(here.text), LABEL)?;
-        words.replace_padded(statement.operation.of(here.text), OPERATION)?;
-        words.replace(statement.operand.of(here.text))?;
+        words.replace_padded(label, LABEL)?;
+        words.replace_padded(name, OPERATION)?;
+        words.replace(operand)?;
         let length = length_without_blanks(&words.made);
         words.made.truncate(length);
         Ok(())
@@ -368,12 +383,11 @@ impl Pass {
         statement: Statement,
         body: Span,
     ) -> Result<(), Stop> {
-        let here = Here::new(lines, self.at);
-        let count = self.give_lists(&here, statement)?;
+        let count = self.give_lists(lines, statement)?;
         let first = lines.all.len();
         for _ in 0..count {
+            self.vocabulary.give_items()?;
             self.echo_lines(lines, statement.operation, body)?;
-            self.vocabulary.next_items();
         }
         let size = body.end.saturating_sub(body.first);
         for item in 0..count {
@@ -388,19 +402,25 @@ impl Pass {
     /// Makes lines with what is given for their names.
     fn echo_lines(&mut self, lines: &mut Lines, name: Field, body: Span) -> Result<(), Stop> {
         for index in body.first..body.end {
-            let here = Here::new(lines, index);
-            self.vocabulary.made.clear();
-            self.vocabulary.replace(here.text)?;
-            self.add_made(lines, name, here.line)?;
+            let line = self.echo_line(lines, index)?;
+            self.add_made(lines, name, line)?;
         }
         Ok(())
     }
 
+    fn echo_line(&mut self, lines: &Lines, index: usize) -> Result<Line, Stop> {
+        let here = Here::new(lines, index);
+        self.vocabulary.made.clear();
+        self.vocabulary.replace(here.text)?;
+        Ok(here.line)
+    }
+
     /// Gives the lists of ECHO to their names. Returns how many items the shortest one has.
-    fn give_lists(&mut self, here: &Here, statement: Statement) -> Result<usize, Stop> {
+    fn give_lists(&mut self, lines: &Lines, statement: Statement) -> Result<usize, Stop> {
+        let here = Here::new(lines, self.at);
         let mut operands = Operands::new(statement.operand);
         operands.next(here.text);
-        self.vocabulary.values.clear();
+        self.vocabulary.lists.clear();
         let mut sizes = None;
         for _ in 0..here.text.len() {
             let Some(operand) = operands.next(here.text) else {
@@ -411,7 +431,9 @@ impl Pass {
                 return Err(Stop::At(operand.column, fault));
             };
             let list = without_all_parentheses(list.of(here.text));
-            self.vocabulary.give(name.of(here.text), list)?;
+            let name = self.vocabulary.keep(name.of(here.text))?;
+            let text = self.vocabulary.keep(list)?;
+            self.vocabulary.lists.push(Meaning { name, text })?;
             let size = items_of(list);
             let (least, most) = sizes.unwrap_or((size, size));
             sizes = Some((size.min(least), size.max(most)));
@@ -419,7 +441,7 @@ impl Pass {
         let (least, most) = sizes.unwrap_or((0, 0));
         if least < most {
             let fault = Fault::new(LISTS_DIFFER);
-            self.warn(here, statement.operation.first, fault)?;
+            self.warn(&here, statement.operation.first, fault)?;
         }
         Ok(least)
     }
@@ -540,17 +562,21 @@ impl Vocabulary {
         }
     }
 
-    /// Goes on to the next item of each list.
-    fn next_items(&mut self) {
-        for list in &mut self.values {
-            list.text = match split(&self.text, list.text) {
-                (_, Some(rest)) => rest,
-                (part, None) => Span {
-                    first: part.end,
-                    end: part.end,
-                },
-            };
+    /// Gives the next item of each list to its name.
+    fn give_items(&mut self) -> Result<(), AllocError> {
+        self.values.clear();
+        for list in &mut self.lists {
+            let (text, rest) = split(&self.text, list.text);
+            list.text = rest.unwrap_or(Span {
+                first: text.end,
+                end: text.end,
+            });
+            self.values.push(Meaning {
+                name: list.name,
+                text,
+            })?;
         }
+        Ok(())
     }
 
     /// Adds a text to the line that is made, with what is given for its names; a _ between names joins them.
@@ -562,14 +588,26 @@ impl Vocabulary {
             }
             next = end_of_parameter(text, at);
             let name = text.get(at..next).unwrap_or(b"");
-            let value = match self.meaning(&self.values, name) {
-                Some(value) => value.of(&self.text),
-                None => name,
+            let value = if begins_parameter(text, at) {
+                self.meaning(&self.values, name)
+            } else {
+                None
             };
-            for symbol in value {
-                if *symbol != b'_' {
-                    self.made.push(*symbol)?;
-                }
+            match value {
+                Some(value) => self.add_joined(value)?,
+                None if matches!(name, b"_") => {}
+                None => self.made.extend_from_slice(name)?,
+            }
+        }
+        Ok(())
+    }
+
+    /// Adds a text that is kept, but for each _ in it, to the line that is made.
+    fn add_joined(&mut self, text: Span) -> Result<(), AllocError> {
+        for index in text.first..text.end {
+            match self.text.get(index).copied() {
+                Some(symbol) if symbol != b'_' => self.made.push(symbol)?,
+                _ => {}
             }
         }
         Ok(())
@@ -586,10 +624,8 @@ impl Vocabulary {
     }
 }
 
-/// Returns the column after the name of an operand that begins at a column, or else the next column: the B of 12B is none, the A of $A$
-/// is one.
-fn end_of_parameter(text: &[u8], at: usize) -> usize {
-    let next = at.saturating_add(1);
+/// Returns whether the name of an operand may begin at a column: the B of 12B is none, the A of $A$ is one.
+fn begins_parameter(text: &[u8], at: usize) -> bool {
     let is_letter = match text.get(at) {
         Some(symbol) => symbol.is_ascii_uppercase(),
         None => false,
@@ -598,7 +634,13 @@ fn end_of_parameter(text: &[u8], at: usize) -> usize {
         Some(symbol) => is_alphanumeric(*symbol),
         None => false,
     };
-    if !is_letter || is_within {
+    is_letter && !is_within
+}
+
+/// Returns the column after the name of an operand that begins at a column, or else the next column.
+fn end_of_parameter(text: &[u8], at: usize) -> usize {
+    let next = at.saturating_add(1);
+    if !begins_parameter(text, at) {
         return next;
     }
     for end in next..text.len() {

@@ -42,8 +42,8 @@ pub enum Argument {
     Instruction(u8),
     /// The symbol that may be meant by this one, if there is one.
     NearestSymbol(Field),
-    /// The operation that may be meant by this one, if there is one, of which so many are macros.
-    NearestOperation(Field, usize),
+    /// The operation that may be meant by this one, if there is one, at the statement with a number.
+    NearestOperation(Field, u32),
     /// The instruction that takes a greater operand than that with this code, if there is one.
     Wider(Field, u8),
     /// A name that the symbols keep.

@@ -2,7 +2,7 @@
 use crate::digits::put_digits;
 use crate::directives::{the_only, wants_operand};
 use crate::fields::{Statement, first_parts};
-use crate::lines::{Lines, Span};
+use crate::lines::{Line, Lines, Span};
 use crate::message::{Fault, Field, Stop};
 use crate::pass::{Here, Pass};
 use crate::symbols::end_of_name;
@@ -18,9 +18,17 @@ const BLANK: &[u8; 10] = b"          ";
 impl Pass {
     /// Reads the present line with what its micros stand for.
     pub fn replace_micros(&mut self, lines: &mut Lines) -> Result<(), Stop> {
+        if let Some(line) = self.with_micros(lines)? {
+            self.at = lines.add_read(line, &self.vocabulary.made)?;
+        }
+        Ok(())
+    }
+
+    /// Makes the present line with what its micros stand for, if there may be some, and returns it.
+    fn with_micros(&mut self, lines: &Lines) -> Result<Option<Line>, Stop> {
         let here = Here::new(lines, self.at);
         if here.text.first() == Some(&b'*') || find(here.text, 0, b'"').is_none() {
-            return Ok(());
+            return Ok(None);
         }
         self.vocabulary.made.clear();
         let mut next: usize = 0;
@@ -29,8 +37,7 @@ impl Pass {
                 next = self.replace_next(&here, at)?;
             }
         }
-        self.at = lines.add_read(here.line, &self.vocabulary.made)?;
-        Ok(())
+        Ok(Some(here.line))
     }
 
     /// Adds what the micro at a column stands for, or else the symbol there; the same text if it is no micro, as in a comment.
@@ -48,12 +55,10 @@ impl Pass {
         } else {
             None
         };
-        let words = &mut self.vocabulary;
+        let same = here.text.get(at..end).unwrap_or(b"");
         match text {
-            Some(text) => words.made.extend_from_slice(text.of(&words.text))?,
-            None => words
-                .made
-                .extend_from_slice(here.text.get(at..end).unwrap_or(b""))?,
+            Some(text) => self.vocabulary.add_kept(text)?,
+            None => self.vocabulary.made.extend_from_slice(same)?,
         }
         Ok(end)
     }
@@ -86,25 +91,20 @@ impl Pass {
 
     /// MICRO n,m,*text* names m symbols of a text from the one with number n on; without m all up to its end.
     pub fn name_text(&mut self, here: &Here, statement: Statement) -> Result<(), Stop> {
-        let Some([first, size, text]) = operands_of_micro(here.text, statement.operand) else {
+        let Some(operands) = operands_of_micro(here.text, statement.operand) else {
             let fault = Fault::new(MICRO_WANTED);
             return Err(Stop::At(statement.operand.first, fault));
         };
-        let first = self.lines_count(here, first)?;
-        let most = text.end.saturating_sub(text.first);
-        let size = if size.is_empty() {
-            most
+        let first = self.lines_count(here, operands.first)?;
+        let size = if operands.size.is_empty() {
+            usize::MAX
         } else {
-            self.lines_count(here, size)?
+            self.lines_count(here, operands.size)?
         };
-        let symbols = text.of(here.text);
-        let from = first.saturating_sub(1).min(symbols.len());
-        let to = from.saturating_add(size).min(symbols.len());
-        let symbols = if first > 0 {
-            symbols.get(from..to).unwrap_or(b"")
-        } else {
-            b""
-        };
+        let from = operands.text.first.saturating_add(first.saturating_sub(1));
+        let to = from.saturating_add(size).min(operands.text.end);
+        let end = if first > 0 { to } else { from };
+        let symbols = Field::new(from, end).of(here.text);
         let text = self.vocabulary.keep(symbols)?;
         self.name_micro(here, statement, text)
     }
@@ -173,8 +173,16 @@ impl Pass {
     }
 }
 
-/// Returns the two numbers and the text of MICRO, if there are.
-fn operands_of_micro(line: &[u8], operand: Field) -> Option<[Field; 3]> {
+/// The operands of MICRO: which symbol is the first one, how many there are, and the text.
+#[derive(Clone, Copy)]
+struct MicroOperands {
+    first: Field,
+    size: Field,
+    text: Field,
+}
+
+/// Returns the operands of MICRO, if there are.
+fn operands_of_micro(line: &[u8], operand: Field) -> Option<MicroOperands> {
     let text = line.get(..operand.end)?;
     let one = find(text, operand.first, b',')?;
     let other = find(text, one.saturating_add(1), b',')?;
@@ -185,9 +193,9 @@ fn operands_of_micro(line: &[u8], operand: Field) -> Option<[Field; 3]> {
         None if mark == b' ' => text.len(),
         None => return None,
     };
-    Some([
-        Field::new(operand.first, one),
-        Field::new(one.saturating_add(1), other),
-        Field::new(first, end),
-    ])
+    Some(MicroOperands {
+        first: Field::new(operand.first, one),
+        size: Field::new(one.saturating_add(1), other),
+        text: Field::new(first, end),
+    })
 }

@@ -116,7 +116,7 @@ impl Pass {
                 let fault = Fault::new("{} is no instruction, directive or macro{}").part(name);
                 Stop::At(
                     name.first,
-                    fault.with(Argument::NearestOperation(name, self.vocabulary.macros.len())),
+                    fault.with(Argument::NearestOperation(name, self.performed)),
                 )
             }
         }

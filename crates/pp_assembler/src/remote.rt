@@ -26,28 +26,45 @@ impl Pass {
         statement: Statement,
         directive: Elsewhere,
     ) -> Result<(), Stop> {
+        if let Elsewhere::Here = directive {
+            let name = self.remote_name(lines, statement)?;
+            let first = lines.all.len();
+            self.copy_remote(lines, name)?;
+            let end = lines.all.len();
+            return self.push_run(Span { first, end }, 1, 0);
+        }
+        self.of_operations(lines, statement, directive)
+    }
+
+    /// Performs a directive that performs no lines.
+    fn of_operations(
+        &mut self,
+        lines: &Lines,
+        statement: Statement,
+        directive: Elsewhere,
+    ) -> Result<(), Stop> {
         let here = Here::new(lines, self.at);
         match directive {
+            Elsewhere::Here => Ok(()),
             Elsewhere::Deck => {
                 self.plain_row(&here, false)?;
                 Err(no_deck(statement))
             }
             Elsewhere::Synonym => self.name_operation(&here, statement),
             Elsewhere::Purge => self.purge(&here, statement),
-            Elsewhere::Here => {
-                self.plain_row(&here, false)?;
-                let name = if statement.location.is_empty() {
-                    statement.operand
-                } else {
-                    statement.location
-                };
-                let name = self.vocabulary.keep(name.of(here.text))?;
-                let first = lines.all.len();
-                self.copy_remote(lines, name)?;
-                let end = lines.all.len();
-                self.push_run(Span { first, end }, 1, 0)
-            }
         }
+    }
+
+    /// Keeps the name of the lines that HERE performs.
+    fn remote_name(&mut self, lines: &Lines, statement: Statement) -> Result<Span, Stop> {
+        let here = Here::new(lines, self.at);
+        self.plain_row(&here, false)?;
+        let name = if statement.location.is_empty() {
+            statement.operand
+        } else {
+            statement.location
+        };
+        Ok(self.vocabulary.keep(name.of(here.text))?)
     }
 
     /// Copies the lines of RMT with a name, which are then no longer kept.
@@ -56,8 +73,7 @@ impl Pass {
             let Some(remote) = self.vocabulary.remote.get(index).copied() else {
                 break;
             };
-            let words = &self.vocabulary;
-            if remote.is_taken || words.text_of(remote.name) != words.text_of(name) {
+            if remote.is_taken || !self.vocabulary.are_equal(remote.name, name) {
                 continue;
             }
             if let Some(remote) = self.vocabulary.remote.get_mut(index) {
@@ -101,7 +117,11 @@ impl Pass {
         let words = &mut self.vocabulary;
         let name = words.keep(statement.location.of(here.text))?;
         match words.macro_of(old) {
-            Some(one) => words.macros.push(Macro { name, ..one })?,
+            Some(one) => words.macros.push(Macro {
+                name,
+                from: self.performed,
+                ..one
+            })?,
             None => {
                 let text = words.keep(old)?;
                 words.synonyms.push(Meaning { name, text })?;
@@ -116,7 +136,8 @@ impl Pass {
         let mut first: usize = 0;
         for _ in 0..names.len() {
             let end = find(names, first, b',').unwrap_or(names.len());
-            self.vocabulary.purge(names.get(first..end).unwrap_or(b""));
+            let name = names.get(first..end).unwrap_or(b"");
+            self.vocabulary.purge(name, self.performed);
             first = end.saturating_add(1);
         }
         self.plain_row(here, false)

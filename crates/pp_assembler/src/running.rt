@@ -1,10 +1,11 @@
 //! The order in which lines are performed: those of a source, and those that other lines repeat, choose or make.
 use crate::fields::{Origin, Statement, statement_of};
-use crate::lines::{Join, Lines, SUBR_LINES, Span};
+use crate::lines::{Join, Line, Lines, SUBR_LINES, Span};
 use crate::message::{Field, Stop};
 use crate::operations::{Operation, operation_of};
 use crate::pass::{Here, MOST_STATEMENTS, Pass, too_many_statements};
 use crate::performing::{Ending, is_known};
+use crate::vocabulary::Macro;
 
 /// How many blocks and calls are within one another.
 const MOST_NESTED: u32 = 100;
@@ -68,10 +69,16 @@ impl Pass {
         if self.has_ended {
             return Ok(());
         }
-        match self.end_unit(&Here::new(lines, self.at)) {
+        match self.end_last_unit(lines) {
             Ok(()) => Ok(()),
             Err(stop) => self.stopped(lines, stop),
         }
+    }
+
+    /// Ends the program whose source has no END.
+    fn end_last_unit(&mut self, lines: &Lines) -> Result<(), Stop> {
+        let here = Here::new(lines, self.at);
+        self.end_unit(&here)
     }
 
     /// Performs lines, and those that they make.
@@ -107,7 +114,7 @@ impl Pass {
             Job::Show(span) => self.show(lines, span),
             Job::End(index, statement) => {
                 self.at = index;
-                self.end(&Here::new(lines, index), statement)
+                self.one_of(lines, statement, Operation::End)
             }
             Job::Run(run) if run.next < run.all.end => {
                 self.at = run.next;
@@ -166,7 +173,8 @@ impl Pass {
     pub fn show(&mut self, lines: &Lines, span: Span) -> Result<(), Stop> {
         for index in span.first..span.end {
             self.at = index;
-            self.plain_row(&Here::new(lines, index), false)?;
+            let here = Here::new(lines, index);
+            self.plain_row(&here, false)?;
         }
         Ok(())
     }
@@ -186,21 +194,14 @@ impl Pass {
     fn perform(&mut self, lines: &mut Lines) -> Result<(), Stop> {
         self.count_statement()?;
         self.replace_micros(lines)?;
-        let here = Here::new(lines, self.at);
-        let Some(statement) = self.statement(&here)? else {
-            return self.plain_row(&here, false);
+        let Some(statement) = self.present_statement(lines)? else {
+            return Ok(());
         };
-        if self.has_ended {
-            return self.after_end(&here, statement);
-        }
-        is_known(&here, statement)?;
         let statement = self.renamed(lines, statement)?;
-        let here = Here::new(lines, self.at);
-        let name = statement.operation.of(here.text);
-        if let Some(called) = self.vocabulary.macro_of(name) {
+        if let Some(called) = self.called(lines, statement) {
             return self.call(lines, statement, called);
         }
-        match operation_of(name) {
+        match operation_of(lines.part_of(self.at, statement.operation)) {
             Operation::Block(opening) => self.block(lines, statement, opening),
             Operation::Lines(directive) => self.elsewhere(lines, statement, directive),
             Operation::End => {
@@ -208,7 +209,42 @@ impl Pass {
                 self.jobs.push(Job::End(self.at, statement))?;
                 self.push_run(rest, 1, 0)
             }
-            operation => self.one(&here, statement, operation),
+            operation => self.one_of(lines, statement, operation),
+        }
+    }
+
+    /// Returns the statement of the present line, if it is one that is performed.
+    fn present_statement(&mut self, lines: &Lines) -> Result<Option<Statement>, Stop> {
+        let here = Here::new(lines, self.at);
+        let Some(statement) = self.statement(&here)? else {
+            self.plain_row(&here, false)?;
+            return Ok(None);
+        };
+        if self.has_ended {
+            self.after_end(&here, statement)?;
+            return Ok(None);
+        }
+        is_known(&here, statement)?;
+        Ok(Some(statement))
+    }
+
+    /// Returns the macro that a statement calls.
+    fn called(&self, lines: &Lines, statement: Statement) -> Option<Macro> {
+        let name = lines.part_of(self.at, statement.operation);
+        self.vocabulary.macro_of(name)
+    }
+
+    /// Performs the present line, which makes no others.
+    fn one_of(
+        &mut self,
+        lines: &Lines,
+        statement: Statement,
+        operation: Operation,
+    ) -> Result<(), Stop> {
+        let here = Here::new(lines, self.at);
+        match operation {
+            Operation::End => self.end(&here, statement),
+            _ => self.one(&here, statement, operation),
         }
     }
 
@@ -226,38 +262,16 @@ impl Pass {
 
     /// Returns a statement with the operation that OPSYN names. The line is then read with that name.
     fn renamed(&mut self, lines: &mut Lines, statement: Statement) -> Result<Statement, Stop> {
-        let here = Here::new(lines, self.at);
-        let Field { first, end } = statement.operation;
-        let words = &mut self.vocabulary;
-        let Some(name) = words.meaning(&words.synonyms, statement.operation.of(here.text)) else {
+        let Some((line, next)) = self.rename(lines, statement)? else {
             return Ok(statement);
         };
-        words.made.clear();
-        words
-            .made
-            .extend_from_slice(here.text.get(..first).unwrap_or(b""))?;
-        words.made.extend_from_slice(name.of(&words.text))?;
-        let after = words.made.len();
-        words
-            .made
-            .extend_from_slice(here.text.get(end..).unwrap_or(b""))?;
-        let (number, column) = here.place_of(end);
-        let mut line = here.line;
-        line.joins = joins_from(
-            lines,
-            line.joins,
-            Join {
-                column: after,
-                number,
-                first: column,
-            },
-            end,
-        )?;
-        self.at = lines.add_read(line, &self.vocabulary.made)?;
+        let Field { first, end } = statement.operation;
+        let joins = joins_from(lines, line.joins, next, end)?;
+        self.at = lines.add_read(Line { joins, ..line }, &self.vocabulary.made)?;
         let operand = statement.operand;
-        let move_on = |column: usize| column.saturating_sub(end).saturating_add(after);
+        let move_on = |column: usize| column.saturating_sub(end).saturating_add(next.column);
         Ok(Statement {
-            operation: Field { first, end: after },
+            operation: Field::new(first, next.column),
             operand: if operand.first < end {
                 operand
             } else {
@@ -265,6 +279,35 @@ impl Pass {
             },
             ..statement
         })
+    }
+
+    /// Makes the present line with the operation that OPSYN names. Returns the line, and where it goes on after the operation.
+    fn rename(
+        &mut self,
+        lines: &Lines,
+        statement: Statement,
+    ) -> Result<Option<(Line, Join)>, Stop> {
+        let here = Here::new(lines, self.at);
+        let Field { first, end } = statement.operation;
+        let name = statement.operation.of(here.text);
+        let words = &mut self.vocabulary;
+        let Some(name) = words.meaning(&words.synonyms, name) else {
+            return Ok(None);
+        };
+        words.made.clear();
+        let before = here.text.get(..first).unwrap_or(b"");
+        words.made.extend_from_slice(before)?;
+        words.add_kept(name)?;
+        let column = words.made.len();
+        let after = here.text.get(end..).unwrap_or(b"");
+        words.made.extend_from_slice(after)?;
+        let (number, first) = here.place_of(end);
+        let next = Join {
+            column,
+            number,
+            first,
+        };
+        Ok(Some((here.line, next)))
     }
 }
 

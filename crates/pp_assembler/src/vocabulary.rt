@@ -9,7 +9,7 @@ pub struct Meaning {
     pub text: Span,
 }
 
-/// A macro. A name that a later one has too, or that PURGMAC has forgotten, is empty.
+/// A macro.
 #[derive(Clone, Copy)]
 pub struct Macro {
     pub name: Span,
@@ -21,6 +21,9 @@ pub struct Macro {
     pub has_names: bool,
     /// Its lines.
     pub body: Span,
+    /// The statement that defines it, and that with which PURGMAC forgets it, by their numbers.
+    pub from: u32,
+    pub until: u32,
 }
 
 /// Lines of RMT, until they are performed.
@@ -34,7 +37,6 @@ pub struct Remote {
 /// The names that a source gives, with what they stand for. Their texts are in one.
 #[derive(Drop)]
 pub struct Vocabulary {
-    pub alloc: Global,
     pub text: Vec<u8>,
     pub macros: Vec<Macro>,
     /// The operands of all macros.
@@ -45,8 +47,10 @@ pub struct Vocabulary {
     pub remote: Vec<Remote>,
     /// How many names LOCAL has made.
     pub locals: u32,
-    /// What a call gives to the names of a macro, or the lists of ECHO.
+    /// What a call gives to the names of a macro, or ECHO to its names.
     pub values: Vec<Meaning>,
+    /// The lists of ECHO.
+    pub lists: Vec<Meaning>,
     /// The line that is being made.
     pub made: Vec<u8>,
 }
@@ -54,7 +58,6 @@ pub struct Vocabulary {
 impl Vocabulary {
     pub fn new(alloc: Global) -> Self {
         Vocabulary {
-            alloc,
             text: Vec::new(alloc),
             macros: Vec::new(alloc),
             operands: Vec::new(alloc),
@@ -63,6 +66,7 @@ impl Vocabulary {
             remote: Vec::new(alloc),
             locals: 0,
             values: Vec::new(alloc),
+            lists: Vec::new(alloc),
             made: Vec::new(alloc),
         }
     }
@@ -82,22 +86,39 @@ impl Vocabulary {
         text.of(&self.text)
     }
 
+    /// Adds a text that is kept to the line that is made.
+    pub fn add_kept(&mut self, text: Span) -> Result<(), AllocError> {
+        for index in text.first..text.end {
+            if let Some(symbol) = self.text.get(index).copied() {
+                self.made.push(symbol)?;
+            }
+        }
+        Ok(())
+    }
+
+    /// Returns whether two texts that are kept are equal.
+    pub fn are_equal(&self, one: Span, other: Span) -> bool {
+        let one = self.text_of(one);
+        let other = self.text_of(other);
+        one == other
+    }
+
     /// Returns the macro with a name.
     pub fn macro_of(&self, name: &[u8]) -> Option<Macro> {
         let mut found = None;
         for one in &self.macros {
-            if one.name.first < one.name.end && self.text_of(one.name) == name {
+            if one.until == u32::MAX && self.text_of(one.name) == name {
                 found = Some(*one);
             }
         }
         found
     }
 
-    /// Forgets the macros with a name.
-    pub fn purge(&mut self, name: &[u8]) {
+    /// Forgets the macros with a name, at the statement with a number.
+    pub fn purge(&mut self, name: &[u8], statement: u32) {
         for one in &mut self.macros {
-            if one.name.of(&self.text) == name {
-                one.name = Span { first: 0, end: 0 };
+            if one.until == u32::MAX && one.name.of(&self.text) == name {
+                one.until = statement;
             }
         }
     }

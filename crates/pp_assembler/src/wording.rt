@@ -100,7 +100,7 @@ impl Writer<'_> {
             Argument::Decimal(number) => put_decimal(self.alloc, &mut self.out, number),
             Argument::Instruction(code) => self.instruction(code),
             Argument::NearestSymbol(name) => self.nearest_symbol(name),
-            Argument::NearestOperation(name, macros) => self.nearest_operation(name, macros),
+            Argument::NearestOperation(name, number) => self.nearest_operation(name, number),
             Argument::Wider(operand, code) => self.wider(operand, code),
             Argument::Kept(name) => self.text(self.assembly.symbols.text_of(name)),
             Argument::Reaching(target, code) => self.reaching(target, code),
@@ -123,13 +123,15 @@ impl Writer<'_> {
         self.nearest(nearest.found())
     }
 
-    /// Writes the operation that may be meant, of which so many are macros.
-    fn nearest_operation(&mut self, name: Field, macros: usize) -> Result<(), AllocError> {
+    /// Writes the operation that may be meant at the statement with a number.
+    fn nearest_operation(&mut self, name: Field, number: u32) -> Result<(), AllocError> {
         let mut nearest = Nearest::new(name.of(self.line));
         see_operations(&mut nearest);
         let vocabulary = &self.assembly.vocabulary;
-        for one in vocabulary.macros.get(..macros).unwrap_or(&[]) {
-            nearest.see(vocabulary.text_of(one.name));
+        for one in &vocabulary.macros {
+            if one.from < number && number <= one.until {
+                nearest.see(vocabulary.text_of(one.name));
+            }
         }
         self.nearest(nearest.found())
     }
