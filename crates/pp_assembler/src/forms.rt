@@ -1,7 +1,7 @@
 //! What is written of a source: what is wrong with it, its words, its listing, whose line each word is, its names.
 ghost use Rattle.std.specs.Prelude.{◌≡◌, ◌++◌, IfOk, OnOk};
 ghost use Rattle.pp_arith.specs.Octal.{octal_text};
-ghost use Rattle.pp_assembler.specs.Texts.{cell_lines, complaint_lines, start_line};
+ghost use Rattle.pp_assembler.specs.Texts.{cell_lines, complaint_line, complaint_lines, start_line};
 
 use crate::digits::{put_decimal, put_octal};
 use crate::listing::put_row;
@@ -41,13 +41,21 @@ fn put_complaints(
     ensures { OnOk result (out.new.items ≡ out.old.items ++ complaint_lines complaints.now) }
 {
     for complaint in complaints {
-        put_decimal(alloc, out, complaint.line)?;
-        out.push(b':')?;
-        put_decimal(alloc, out, complaint.column)?;
-        out.extend_from_slice(b": ")?;
-        out.extend_from_slice(&complaint.text)?;
-        out.push(b'\n')?;
+        put_complaint(alloc, out, complaint)?;
     }
+    Ok(())
+}
+
+/// Writes the line of a complaint.
+fn put_complaint(alloc: Global, out: &mut Vec<u8>, complaint: &Complaint) -> Result<(), AllocError>
+    ensures { OnOk result (out.new.items ≡ out.old.items ++ complaint_line complaint.now) }
+{
+    put_decimal(alloc, out, complaint.line)?;
+    out.push(b':')?;
+    put_decimal(alloc, out, complaint.column)?;
+    out.extend_from_slice(b": ")?;
+    out.extend_from_slice(&complaint.text)?;
+    out.push(b'\n')?;
     Ok(())
 }
 
