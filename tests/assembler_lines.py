@@ -15,6 +15,8 @@ LABELS = ["", "", "", " L1", " L2", "L3", " +", " A_B", " 9"]
 MICROS = """MICRO 1,3,*ABCDEF*|MICRO 1,,/5/|MICRO 2,2,*A*|MICRO 0,2,*AB*|MICRO 1,2,*AB|MICRO 1,2|MICRO 9,2,*AB*|MICRO 1,1, X|DECMIC A,2|DECMIC 0-A
     |OCTMIC 100B,2|OCTMIC A|DECMIC NONE|OCTMIC 77B,6|DECMIC 0-9D,4|MICRO 1,2,*P"M"*|MICCNT M|MICCNT NONE|MICCNT DATE|DECMIC|MICRO A,,*5*""".split("|")
 
+IN_MACRO, DEEPEST = 3, 5  # how deep the lines of a macro are said to be, and how deep lines may be in others
+
 
 def line(label: str, text: str) -> str:
     name, _, operand = "".join(text.split("\n    ")).partition(" ")
@@ -44,12 +46,13 @@ def repeated(choose: random.Random, depth: int) -> List[str]:
 
 def macro(choose: random.Random, depth: int) -> List[str]:
     heads = [(" MCA", "MACRO P,Q"), (" MCA", "MACRO"), (" MCB", "MACRO P"), ("", "MACRO MCA,L,P"), ("", "MACRO MCB"), (" MCB", "MACROE P,Q=5"),
-             (" MCA", "MACROE P=(1,2),Q"), ("", "MACRO"), (" LDN", "MACRO P"), (" 9A", "MACRO P,9Q"), ("", "MACROE MCA,L,P=3")]
+             (" MCA", "MACROE P=(1,2),Q"), ("", "MACRO"), (" 9A", "MACRO P,9Q"), ("", "MACROE MCA,L,P=3")]
     head = choose.choice(heads)
     inner = [line("", choose.choice(["LOCAL L1,L2", "LOCAL L1", "LOCAL"]))] if choose.random() < 0.3 else []
-    parts = [line("", "IRP P"), *some(choose, depth), *choose.choice([[line("", "IRP")], [line("", "IRP")], []])] if choose.random() < 0.4 else []
+    calls_of_itself = [line("", "MCA 1")] if choose.random() < 0.05 else []
+    parts = [line("", "IRP P"), *some(choose, IN_MACRO), *choose.choice([[line("", "IRP")], [line("", "IRP")], []])] if choose.random() < 0.4 else []
     end = [] if choose.random() < 0.05 else [line("", "ENDM")]
-    return [line(*head), *inner, *some(choose, depth), *parts, *end, *calls(choose, depth)]
+    return [line(*head), *inner, *some(choose, IN_MACRO), *parts, *calls_of_itself, *end, *calls(choose, depth)]
 
 
 def calls(choose: random.Random, depth: int) -> List[str]:
@@ -68,7 +71,7 @@ def remote(choose: random.Random, depth: int) -> List[str]:
 
 
 def names(choose: random.Random, depth: int) -> List[str]:
-    made = choose.choice([(" LDX", "OPSYN LDN"), (" LONGNAME", "OPSYN LDC"), (" LDX", "OPSYN MCA"), (" LDX", "OPSYN SUBR"), (" LDX", "OPSYN"), (" L", "OPSYN IFEQ"),
+    made = choose.choice([(" LDX", "OPSYN LDN"), (" LONGNAME", "OPSYN LDC"), (" LDX", "OPSYN SUBR"), (" LDX", "OPSYN"), (" L", "OPSYN IFEQ"),
                           ("", "PURGMAC MCA"), ("", "PURGMAC MCA,SUBR"), (" LDX", "OPSYN NONE"), (" LDX", "OPSYN CON")])
     used = choose.choice(["LDX 5", "LDX 100B", "LONGNAME 7", "LONGNAME", "L A,5,1", "MCA 1", "SUBR", "LDX NONE,1", "LONGNAME NONE"])
     return [line(*made), line(choose.choice(LABELS), used), *plain(choose, depth)]
@@ -79,8 +82,8 @@ KINDS: Sequence[Callable[[random.Random, int], List[str]]] = (
 
 
 def some(choose: random.Random, depth: int) -> List[str]:
-    """Returns lines of one kind, or of several; those within others are plain ones in the end."""
-    kinds = KINDS if depth < 3 else (plain,)
+    """Returns lines of one kind, or of several; those within others are plain ones in the end, and those of a macro call none."""
+    kinds = KINDS if depth < IN_MACRO else (plain, condition, repeated, micro) if depth < DEEPEST else (plain,)
     return [one for _ in range(choose.choice((0, 1, 1, 1, 2))) for one in choose.choice(kinds)(choose, depth + 1)]
 
 
