@@ -12,6 +12,7 @@ from checking import HERE, prepared, read, script_of, steps
 from pp6600 import Console, Failure
 from pp6600.front.film import page
 from pp6600.shell.command_line import arguments
+from pp6600.shell.installation import page_module
 from pp6600.shell.script import Script
 from pp6600.shell.text_files import lines_of
 
@@ -27,7 +28,7 @@ TITLE = "Exercises"
 
 def class_page(exercises, title):
     """Returns the page with these exercises."""
-    module = page.module_bytes()
+    module = page_module()
     about = {**page.tables(), **page.options(arguments("").parse_args([])), "labels": {}, "opens": None, "again": "",
              "files": [{"kind": "script", "name": "script", "bytes": ""}],
              "exercises": [exercise(name, path) for name, path in exercises.folders.items()]}

@@ -124,7 +124,7 @@ def random_program(choose, channels, is_rescue):
 class FewStates(Attached):
     """A session that keeps few states, and works out the others anew."""
 
-    exact_states, every_state = 5, 4
+    exact_values, every_value = 5, 4
 
 
 class Session:

@@ -2,9 +2,9 @@
 // for each a line of JSON: the answers, what the page knows of each moment, and its numbers at the end.
 const fs = require("fs"), path = require("path"), vm = require("vm");
 const [, , folder, module_, about, sessions] = process.argv;
-const scripts = ["layout", "turns", "library", "simulator", "recorder", "conditions", "session", "rows", "places"];
+const scripts = ["layout", "turns", "library", "simulator", "recorder", "conditions", "session", "rows", "places", "origin"];
 const code = `${scripts.map((name) => fs.readFileSync(path.join(folder, `${name}.js`), "utf8")).join("\n")}
-({ openLibrary, layout, numberIn, goTo, film: () => film,
+({ openLibrary, layout, numberIn, goTo, writesOf, constantText, film: () => film,
    open(calls, about, files) {
      openRows({ ...about, deck: [], panel: [] });
      return new Session(calls, { ...about, ...files }, { pause: async () => {}, isStopped: () => false });
@@ -26,14 +26,9 @@ function changesOf(film, moment) {
 }
 
 function writesOf(film, moment) {
-  const { starts, firsts, places, whats, sources, parts } = film.writes, writes = [];
-  for (let at = starts[moment]; at < starts[moment + 1]; at++) {
-    const read = [];
-    for (let one = firsts[at]; one < firsts[at + 1]; one++) read.push([sources[one], parts[one]]);
-    const isTurn = film.kinds[moment] < 4;
-    writes.push([places[at], isTurn ? whats[at] & 11 : whats[at], isTurn ? film.constants[whats[at] >> 4] : "", read]);
-  }
-  return writes;
+  const isTurn = film.kinds[moment] < 4;
+  return page.writesOf(moment).map(({ place, what, sources }) => [place, isTurn ? what & 11 : what, isTurn ? page.constantText(moment, { what }) : "",
+    sources.map((one) => [one.place, one.parts])]);
 }
 
 (async () => {

@@ -24,7 +24,7 @@ from tests.cases import part, text_of
 from tests.support import EXAMPLES, TOP, Case, program, write
 
 from pp6600.front.panel.app import Panel
-from pp6600.front.panel.session import Session
+from pp6600.front.panel.logged_session import LoggedSession
 from pp6600.language.symbol_options import symbols_from
 from pp6600.shell.device_options import device_of
 
@@ -52,7 +52,7 @@ class PanelCase(Case):
         """Returns a panel that has performed a script, up to a turn if there is one. Symbols and sources are pairs of a processor and
         a path."""
         names = symbols_from(*([(f"{number:o}", path) for number, path in pairs] for pairs in (symbols, sources)))
-        panel = Panel(Session([PROGRAM, *options], devices), names)
+        panel = Panel(LoggedSession([PROGRAM, *options], devices), names)
         self.addCleanup(panel.session.close)
         panel.resize(*size)
         panel.perform_script(names.loading(script.splitlines()), turn)

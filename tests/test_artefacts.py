@@ -7,6 +7,7 @@ import base64
 import concurrent.futures
 import functools
 import hashlib
+import itertools
 import json
 import os
 import re
@@ -230,13 +231,15 @@ def answers_in(data):
     return found
 
 
-def answer_in_python(options):
-    """Runs one of the sessions in this process. Returns the output, standard error and the status, as of the program."""
+def answer_in_python(options, room):
+    """Runs one of the sessions in this process, with room for so many bytes of answers at a time. Returns the output, standard error and the
+    status, as of the program."""
     *machine, deck, panel, script = struct.unpack_from("<7I", options)
     files = options[28:28 + deck], options[28 + deck:28 + deck + panel]
     try:
         with library.Session(*machine, *files, path=artefact("libpp6600.so")) as session:
-            done = session.answer(options[len(options) - script:])
+            done = session.answer(options[len(options) - script:], room)
+        assert done.taken == script
         return done.text, b"", int(done.refused > 0)
     except library.Refused as refused:
         return b"", f"{refused}\n".encode("ascii"), refused.status
@@ -286,7 +289,7 @@ class Library(Artefacts):
 
     def test_python(self):
         sessions, wanted, options = sessions_of_library()
-        self.check_all("libpp6600.so by ctypes", sessions, wanted, tuple(map(answer_in_python, options)))
+        self.check_all("libpp6600.so by ctypes", sessions, wanted, tuple(map(answer_in_python, options, itertools.cycle((64, 4096, 1 << 20)))))
 
     def test_c(self):
         self.tool("gcc")

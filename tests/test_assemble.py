@@ -8,7 +8,7 @@ import re
 
 from .support import TOP, Case, add_tests, blocks, names_of_codes, program, read, run, tool
 
-from pp6600.language.listing import Symbols
+from pp6600.language.listing import ListingSymbols
 from pp6600.language.source.forms import lines_of
 from pp6600.language.source.passes import assembled
 from pp6600.language.sources import texts_in
@@ -192,7 +192,7 @@ class Decks(Case):
         """A listing with blocks and fields of bits is checked, and has the same words."""
         lines = read("tests", "programs", "decks", "scope-style.pp").splitlines()
         found = assembled(lines, texts_in(DECKS))
-        symbols = Symbols(lines_of(found, "listing", 0))
+        symbols = ListingSymbols(lines_of(found, "listing", 0))
         self.assertEqual({address: f"{cell.word:04o}" for address, cell in found.cells.items()},
                          {address: word for address, (word, _) in symbols.listing.cells.items()})
 
@@ -204,7 +204,7 @@ class Listings(Case):
         found = assembled(lines)
         self.assertEqual([], found.messages, lines)
         printed = lines_of(found, "listing", 0)
-        symbols = Symbols(printed)
+        symbols = ListingSymbols(printed)
         self.assertEqual({address: f"{cell.word:04o}" for address, cell in found.cells.items()},
                          {address: word for address, (word, _) in symbols.listing.cells.items()}, printed)
         tables = symbols.names.labels, symbols.names.equates

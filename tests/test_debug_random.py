@@ -12,6 +12,8 @@ from tests.generator import WATCHED, Maker
 from tests.oracle import Timeline, in_effect
 from tests.support import Case, program
 
+from pp6600 import Console
+
 SESSIONS = int(os.environ.get("PP6600_DEBUG_SESSIONS", "20"))  # in the gate; by hand 200
 FIRST = int(os.environ.get("PP6600_DEBUG_SEED", "0"))
 MOVES = 10  # of a session
@@ -54,11 +56,14 @@ def places(numbers):
 
 
 class Oracle(Timeline):
-    """A simulator with an endless history, at a position of a run. Up to its end there are actions ahead, then turns that may follow."""
+    """A simulator with an endless history, at a position of a run: the program itself, which answers lines, and the states of the run. Up to its
+    end there are actions ahead, then turns that may follow."""
 
     def __init__(self, lines):
         self.words, self.looks = [program(), "--panel", PANEL], [(0, 0o20, 0o20)]
+        self.console = Console([*self.words, "--history", "10000"])
         self.actions, ahead = in_effect(self.words, lines)
+        list(self.console.ask_each(lines))
         self.now = len(self.actions)
         self.actions += ahead
         self.end = len(self.actions)
@@ -71,61 +76,24 @@ class Oracle(Timeline):
         super().look()
 
     def act(self, line):
-        """Performs a line. Returns its answer, and whether it moved."""
-        word, *words = line.split()
-        if word in ("BACK", "FORWARD"):
-            return self.move(word, words)
-        if word == "STEP":
-            return self.typed_step(int(words[0], 8))
-        refusal = self.refusal(word, " ".join(words))
-        if refusal:
-            return refusal
-        self.new(line)
-        return "OK"
-
-    def refusal(self, word, place):
-        watched = self.watched(self.now)
-        if word == "WATCH" and place in watched:
-            return "ERR 12 ALREADY WATCHED"
-        return "ERR 13 NOT WATCHED" if word == "UNWATCH" and place not in watched else None
-
-    def new(self, line):
-        self.actions[self.now:] = [line]
-        self.now = self.end = self.now + 1
-        self.look()
-
-    def move(self, word, words):
-        if words == ["W"]:
-            return self.back_to_change()
-        count = int(words[0], 8)
-        if word == "BACK" and count > self.now:
-            return "ERR 07 TOO FEW KEPT"
-        if word == "FORWARD" and count > self.end - self.now:
-            return "ERR 16 TOO FEW AHEAD"
-        self.now += -count if word == "BACK" else count
-        return f"{word} {count:o} SLOT {self.slot(self.now):02o}"
-
-    def back_to_change(self):
-        watched = self.watched(self.now)
-        if not watched:
-            return "ERR 15 NOTHING WATCHED"
-        found = next((at for at in reversed(range(self.now)) if self.changed(at, watched)), None)
-        return "ERR 10 NO CHANGE KEPT" if found is None else self.move("BACK", [f"{self.now - found:o}"])
-
-    def typed_step(self, turns):
-        """Makes new turns, up to one that changes what is watched."""
-        first, watched = self.now, self.watched(self.now)
-        if self.end != self.now:
-            self.end = self.now
+        """Performs a line, and returns its answer."""
+        answer = self.console.ask(line)
+        kind, *rest = answer[0].split()
+        count = int(rest[0], 8) if kind in ("BACK", "FORWARD", "TURNS") else 1
+        if kind in ("OK", "TURNS"):
+            self.actions[self.now:] = [line] if kind == "OK" else ["STEP"] * count
+            self.end = self.now + count
             self.look()
-        last = next((at + 1 for at in range(first, first + turns) if self.changed(at, watched)), first + turns)
-        self.now = self.end = last
-        text = f"TURNS {last - first:o} SLOT {self.slot(last):02o}"
-        place = self.changed(last - 1, watched)
-        if place:
-            was, now = (self.value(at, place) for at in (last - 1, last))
-            text += f"\nHIT {' '.join(place_text(place))} {was} {now}"
-        return text
+        self.now += {"BACK": -count, "OK": count, "TURNS": count, "FORWARD": count}.get(kind, 0)
+        return "\n".join(answer)
+
+    def go(self, now):
+        """Goes to a position, over the actions ahead and then by new turns."""
+        ahead = min(now, self.end) - self.now
+        for word, count in (("BACK", -ahead), ("FORWARD", ahead), ("STEP", now - max(self.now, self.end))):
+            if count > 0:
+                self.console.demand(f"{word} {count:o}")
+        self.now, self.end = now, max(self.end, now)
 
     # ---- what is there
 
@@ -267,6 +235,7 @@ class Session(Case):
         self.maker = Maker(seed, WATCHED)
         lines, self.numbers = self.maker.script(), self.maker.processors
         self.oracle = Oracle(lines)
+        self.addCleanup(self.oracle.console.close)
         self.client = OwnClient()
         self.addCleanup(self.client.end)
         history = chance.choice((None, 10000, 100, 50))
@@ -340,8 +309,8 @@ class Session(Case):
         stop = self.client.stop_after(kind, threadId=number + 1)
         self.assertEqual(self.oracle.said, [text for text in self.client.shown if text.startswith("L ")], what)
         now, reason, text = expected
-        before, self.oracle.now = self.oracle.now, now
-        self.oracle.end = max(self.oracle.end, now)
+        before = self.oracle.now
+        self.oracle.go(now)
         self.assertEqual(reason, stop["reason"], what)
         if reason == "breakpoint":
             self.assertEqual(self.oracle.slot(now), stop["threadId"] - 1, what)

@@ -10,7 +10,8 @@ from tests.device_law import DUMPS, PANEL, FewStates, first_difference
 from tests.support import Case, add_tests, program
 
 from pp6600 import INACTIVE, NOTHING, Attached, Device, Failure, full
-from pp6600.run import attached
+from pp6600.run import new_turns
+from pp6600.run.past import Past
 from pp6600.run.tape import Tape
 from pp6600.run.device import Chain, Reply, chain_of, is_value, looked
 from pp6600.devices.paper_tape import PaperTape
@@ -34,10 +35,10 @@ def without_dues(device, value, now, turn):
 WRONG = {
     "replies are units": (0, Tape, "after_units", lambda self, units: units),
     "replies are actions of the user": (0, Tape, "units", lambda self, position: position),
-    "states ahead are remembered": (6, attached.States, "cut", lambda self, position: None),
-    "the first state is that of every position": (0, attached.States, "entry", lambda self, position: 0),
-    "nothing is due": (0, attached, "looked", without_dues),
-    "the HIT of a reply is no HIT": (27, attached, "hit_with_replies", lambda watched, hit, seen, after: hit),
+    "values ahead are remembered": (6, Past, "cut", lambda self, position: None),
+    "the first value is that of every position": (0, Past, "entry_at", lambda self, position: 0),
+    "nothing is due": (0, new_turns, "looked", without_dues),
+    "the HIT of a reply is no HIT": (27, new_turns, "hit_with_replies", lambda watched, hit, seen, after: hit),
 }
 
 

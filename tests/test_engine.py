@@ -1,10 +1,10 @@
-"""Tests that both engines are the same session of the machine, and what each call of them does."""
+"""Tests that both engines are the same session of the machine."""
 
 import os
 import random
 import unittest
 
-from tests.generator import LOOPS, Maker
+from tests.generator import ALL, LOOPS, WATCHED, Maker
 from tests.support import PROVED, Case
 
 from pp6600.engine import interface as flat
@@ -16,17 +16,19 @@ ENGINES = ["plain", *([PROVED] if PROVED else [])]
 NUMBERED = [*range(0, 0o200), *range(flat.A, flat.STATES + 24)]  # the places that are compared
 
 
-def sessions(seed):
-    """Yields a session on each engine in which a random script was performed."""
-    lines = Maker(seed, LOOPS).script()
-    for name in ENGINES:
-        engine = engine_of(name, [])
-        engine.answer("".join(f"{line}\n" for line in lines if not line.startswith("WATCH")))
-        yield engine
-
-
 def numbers_of(engine):
-    return [engine.numbers(place, 1)[0] for place in NUMBERED]
+    return {place: engine.numbers(place, 1)[0] for place in NUMBERED}
+
+
+def turns_made(engine, most):
+    """Makes turns. Returns how many, whether the last one changed a watched number, and the numbers before them, which their records give:
+    what turns overwrote is put back from the last turn to the first."""
+    records = engine.turns(most)
+    numbers = numbers_of(engine)
+    for place, number in reversed(list(zip(records.places, records.numbers))):
+        if place in numbers:
+            numbers[place] = number
+    return len(records.counts), records.is_watched, sum(records.counts) == len(records.places), numbers
 
 
 class Calls(Case):
@@ -44,54 +46,15 @@ class Calls(Case):
             engine.close()
 
     def test_records_lead_back(self):
-        """The numbers that turns overwrote, put back from the last turn to the first, are those before the turns."""
-        for seed in range(6):
-            for name, engine in zip(ENGINES, sessions(seed)):
-                before = dict(zip(NUMBERED, numbers_of(engine)))
-                records = engine.turns(100)
-                now, end = dict(zip(NUMBERED, numbers_of(engine))), 2 * sum(records.counts)
-                places, numbers = list(records.places), list(records.numbers)
-                self.assertEqual((100, end // 2), (len(records.counts), len(places)))
-                for place, number in reversed(list(zip(places, numbers))):
-                    if place in now:
-                        now[place] = number
-                with self.subTest(seed, engine=name):
-                    self.assertEqual(before, now)
-                engine.close()
-
-    def test_looks(self):
-        """Looks are what the numbers are after each turn."""
-        for seed in range(6):
-            for name, engine in zip(ENGINES, sessions(seed)):
-                places = random.Random(seed).sample(NUMBERED, 3)
-                looked, turns = engine.looks(places, 50)
-                engine.back(50)
-                found = []
-                for _ in range(50):
-                    engine.forward(1)
-                    found += [engine.numbers(place, 1)[0] for place in places]
-                with self.subTest(seed, engine=name):
-                    self.assertEqual((50, found), (turns, list(looked)))
-                engine.close()
-
-    def test_watched(self):
-        """Turns and looks end at a change of a watched number."""
-        for name in ENGINES:
-            engine = engine_of(name, [])
-            engine.answer("SET M 0 100 3420 376\nSET P 0 100\nSET A 0 7\nWATCH M 0 20\n")
-            with self.subTest(engine=name):
-                self.assertEqual((1, True), (len((records := engine.turns(100)).counts), records.is_watched))
-                self.assertEqual((100, False), (len((records := engine.turns(100)).counts), records.is_watched))
-                engine.answer("SET A 0 11\n")
-                self.assertLess(engine.looks([flat.SLOT], 100)[1], 100)
-            engine.close()
-
-    def test_counts(self):
+        """Turns end at a change of a watched number, and what they overwrote leads back."""
         for name in ENGINES:
             engine = engine_of(name, ["--history", "30"])
-            engine.turns(40)
-            engine.back(7)
+            engine.answer("SET M 0 100 3420 376\nSET P 0 100\nSET A 0 7\nWATCH M 0 20\n")
             with self.subTest(engine=name):
+                for wanted in ((1, True), (100, False)):
+                    before = numbers_of(engine)
+                    self.assertEqual((*wanted, True, before), turns_made(engine, 100))
+                engine.back(7)
                 self.assertEqual((23, 7, 30), engine.counts())
             engine.close()
 
@@ -110,16 +73,33 @@ class Calls(Case):
 
 @unittest.skipUnless(PROVED, "there is no library of the proved program for this machine")
 class Alike(Case):
-    def test_answers(self):
-        """Random scripts have the same answers on both engines, all at once and line by line."""
+    """Both engines return the same, whatever they are asked. tests/test_library.py has what that is."""
+
+    def test_calls(self):
+        """Random calls after random scripts, whose answers are the same all at once and line by line."""
         for seed in range(int(os.environ.get("PP6600_ENGINES", "20"))):
-            lines = [f"{line}\n" for line in Maker(seed).script()]
-            whole = engine_of(PROVED, []).answer("".join(lines))
-            plain, proved = engine_of("plain", []), engine_of(PROVED, [])
-            with self.subTest(seed):
-                self.assertEqual([plain.answer(line) for line in lines], [proved.answer(line) for line in lines])
-                self.assertEqual(engine_of("plain", []).answer("".join(lines)), whole)
+            lines = [f"{line}\n" for line in Maker(seed, (ALL, LOOPS, WATCHED)[seed % 3]).script()]
+            engines = [engine_of(name, []) for name in ENGINES]
+            self.check(seed, *([engine.answer(line) for line in lines] for engine in engines))
+            self.check(seed, *(engine_of(name, []).answer("".join(lines)) for name in ENGINES))
+            for number in range(6):
+                self.check((seed, number), *(self.called(engine, random.Random(f"{seed} {number}")) for engine in engines))
 
+    def check(self, what, plain, proved):
+        with self.subTest(what):
+            self.assertEqual(plain, proved)
 
-if __name__ == "__main__":
-    unittest.main()
+    @staticmethod
+    def called(engine, choose):
+        """Returns what a random call of an engine returns, and what is then there."""
+        most, (kept, ahead, _) = choose.randrange(1, 60), engine.counts()
+        name = choose.choice(("looks", "turns", "back", "forward"))
+        if name == "looks":
+            places = choose.sample(NUMBERED, 3)
+            looked, turns = engine.looks(places, most)
+            found = list(looked), turns
+        elif name == "turns":
+            found = turns_made(engine, most)
+        else:
+            found = getattr(engine, name)(min(most, kept if name == "back" else ahead))
+        return found, engine.counts(), numbers_of(engine)

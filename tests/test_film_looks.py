@@ -39,9 +39,9 @@ FAINT = """(() => {
 SMALL = """((size) => [...document.querySelectorAll("body *")].filter((one) => one.checkVisibility() && one.getBoundingClientRect().width > 0
   && [...one.childNodes].some((node) => node.nodeType === 3 && node.textContent.trim()) && !one.closest("#pictures svg")
   && (one.matches("svg text") ? parseFloat(getComputedStyle(one).fontSize) * one.getScreenCTM().a : parseFloat(getComputedStyle(one).fontSize))
-  < size).map((one) => one.outerHTML.slice(0, 100)).concat(LETTERS < size ? ["the names of the lanes"] : []))"""
+  < size).map((one) => one.outerHTML.slice(0, 100)))"""
 CUT = """[...document.querySelectorAll("body *")].filter((one) => one.checkVisibility() && !one.matches("option, .wide, svg *")
-  && one.getBoundingClientRect().width > 0 && !one.closest("#canvas, .wide table")
+  && one.getBoundingClientRect().width > 0 && !one.closest(".wide table")
   && getComputedStyle(one.parentElement).textOverflow !== "ellipsis"
   && (one.getBoundingClientRect().right > innerWidth + 1 || one.getBoundingClientRect().bottom > innerHeight + 1
   || (one.scrollWidth > one.clientWidth + 1 && getComputedStyle(one).overflowX !== "visible"
@@ -49,7 +49,7 @@ CUT = """[...document.querySelectorAll("body *")].filter((one) => one.checkVisib
   .concat([...document.querySelectorAll(".wide")].filter((one) => one.checkVisibility() && one.clientHeight > 0 && !one.matches("#program")
   && one.scrollHeight > one.clientHeight + 1 && !/more/.test(one.previousElementSibling.innerText)).map((one) => one.outerHTML.slice(0, 100)))"""
 # In the page: the boxes of its sections.
-BOXES = """JSON.stringify([scrollY, document.querySelector("#source .wide").scrollTop, ...[...document.querySelectorAll("section, #canvas, .wide, svg")]
+BOXES = """JSON.stringify([scrollY, document.querySelector("#source .wide").scrollTop, ...[...document.querySelectorAll("section, .wide, svg")]
   .map((one) => Object.values(one.getBoundingClientRect().toJSON()))])"""
 # In the page: the sections in the order in which Tab comes to them.
 SECTIONS = """[...new Set([...document.querySelectorAll("button, select, input, textarea, [tabindex]")]

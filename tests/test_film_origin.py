@@ -79,12 +79,12 @@ class Origin(PageCase):
     def test_it_is_drawn(self):
         """The picture of the lanes is another one with the steps."""
         self.browser.open(shown_film("overwritten-loader"), "#turn=405&place=M+0+106")
-        before = self.value("byId('canvas').toDataURL()")
+        before = self.value("byId('lanes-picture').outerHTML")
         self.browser.key("c")
-        drawn = self.value("byId('canvas').toDataURL()")
+        drawn = self.value("byId('lanes-picture').outerHTML")
         self.assertNotEqual(before, drawn)
         self.browser.key("c")
-        self.assertEqual(before, self.value("byId('canvas').toDataURL()"))
+        self.assertEqual(before, self.value("byId('lanes-picture').outerHTML"))
 
     def test_random_sessions(self):
         """The page and the tool find the same steps."""

@@ -160,7 +160,7 @@ class Controls(PageCase):
                 self.assertEqual(wanted, self.value("film.at"))
         self.value(f"moveTo({last - 1})")
         self.assertEqual([0o770, "BACK 10 SLOT 04"], self.value("[film.turn[film.at], lineOf(film.at).answer[0]]"))
-        self.value("moveTo(0); byId('rate').value = 4")
+        self.value("moveTo(0); byId('rate').selectedIndex = 4")
         self.browser.key(" ")
         self.browser.wait_for("shown.playing === null")
         self.assertEqual(last, self.value("film.at"))

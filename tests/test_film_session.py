@@ -233,7 +233,8 @@ class Past(SessionCase):
         self.assertTrue(self.value(self.DRAWN))
 
     # In the page: whether its lanes are drawn as they are if all is drawn anew.
-    DRAWN = "((seen) => { drawLanes(); return seen === byId('canvas').toDataURL(); })(byId('canvas').toDataURL())"
+    DRAWN = """((seen) => { for (const lane of lanes.all) lane.key = ""; showLanes(); return seen === byId("lanes-picture").outerHTML; })(
+      byId("lanes-picture").outerHTML)"""
 
     def test_lanes_as_they_grow(self):
         """What is added at the end is in the lanes."""

@@ -24,9 +24,9 @@ CELLS = 0o10000
 WHOLE, NOT_YET = Mark(""), Mark("not yet")
 # In the page: of each source the line where its processor is, and what is said of each line with words.
 LINES = """[...source.of.values()].map((one) => {
-  const { number, note } = lineOfNext(one.processor), rows = one.rows.filter((row) => row.words.length);
+  const { number, note } = lineOfNext(one.processor), rows = one.lines.filter((row) => row.words.length);
   return [number ? [number, note] : [], rows.map((row) => (row.loadedAt >= 0 && resolve(film.at) >= row.loadedAt
-    ? markOf(one.processor, row.words) : ["not yet", null]))];
+    ? markOf(one, row.words) : ["not yet", null]))];
 })"""
 PROGRAMS = os.path.join(TOP, "tests", "programs")
 # Runs with sources: options of the machine, the sources by their processors, and the lines of a script.

@@ -134,6 +134,13 @@ class Installed(InstallCase):
         done = alone(f"{exercises}/check-exercise", "first-program", f"{exercises}/first-program/solution")
         self.assertEqual(("first-program: solved\n", said, 0), done)
 
+    def test_a_folder_whose_name_is_no_text(self):
+        """A byte of its name that is not UTF-8 is shown as that byte."""
+        prefix, shown = os.fsdecode(os.fsencode(self.path("odd")) + b"\xff"), self.path("odd") + r"\xff"
+        self.assertEqual((f"install: pp6600 is in {shown}/bin{ADVICE}", "", 0), alone(f"{self.prefix}/{OWN}/install", prefix))
+        self.assertEqual((f"install: pp6600 is taken away from {shown}\n", "", 0), alone(INSTALL, "--uninstall", prefix))
+        self.check_refused(alone(INSTALL, "--uninstall", prefix), f"nothing of pp6600 is installed below {shown}")
+
     def test_over_another(self):
         """What the older one had and the newer has not is taken away."""
         other, prefix = write(self.path("other"), f'#!/bin/sh\nexec {program()} "$@"\n', 0o755), self.path("prefix")

@@ -1,5 +1,5 @@
-"""The library libpp6600.so against the program: the examples in C, random sessions line by line through small rooms, what turns
-overwrote put back, and wrong options, rooms, counts and places."""
+"""The library libpp6600.so: the examples in C, what turns overwrote put back, and wrong options, rooms, counts and places. That it answers as
+the program does, tests/test_artefacts.py tries."""
 
 import os
 import random
@@ -15,7 +15,6 @@ from pp6600.engine.library import Refused, Session
 from pp6600.failure import Failure
 
 CRATE = os.path.join(TOP, "crates", "pp_library")
-SESSIONS = int(os.environ.get("PP6600_LIBRARY_SESSIONS", "300"))
 PLACES = 106592 + 32768  # of a machine with the smallest central memory
 
 
@@ -36,44 +35,6 @@ class LibraryCase(Case):
 
 class Machines(LibraryCase):
     """Random machines."""
-
-    def test_sessions_answer_as_the_program(self):
-        """In whatever pieces the room makes of them, the answers are those of the program."""
-        for seed in range(SESSIONS):
-            chosen = random.Random(seed)
-            maker = Maker(seed)
-            maker.choose_options()
-            files = {"deck": maker.deck(), "panel": maker.panel()}
-            maker.add_machine()
-            for _ in range(chosen.randint(2, 25)):
-                maker.add_action()
-            maker.add_dumps()
-            script = b"\n".join(maker.lines) + b"\n" * chosen.randrange(2)
-            self.compare(seed, maker, files, script, room=(64, 4096, 1 << 20)[seed % 3])
-
-    def compare(self, seed, maker, files, script, room):
-        given = dict(zip(maker.words, maker.words[1:]))
-        named = {kind: kind in given.values() and f"--{kind}" in maker.words for kind in files}
-        for kind, data in files.items():
-            with open(self.path(kind), "wb") as file:
-                file.write(data)
-        words = [word for word in maker.words if word != "script"]
-        done = subprocess.run([program(), *words], input=script, capture_output=True, cwd=self.folder, timeout=PATIENCE, check=False)
-        options = {"history": maker.history, "central": maker.central, "reader": int(given.get("--reader", "12"), 8),
-                   "printer": int(given.get("--printer", "13"), 8), **{kind: files[kind] for kind in files if named[kind]}}
-        if any(named[kind] and not files[kind] for kind in files):
-            return  # an empty file is no file for the library
-        with self.subTest(seed=seed):
-            try:
-                session = self.open(**options)
-            except Refused as refused:
-                self.assertEqual((done.stderr.decode(), done.returncode), (f"{refused}\n", refused.status))
-                return
-            answers = session.answer(script, room)
-            self.assertEqual(answers.text, done.stdout)
-            self.assertEqual(int(answers.refused > 0), done.returncode)
-            self.assertEqual(answers.taken, len(script))
-            session.close()
 
     def test_what_turns_overwrote_leads_back(self):
         """Put back, the numbers of the last turn first, they give the machine as it was; undone they are the same."""

@@ -12,7 +12,7 @@ import time
 from .support import TOP, Case, read
 
 from pp6600.failure import Failure
-from pp6600.language.listing import Listing, Symbols
+from pp6600.language.listing import Listing, ListingSymbols
 from pp6600.language.source.forms import lines_of
 from pp6600.language.source.passes import assembled
 
@@ -72,7 +72,7 @@ ERRORS = {"a digit lost": lambda line, at: f"{line[:at]} {line[at + 1:]}", "a di
 
 class Listings(Case):
     def test_names_of_addresses(self):
-        symbols = Symbols(next(lines for lines in LISTINGS if "LIMIT" in lines[0]))
+        symbols = ListingSymbols(next(lines for lines in LISTINGS if "LIMIT" in lines[0]))
         self.check_rows(symbols.name, (0o100, "START"), (0o101, "A"), (0o102, "HERE"), (0o103, "HERE+1"), (0o77, "MASK"), (0o76, ""))
         self.check_rows(symbols.address, ("LIMIT", 0o100), ("HERE", 0o102), ("MASK", 0o77), ("NONE", None))
 
@@ -87,7 +87,7 @@ class Listings(Case):
                 put = choose.choice(("", ">", " ", "U", "9", "O", "\t", ":", "*", other[cut:], other))
                 lines[at] = lines[at][:cut] + put + lines[at][cut + choose.randrange(3):]
             try:
-                Symbols(lines).lines()
+                ListingSymbols(lines).lines()
             except Failure as failure:
                 self.assertIn("(decimal)", str(failure))
 

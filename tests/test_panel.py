@@ -15,7 +15,7 @@ from pp6600.devices.paper_tape import PaperTape
 from pp6600.engine.plain import places
 from pp6600.engine.plain.console import SYMBOLS
 from pp6600.front import keys
-from pp6600.front.panel.screen import Shown, layout, screen, small_screen
+from pp6600.front.panel.screen import ScreenContent, layout, screen, small_screen
 from pp6600.front.panel.text import CHANGED, CURSOR, HERE, OVERWRITTEN as OVER, REFUSED
 from pp6600.front.panel.view import View, memory_top
 from pp6600.run.state import state_of
@@ -45,11 +45,11 @@ def state_with(numbers=()):
     console = Console(["plain"])
     for place in numbers:
         console.engine.machine.numbers[place] = numbers[place]
-    return state_of(console, (0, 0o177))
+    return state_of(console, with_central=True)
 
 
 def texts(state, before=None, size=(80, 24), **more):
-    return [line.text for line in screen(Shown(state, before or state, View(), **more), *size).lines]
+    return [line.text for line in screen(ScreenContent(state, before or state, View(), **more), *size).lines]
 
 
 class States(Case):
@@ -258,7 +258,7 @@ class Sessions(PanelCase):
         """They are sent before the script."""
         panel, path = self.panel("STEP 3\n", sources=[(0, self.file(counter(), "count.pp"))]), self.path("saved")
         press(panel, f"w{path}<Enter>")
-        self.assertEqual(panel.session.state.found, self.panel(read(path)).session.state.found)
+        self.assertEqual(panel.session.state.numbers, self.panel(read(path)).session.state.numbers)
 
     def test_the_question_who_makes_a_change_changes_nothing(self):
         """The machine, what is kept and what is ahead are as they would be without it."""
@@ -442,7 +442,7 @@ class Devices(PanelCase):
         panel = self.wide_panel(FAILS, devices=[device_of(COUNTS)])
         session, channel = panel.session, panel.session.state.channels[0o11]
         self.assertEqual("function of Counts must return a state and a Reply, and returned (2, 5)", bottom(panel, "12s"))
-        self.assertEqual((1, 1, channel, None),
-                         (session.history.turns, session.simulator.state(), session.state.channels[0o11], panel.fault))
+        self.assertEqual((1, 1, channel),
+                         (session.history.turns, session.simulator.state(), session.state.channels[0o11]))
         press(panel, "b")
         self.assertEqual((0, 0), (session.history.turns, session.simulator.state()))

@@ -100,8 +100,9 @@ class Surroundings(HandsCase):
     def test_older_python(self):
         """Each tool says in one line that it needs a later one."""
         fake = "import runpy, sys; sys.version_info = (3, 8); sys.argv = sys.argv[1:]; runpy.run_path(sys.argv[0], {}, '__main__')"
+        beside = {"PYTHONPATH": os.path.join(TOP, "tools")}  # as Python has it that runs a file there
         for name in TOOLS:
-            done = run(sys.executable, "-c", fake, os.path.join(TOP, "tools", name), stdin=None)
+            done = run(sys.executable, "-c", fake, os.path.join(TOP, "tools", name), stdin=None, env=beside)
             with self.subTest(name):
                 self.assert_one_line(name, "Python 3.9 or later is needed", done.err)
                 self.assertEqual(2, done.status)

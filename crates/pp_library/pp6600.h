@@ -102,7 +102,7 @@ uint32_t pp6600_counts(pp6600 *session, uint32_t *kept, uint32_t *ahead, uint32_
 
 /* Performs turns: until there were `most` (DONE), or one changed the number of a watched place (WATCHED), or made has no room for one
  * more, or olds none for 76 (ROOM). made[0] to made[*turns - 1] are the turns, and olds[0] to olds[*used - 1] the places that they
- * overwrote, turn after turn. The numbers put back, the last turn first, give the machine as it was. */
+ * overwrote, turn after turn. The numbers put back, the last turn first, give the machine as it was. What is in olds behind these may change. */
 uint32_t pp6600_turns(pp6600 *session, uint32_t most, pp6600_turn *made, size_t made_room, pp6600_old *olds, size_t olds_room,
     size_t *turns, size_t *used);
 

@@ -16,7 +16,7 @@ sys.path.insert(0, os.path.join(TOP, "tools"))
 
 from pp6600.shell.command_line import Failure, arguments, run, script_lines, simulator
 from pp6600.front.panel.app import Panel
-from pp6600.front.panel.session import Session
+from pp6600.front.panel.logged_session import LoggedSession
 from pp6600.front.panel.text import CHANGED, CHOSEN, CURSOR, HEAD, HERE as AT_P, REFUSED, SLOT, TITLE
 from pp6600.language.symbol_options import symbols_from
 
@@ -34,7 +34,7 @@ text { font: 15px "DejaVu Sans Mono", Menlo, Consolas, monospace; fill: #dddddd;
 
 def screen_lines(words, lines, symbols, rows):
     """Returns so many lines of the panel's screen after the keys; the words are the simulator and its options."""
-    panel = Panel(Session([*words, "--deck", os.path.join(EXAMPLE, "deck")]), symbols)
+    panel = Panel(LoggedSession([*words, "--deck", os.path.join(EXAMPLE, "deck")]), symbols)
     panel.rows = rows
     panel.perform_script(lines)
     for key in KEYS:

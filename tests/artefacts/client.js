@@ -34,6 +34,13 @@ function addRecords(sum, call) {
   for (const array of recorded ? [recorded.made, recorded.olds] : []) sum.add(array);
 }
 
+// Makes turns. Returns the status, and the numbers at these places after each.
+function looks(session, most, places, room) {
+  const into = session.room("looks", 8 * room), given = session.given("places", Uint32Array.from(places));
+  const status = session.call("looks", most, ...given, into, BigInt(room), ...session.outs(1));
+  return { status, numbers: session.view(BigUint64Array, into, places.length * session.results(1)[0]).slice() };
+}
+
 function addCalls(session, central, sum) {
   const addCounts = () => {
     const { kept, ahead, capacity, changed } = session.counts();
@@ -44,11 +51,11 @@ function addCalls(session, central, sum) {
   addRecords(sum, () => session.turns(3 * TURNS, TURNS, OLDS));
   sum.status(statusOf(() => session.back(7)));
   sum.status(statusOf(() => session.forward(2)));
-  addRecords(sum, () => session.again(5, TURNS, OLDS));
-  addRecords(sum, () => session.again(1, TURNS, OLDS));
-  const looks = session.looks(TURNS, LOOKED_AT, LOOKED_AT.length * TURNS);
-  sum.status(looks.status);
-  sum.add(looks.numbers);
+  addRecords(sum, () => session.turns(5, TURNS, OLDS, "again"));
+  addRecords(sum, () => session.turns(1, TURNS, OLDS, "again"));
+  const seen = looks(session, TURNS, LOOKED_AT, LOOKED_AT.length * TURNS);
+  sum.status(seen.status);
+  sum.add(seen.numbers);
   addCounts();
   addMachine(session, central, sum);
 }

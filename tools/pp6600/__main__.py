@@ -7,11 +7,11 @@ import sys
 from .failure import Failure
 from .shell.ending import run
 
-# The tools of each room.
-CONVERT = ("assemble", "deck", "disassemble", "load", "save", "show", "symbols", "words")
-COMMANDS = ("changes", "compare", "origin", "state", "talk", "trace", "until", "waits")
-MODULES = {**{name: f"convert.{name}" for name in CONVERT}, **{name: f"front.commands.{name}" for name in COMMANDS},
-           "debug-adapter": "front.debug.main", "film": "front.film.tool", "panel": "front.panel.main"}
+# The modules of the tools.
+MODULES = {**{name: f"convert.{name}" for name in ("assemble", "deck", "disassemble", "load", "save", "show", "words")},
+           **{name: f"front.commands.{name}" for name in ("changes", "compare", "origin", "talk", "trace", "until", "waits")},
+           "debug-adapter": "front.debug.debug_adapter", "film": "front.film.tool", "panel": "front.panel.panel",
+           "state": "front.commands.state_screen", "symbols": "convert.symbol_list"}
 
 
 def main_of(name):

@@ -17,7 +17,7 @@ use Rattle.pp_rig.specs.Rules.{rules}
 use Rattle.pp_rig.specs.Stopping.{after_turns}
 use Rattle.pp_rig.specs.declared.columns.TheConstants.{MOST_COLUMNS}
 use Rattle.pp_rig.specs.declared.recording.Moment.{Moment}
-use Rattle.pp_rig.specs.declared.recording.Old.{Old}
+use Rattle.pp_machine.specs.declared.olds.Old.{Old}
 use Rattle.pp_trouble.specs.Message.{text_of}
 use Rattle.pp_trouble.specs.Trouble.{status_of}
 use Rattle.pp_trouble.specs.declared.trouble.Trouble.{Trouble}

@@ -2,7 +2,7 @@
 ghost use Rattle.pp_assembler.specs.Cells.{IsCell};
 ghost use Rattle.pp_library.specs.Assembling.{IsLoading};
 ghost use Rattle.pp_library.specs.declared.status.TheConstants.{DONE, REFUSED, ROOM};
-ghost use Rattle.std.specs.Prelude.{◌≡◌, ◌≢◌, ◌<◌, ◌≤◌, ◌↔◌, ◌⊎◌, ⊥, All, length, take};
+ghost use Rattle.std.specs.Prelude.{◌≡◌, ◌≢◌, ◌<◌, ◌≤◌, ◌↔◌, ◌⊎◌, All, length, take};
 
 use crate::status::{DONE, NO_MEMORY, REFUSED, ROOM};
 use pp_assembler::{

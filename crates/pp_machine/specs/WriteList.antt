@@ -4,7 +4,7 @@ use Rattle.pp_machine.specs.Writes.{Writes}
 use Rattle.pp_machine.specs.declared.place.Place.{Place}
 use Rattle.pp_machine.specs.declared.place.Write.{Write}
 
--- how many writes a list in place has room for
+-- the most places that one action overwrites
 abbrev pub list_room : ℕ
 list_room = 76
 

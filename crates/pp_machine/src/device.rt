@@ -1,11 +1,11 @@
 //! What the machine asks of a device.
-ghost use Rattle.std.specs.Prelude.{◌≡◌, ◌+◌, ◌≤◌, ◌++◌};
-ghost use Rattle.arrayvec.specs.ArrayVec.{array_vec_len};
+ghost use Rattle.std.specs.Prelude.{◌≡◌, ◌+◌, ◌≤◌, ◌++◌, length, take};
 ghost use Rattle.pp_machine.specs.Inner.Device.{DeviceModel, device_place, device_view, device_old_values, over_device};
-ghost use Rattle.pp_machine.specs.Prelude.{list_room, lookup, renamed, state_number, write_list};
+ghost use Rattle.pp_machine.specs.Prelude.{lookup, renamed, state_number};
+ghost use Rattle.pp_machine.specs.Olds.{numbered};
 
 use crate::channel::{Channel, ChannelState};
-use crate::lists::WriteList;
+use crate::olds::Old;
 use crate::place::{Place, Write};
 use crate::unaligned::Unaligned16;
 
@@ -40,12 +40,13 @@ pub trait Device: Drop {
     fn was(back: &Self::Record, c: u8, place: &Place) -> Option<u64>
         ensures { result ≡ lookup (renamed (device_place model c) (model.pairs back.now)) place.now };
 
-    /// Appends each place that a record has, of a device on channel c, with its old number.
-    fn push_old_values(back: &Self::Record, c: u8, list: &mut WriteList)
-        requires room { array_vec_len list.old + model.most ≤ list_room }
-        ensures items { write_list list.new.items
-            ≡ write_list list.old.items ++ renamed (device_place model c) (model.pairs back.now) }
-        ensures at_most { array_vec_len list.new ≤ array_vec_len list.old + model.most };
+    /// Writes each place that a record has, of a device on channel c, with its old number into a slice, behind the first
+    /// `used` that are there. Returns how many are there then.
+    fn put_old_values(back: &Self::Record, c: u8, olds: &mut [Old], used: usize) -> usize
+        requires room { used + model.most ≤ length olds.old }
+        ensures items { take result olds.new
+            ≡ take used olds.old ++ numbered (renamed (device_place model c) (model.pairs back.now)) }
+        ensures at_most { result ≤ used + model.most };
 }
 
 /// Returns the state of a channel as a write.

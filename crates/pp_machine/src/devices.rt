@@ -1,9 +1,9 @@
 //! The devices of a machine, one after another, each on a channel of its own.
-ghost use Rattle.std.specs.Prelude.{◌≡◌, ◌+◌, ◌<◌, ◌≤◌, ◌++◌, false};
-ghost use Rattle.arrayvec.specs.ArrayVec.{array_vec_len};
+ghost use Rattle.std.specs.Prelude.{◌≡◌, ◌+◌, ◌<◌, ◌≤◌, ◌++◌, false, length, take};
 ghost use Rattle.pp_machine.specs.Inner.Devices.{AreJoined, AreStepped, DevicesModel, attached, no_devices, on};
 ghost use Rattle.pp_machine.specs.Inner.PartWrites.{AreIdle};
-ghost use Rattle.pp_machine.specs.Prelude.{Machine, list_room, lookup, over, write_list};
+ghost use Rattle.pp_machine.specs.Olds.{numbered};
+ghost use Rattle.pp_machine.specs.Prelude.{Machine, lookup, over};
 ghost use Rattle.pp_machine.specs.Ranges.{channel_count};
 
 mod all;
@@ -11,7 +11,7 @@ mod all;
 use crate::channel::ChannelState;
 use crate::channels::Channels;
 use crate::device::Device;
-use crate::lists::WriteList;
+use crate::olds::Old;
 use crate::place::Place;
 pub use all::{
     AllDevices, AllRecords, all_devices, device_records_restore, device_writes_are_distinct,
@@ -47,11 +47,12 @@ pub trait Devices: Drop {
     fn was(back: &Self::Records, place: &Place) -> Option<u64>
         ensures { result ≡ lookup (model.pairs back.now) place.now };
 
-    /// Appends each place that the records have, with its old number, the first device first.
-    fn push_old_values(back: &Self::Records, list: &mut WriteList)
-        requires room { array_vec_len list.old + model.most ≤ list_room }
-        ensures items { write_list list.new.items ≡ write_list list.old.items ++ model.pairs back.now }
-        ensures at_most { array_vec_len list.new ≤ array_vec_len list.old + model.most };
+    /// Writes each place that the records have, with its old number into a slice, behind the first `used` that are there,
+    /// the first device first. Returns how many are there then.
+    fn put_old_values(back: &Self::Records, olds: &mut [Old], used: usize) -> usize
+        requires room { used + model.most ≤ length olds.old }
+        ensures items { take result olds.new ≡ take used olds.old ++ numbered (model.pairs back.now) }
+        ensures at_most { result ≤ used + model.most };
 }
 
 /// No device. It ends the list of devices.
@@ -150,7 +151,9 @@ impl Devices for NoDevices {
     }
 
     #[inline(always)]
-    fn push_old_values(_back: &NoDevices, _list: &mut WriteList) {}
+    fn put_old_values(_back: &NoDevices, _olds: &mut [Old], used: usize) -> usize {
+        used
+    }
 }
 
 impl<D: Device, R: Devices> Devices for On<D, R> {
@@ -194,8 +197,13 @@ impl<D: Device, R: Devices> Devices for On<D, R> {
     }
 
     #[inline(always)]
-    fn push_old_values(back: &OnRecords<D::Record, R::Records>, list: &mut WriteList) {
-        D::push_old_values(&back.own, back.channel, list);
-        R::push_old_values(&back.others, list);
+    #[tactic(auto, using(crate::proofs::PushedLists::pushed_lists))]
+    fn put_old_values(
+        back: &OnRecords<D::Record, R::Records>,
+        olds: &mut [Old],
+        used: usize,
+    ) -> usize {
+        let used = D::put_old_values(&back.own, back.channel, olds, used);
+        R::put_old_values(&back.others, olds, used)
     }
 }

@@ -1,34 +1,39 @@
 -- Recordings of actions, one after another.
-use Rattle.std.proofs.Common.{◌≡◌, ◌∙◌, ◌+◌, ◌<◌, ℕ, zero, suc, List, [], ◌∷◌, ◌++◌, add-one, ap, append-nil, append_assoc, arith, drop, drop-cons, get_or, length, map, refl, replicate, sym, take}
-use Rattle.std.proofs.lemmas.List.{map-append, take_more}
+use Rattle.std.proofs.Common.{◌≡◌, ◌∙◌, ◌+◌, ◌<◌, ◌≤◌, ℕ, zero, suc, List, [], ◌∷◌, ◌++◌, add-one, ap, append-nil, append_assoc, arith, drop, drop-cons, get_or, length, refl, replicate, sym, take}
+use Rattle.std.proofs.lemmas.List.{length-append, length-take-le, take_more}
 use Rattle.pp_actions.specs.declared.action.Action.{Action}
 use Rattle.pp_actions.specs.declared.action.Action.TheVariants.{Turn}
 use Rattle.pp_history.proofs.Steps.{after_steps-more}
 use Rattle.pp_history.specs.SessionLaws.{machine_at}
-use Rattle.pp_history.specs.SessionValue.{IsAt, Moves, SessionValue, after_forward, performed, replay}
+use Rattle.pp_history.specs.SessionValue.{AreNewest, IsAt, Moves, SessionValue, after_forward, performed, replay}
 use Rattle.pp_machine.specs.Machine.{Machine}
-use Rattle.pp_machine.specs.Numbering.{place_number}
-use Rattle.pp_machine.specs.Prelude.{write_list, write_list-append}
-use Rattle.pp_machine.specs.declared.place.Write.{Write}
+use Rattle.pp_machine.specs.Olds.{numbered}
+use Rattle.pp_machine.specs.Prelude.{Writes}
+use Rattle.pp_machine.specs.declared.place.Place.{Place}
 use Rattle.pp_rig.proofs.Shortest.{turned-first}
 use Rattle.pp_rig.proofs.TurnRuns.{State}
 use Rattle.pp_rig.specs.Action.{next}
 use Rattle.pp_rig.specs.Inner.ActionRecords.{old_values_of}
-use Rattle.pp_rig.specs.Recording.{moment_of, moments_of, numbered, olds_of}
+use Rattle.pp_rig.specs.Recording.{moment_of, moments_of, olds_of}
 use Rattle.pp_rig.specs.Rules.{rules}
 use Rattle.pp_rig.specs.Stopping.{turned}
 use Rattle.pp_rig.specs.Turn.{turn}
-use Rattle.pp_rig.specs.declared.recording.Old.{Old}
+use Rattle.pp_machine.specs.declared.olds.Old.{Old}
 
--- one more place
-pub old_more : (ks : List Write) (k : ℕ) (d : Write) → k < length ks →
-    numbered (write_list (take (k + 1) ks))
-    ≡ numbered (write_list (take k ks)) ++ record { place = place_number (get_or ks k d).place; number = (get_or ks k d).number } ∷ []
-old_more ks k d h = rw (take_more ks k d h, write_list-append, map-append) refl
-
-pub length-numbered : (ks : List Write) → length (write_list ks) ≡ length ks
+length-numbered : (pairs : Writes Place) → length (numbered pairs) ≡ length pairs
 length-numbered [] = refl
-length-numbered (k ∷ ks) = ap suc (length-numbered ks)
+length-numbered (pair ∷ pairs) = ap suc (length-numbered pairs)
+
+-- places that were put behind others are counted by how far they reach
+pub put_count : (olds : List Old) (front : List Old) (used end : ℕ) (pairs : Writes Place) → end ≤ length olds →
+    take end olds ≡ front ++ numbered pairs → length front ≡ used → end ≡ used + length pairs
+put_count olds front used end pairs within is count =
+    omega (arith, length-take-le end olds within, ap length is, length-append front (numbered pairs), length-numbered pairs, count)
+
+-- the old values of the newest action
+pub newest_pairs : (start : Machine) (standing earlier : List Action) (action : Action) (pairs : Writes Place) →
+    AreNewest rules start standing pairs → standing ≡ action ∷ earlier → pairs ≡ old_values_of (replay rules start earlier) action
+newest_pairs start standing earlier action pairs newest same = rw same at newest
 
 -- one more action
 pub moments_last : (s : Machine) (actions : List Action) (last : Action) →

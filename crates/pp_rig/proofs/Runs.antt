@@ -5,6 +5,9 @@ use Rattle.pp_rig.proofs.Names.{rules, turn, Hit, covers, Marks, machine_at, Ses
 use Rattle.pp_rig.proofs.Names.{hit_of, stopped, turned, watches_of, watched_place, Action, Turn, Watched, Stopped}
 use Rattle.std.proofs.{lemmas.List.Elements.recursion_from_All, lemmas.List.at_drop_more, Common.add-one, Common.unwrap_or}
 use Rattle.std.specs.List.{AllByRecursion}
+use Rattle.std.proofs.Math.Dec.{eqb-suc-zero}
+use Rattle.std.specs.Prelude.{◌==◌, Bool, false, if◌then◌else◌, is_some, min}
+use Rattle.pp_rig.specs.Stopping.{newest_changed}
 use Rattle.pp_history.specs.{Marks.AreCovered, Repeating.AreUnmarked, Repeating.after_acts, SessionValue.replay}
 use Rattle.pp_history.proofs.Repeats.{acts_replayed, machine_after_more}
 use Rattle.pp_actions.specs.declared.watched.Watched.TheVariants.{Cell}
@@ -137,6 +140,21 @@ last_hit turns old new v hit replayed last found =
 pub stopped_once : (machine : Machine) → stopped 1 machine ≡ record { turns = 1; hit = hit_of machine }
 unfolding turns_before stopped
 stopped_once machine = grind (arith, before_next 1 0 machine (omega arith))
+
+-- some actions can be undone
+if_kept : (kept : ℕ) (changed : Bool) → 1 ≤ kept → (if kept == 0 then false else changed) ≡ changed
+if_kept zero changed some = absurd (omega (arith, some))
+if_kept (suc kept) changed some = rw (eqb-suc-zero kept) refl
+
+-- whether the newest action, a turn, changed a watched number
+pub newest_turn : (v : SessionValue Machine Action) → 1 ≤ v.capacity →
+    newest_changed (after_act v Turn) ≡ is_some (hit_of (replay rules v.start v.standing))
+unfolding newest_changed
+newest_turn v some =
+    let s = replay rules v.start v.standing in
+    let same : watches_of (turn s) ≡ watches_of s = grind (arith, turn-watches s) in
+    if_kept (min v.capacity (v.kept + 1)) (is_some (first_change s (turn s) (watches_of (turn s)))) (grind (arith, some))
+    ∙ ap (λ watches. is_some (first_change s (turn s) watches)) same
 
 -- nothing is watched
 pub none_watched : (old new : Machine) (watches : List Watched) → length watches ≡ 0 → first_change old new watches ≡ None

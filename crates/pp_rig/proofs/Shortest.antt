@@ -1,5 +1,5 @@
 -- A stopping run is the shortest.
-use Rattle.pp_rig.proofs.Names.{◌≡◌, ◌∙◌, ℕ, zero, suc, ◌+◌, refl, sym, ap, arith, ◌∷◌, ◌++◌, Option, Some, None, replicate}
+use Rattle.pp_rig.proofs.Names.{◌≡◌, ◌∙◌, ℕ, zero, suc, ◌+◌, refl, ap, arith, ◌∷◌, ◌++◌, Option, Some, None, replicate}
 use Rattle.pp_rig.proofs.Names.{SessionValue, Machine, turn, Hit, Stopped, hit_of, stopped, turned, after_turns, Action, Turn}
 use Rattle.pp_rig.specs.Stopping.{hit_or, IsShortest}
 

@@ -1,10 +1,10 @@
 -- Turns of a session, one after another, that changed no watched number so far.
-use Rattle.std.proofs.Common.{◌≡◌, ◌∙◌, ◌+◌, ◌-◌, ◌*◌, ◌<◌, ℕ, zero, suc, Bool, true, false, List, [], ◌∷◌, ◌++◌, All, add-one, ap, append-nil, append_assoc, arith, is_some, length, refl, subst, sym, take}
+use Rattle.std.proofs.Common.{◌≡◌, ◌∙◌, ◌+◌, ◌-◌, ◌*◌, ℕ, zero, suc, Bool, false, List, ◌++◌, All, add-one, ap, append-nil, append_assoc, arith, is_some, length, refl, sym, take}
 use Rattle.std.specs.Prelude.{Option, Some, None}
 use Rattle.pp_actions.specs.declared.action.Action.{Action}
 use Rattle.pp_actions.specs.declared.action.Action.TheVariants.{Turn}
 use Rattle.pp_history.specs.Contents.{Contents}
-use Rattle.pp_history.specs.SessionValue.{Moves, after_act}
+use Rattle.pp_history.specs.SessionValue.{Moves}
 use Rattle.pp_machine.specs.NumberLaws.{setup-over}
 use Rattle.pp_machine.specs.Prelude.{Has, Machine}
 use Rattle.pp_machine.specs.declared.place.Place.{Place}

@@ -1,25 +1,19 @@
 -- What actions overwrote, as numbers: a page or a debugger shows it, and puts it back.
-use Rattle.std.specs.Prelude.{◌≡◌, ◌+◌, ◌<◌, ◌≤◌, ◌⊎◌, ℕ, List, [], ◌∷◌, ◌++◌, length, map, take}
+use Rattle.std.specs.Prelude.{◌≡◌, ◌+◌, ◌<◌, ◌≤◌, ◌⊎◌, ℕ, List, [], ◌∷◌, ◌++◌, length, take}
 use Rattle.pp_actions.specs.declared.action.Action.{Action}
 use Rattle.pp_actions.specs.declared.action.Action.TheVariants.{Turn}
 use Rattle.pp_history.specs.Contents.{Contents}
 use Rattle.pp_history.specs.SessionValue.{Moves, after_forward}
 use Rattle.pp_machine.specs.Machine.{Machine}
-use Rattle.pp_machine.specs.Numbering.{place_number}
+use Rattle.pp_machine.specs.Olds.{numbered}
 use Rattle.pp_machine.specs.WriteList.{list_room}
-use Rattle.pp_machine.specs.Writes.{Writes}
-use Rattle.pp_machine.specs.declared.place.Place.{Place}
 use Rattle.pp_rig.specs.Action.{next}
 use Rattle.pp_rig.specs.Inner.ActionRecords.{old_values_of}
 use Rattle.pp_rig.specs.declared.recording.Moment.{Moment}
 use Rattle.pp_rig.specs.Rules.{rules}
-use Rattle.pp_rig.specs.declared.recording.Old.{Old}
+use Rattle.pp_machine.specs.declared.olds.Old.{Old}
 use Rattle.pp_rig.specs.declared.recording.Redone.{Redone}
 use Rattle.pp_rig.specs.declared.rig.RigRecord.{RigRecord}
-
--- These places by their numbers, each with its old number.
-abbrev pub numbered : Writes Place → List Old
-numbered pairs = map (λ pair. record { place = place_number pair.0; number = pair.1 }) pairs
 
 -- The processor whose turn it was, or 10 (decimal) if the action is no turn.
 abbrev pub processor_of : Machine → Action → ℕ

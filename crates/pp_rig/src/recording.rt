@@ -1,36 +1,27 @@
 //! Actions, and what each of them overwrote.
-ghost use Rattle.arrayvec.specs.ArrayVec.{array_vec_len};
 ghost use Rattle.pp_actions.specs.declared.action.Action.TheVariants.{Turn};
 ghost use Rattle.pp_history.specs.SessionValue.{IsAt, Moves, SessionValue, after_forward, replay};
 ghost use Rattle.pp_history.specs.declared.session.BackFault as BackFault;
 ghost use Rattle.pp_machine.specs.Machine.{Machine};
-ghost use Rattle.pp_machine.specs.Prelude.{list_room, write_list};
+ghost use Rattle.pp_machine.specs.Olds.{numbered};
+ghost use Rattle.pp_machine.specs.Prelude.{list_room};
 ghost use Rattle.pp_rig.specs.Action.{next};
 ghost use Rattle.pp_rig.specs.Columns.{EndsAsStep};
 ghost use Rattle.pp_rig.specs.Inner.ActionRecords.{old_values_of};
-ghost use Rattle.pp_rig.specs.Recording.{IsRedone, moment_of, moments_of, numbered, olds_of, processor_of};
+ghost use Rattle.pp_rig.specs.Recording.{IsRedone, moment_of, moments_of, olds_of, processor_of};
 ghost use Rattle.pp_rig.specs.Rules.{rules};
 ghost use Rattle.pp_rig.specs.Stopping.{after_turns, hit_of};
 ghost use Rattle.pp_rig.specs.Turn.{turn};
 ghost use Rattle.std.specs.Prelude.{◌≡◌, ◌+◌, ◌<◌, ◌≤◌, ◌++◌, ◌∷◌, ◌⊎◌, ◌↔◌, IfErr, IfOk, IsErr, OnErr, List, false, is_some, length, replicate, take};
 
-use crate::rig::{Rig, newest_old_values_into};
+use crate::rig::{Rig, put_newest_old_values};
 use crate::stopping::turn_once;
-use arrayvec::ArrayVec;
 use pp_actions::Action;
 use pp_history::{BackFault, KeptAction, Session};
-use pp_machine::{Write, WriteList, place_number};
+use pp_machine::Old;
 
 /// The most places that one action overwrites (decimal).
 pub const MOST_OLDS: usize = 76;
-
-/// A place by its number, and the number that was there before an action.
-#[repr(C)]
-#[derive(Clone, Copy, Default, Drop)]
-pub struct Old {
-    pub place: u64,
-    pub number: u64,
-}
 
 /// One action of a recording.
 #[repr(C)]
@@ -62,30 +53,10 @@ pub struct Redone {
     pub olds: usize,
 }
 
-/// Writes pairs into a slice, behind the first `used` that are there.
-#[inline(always)]
-#[tactic(auto, using(crate::proofs::Recordings::old_more))]
-fn write_olds(pairs: &[Write], olds: &mut [Old], used: usize)
-    requires { used + length pairs.now ≤ length olds.old }
-    ensures { take (used + length pairs.now) olds.new ≡ take used olds.old ++ numbered (write_list pairs.now) }
-{
-    for k in 0..pairs.len() {
-        olds[used + k] = Old {
-            place: place_number(&pairs[k].place),
-            number: pairs[k].number,
-        };
-    }
-}
-
 /// Writes what the newest action overwrote into a slice, behind the first `used` that are there, and returns how many
 /// places that are.
 #[inline(always)]
-fn record_newest(
-    session: &Session<Rig>,
-    list: &mut WriteList,
-    olds: &mut [Old],
-    used: usize,
-) -> usize
+fn record_newest(session: &Session<Rig>, olds: &mut [Old], used: usize) -> usize
     requires some { 1 ≤ length session.now.records }
     requires room { used + list_room ≤ length olds.old }
     ensures at_most { result ≤ list_room }
@@ -93,20 +64,17 @@ fn record_newest(
         v.standing ≡ action ∷ earlier → (result ≡ length (old_values_of (replay rules v.start earlier) action))
         × (take (used + result) olds.new ≡ take used olds.old ++ numbered (old_values_of (replay rules v.start earlier) action)) }
 {
-    newest_old_values_into(session, list);
-    write_olds(list.as_slice(), olds, used);
-    list.len()
+    session.has_session_value();
+    match put_newest_old_values(session, olds, used) {
+        Some(end) => end - used,
+        None => unreachable!(),
+    }
 }
 
 /// Performs one turn, and writes what it overwrote into a slice, behind the first `used` that are there. Returns the turn,
 /// and whether it changed the number of a watched place.
 #[inline(always)]
-fn record_turn(
-    session: &mut Session<Rig>,
-    list: &mut WriteList,
-    olds: &mut [Old],
-    used: usize,
-) -> (Moment, bool)
+fn record_turn(session: &mut Session<Rig>, olds: &mut [Old], used: usize) -> (Moment, bool)
     requires { used + list_room ≤ length olds.old }
     ensures hit { result.1 ≡ is_some (hit_of session.old.machine) }
     ensures machine { session.new.machine ≡ turn session.old.machine }
@@ -121,7 +89,7 @@ fn record_turn(
     let hit = turn_once(session);
     let moment = Moment {
         processor: u32::from(slot),
-        count: record_newest(session, list, olds, used) as u32,
+        count: record_newest(session, olds, used) as u32,
     };
     (moment, hit)
 }
@@ -143,11 +111,10 @@ pub fn record(
     ensures within { (result.turns ≤ most) × (result.turns ≤ length made.new) × (result.olds ≤ length olds.new) }
     ensures full { result.hit ≡ false → (most ≤ result.turns) ⊎ ((length made.new ≤ result.turns) ⊎ (length olds.new < result.olds + list_room)) }
 {
-    let mut list = ArrayVec::new();
     let mut turns = 0;
     let mut used = 0;
     while turns < most && turns < made.len() && olds.len() - used >= MOST_OLDS {
-        let (moment, hit) = record_turn(session, &mut list, olds, used);
+        let (moment, hit) = record_turn(session, olds, used);
         made[turns] = moment;
         turns += 1;
         used += moment.count as usize;
@@ -195,12 +162,7 @@ fn newest_processor(session: &Session<Rig>, slot: u8) -> u32
 /// Performs the next action ahead again, and writes what it overwrote into a slice, behind the first `used` that are
 /// there. Returns the action.
 #[inline(always)]
-fn record_next(
-    session: &mut Session<Rig>,
-    list: &mut WriteList,
-    olds: &mut [Old],
-    used: usize,
-) -> Moment
+fn record_next(session: &mut Session<Rig>, olds: &mut [Old], used: usize) -> Moment
     requires some { 1 ≤ length session.old.ahead }
     requires room { used + list_room ≤ length olds.old }
     ensures moves { Moves rules session.old session.new (λ v. after_forward v 1) }
@@ -219,7 +181,7 @@ fn record_next(
     };
     Moment {
         processor: newest_processor(session, slot),
-        count: record_newest(session, list, olds, used) as u32,
+        count: record_newest(session, olds, used) as u32,
     }
 }
 
@@ -245,11 +207,10 @@ pub fn record_again(
     if most > ahead as usize {
         return Err(BackFault::TooFewAhead { ahead });
     }
-    let mut list = ArrayVec::new();
     let mut actions = 0;
     let mut used = 0;
     while actions < most && actions < made.len() && olds.len() - used >= MOST_OLDS {
-        let moment = record_next(session, &mut list, olds, used);
+        let moment = record_next(session, olds, used);
         made[actions] = moment;
         actions += 1;
         used += moment.count as usize;

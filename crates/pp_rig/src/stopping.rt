@@ -84,7 +84,8 @@ fn newest_change(session: &Session<Rig>) -> Option<Hit>
 }
 
 /// Returns whether the newest action changed the number of a place that is watched now. If no action can be undone, none
-/// did.
+/// did. This is a separate function, so a loop of turns that watches nothing does not have it.
+#[inline(never)]
 #[tactic(auto, unfolding(crate::specs::Stopping::newest_changed))]
 pub fn newest_changed(session: &Session<Rig>) -> bool
     ensures { (v : SessionValue Machine Action) → IsAt rules session.now v → result ≡ newest_changed v }
@@ -124,11 +125,12 @@ pub(crate) fn turn_once(session: &mut Session<Rig>) -> bool
     ensures at { Moves rules session.old session.new (after_turns 1) }
 {
     session.has_session_value();
+    let _capacity = session.capacity();
     session.act(Action::Turn);
     if session.machine().watches().is_empty() {
         return false;
     }
-    newest_change(session).is_some()
+    newest_changed(session)
 }
 
 /// Performs turns until n were performed, or until one changed the number of a watched place.

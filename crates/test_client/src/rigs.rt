@@ -1,8 +1,7 @@
 //! The calls of `pp_rig` and `pp_history` that the rest of the client has no use for.
 
-use arrayvec::ArrayVec;
 use pp_history::{Reversible, Session};
-use pp_rig::{Action, ActionFault, Place, Rig, Watched, newest_old_values_into};
+use pp_rig::{Action, ActionFault, MOST_OLDS, Old, Place, Rig, Watched, put_newest_old_values};
 
 /// Checks an action, performs another one and undoes it.
 fn show_undo(rt: &HostRuntime, rig: &mut Rig) {
@@ -46,9 +45,9 @@ pub fn show_change(rt: &HostRuntime, mut session: Session<Rig>) {
     if session.machine().admits(&action) {
         session.act(action);
     }
-    let mut list = ArrayVec::new();
-    let is_listed = newest_old_values_into(&session, &mut list);
-    let _ = println!(rt; "listed {is_listed}, places {}", list.len());
+    let mut olds = [Old::default(); MOST_OLDS];
+    let listed = put_newest_old_values(&session, &mut olds, 0);
+    let _ = println!(rt; "listed {listed:?}");
     let (kept, capacity) = (session.kept(), session.capacity());
     let changed = session.back_to_change(&[Place::RegA { pp: 0 }]);
     let ahead = session.ahead();

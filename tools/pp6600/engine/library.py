@@ -21,7 +21,7 @@ DONE, ROOM, WATCHED, CLOSED, OPEN, NO_MEMORY, REFUSED, LIMIT = range(8)
 MOST_OLDS = 76  # the most places that an action overwrites
 PAIRS_OF_TURN = 6  # more than most turns overwrite
 LEAST_ROOM = 96  # bytes that the answer to a line that is no DUMP always fits in
-TEXT_ROOM, ANSWER_ROOM, MOST_AT_ONCE = 112, 1 << 16, 1 << 20  # bytes
+TEXT_ROOM, ANSWER_ROOM = 112, 1 << 16  # bytes
 MOST_OF_BYTE, MOST_OF_WORD = 1 << 8, 1 << 32
 
 
@@ -86,6 +86,13 @@ def loaded(path: str) -> Any:
     return library
 
 
+def open_status(status: int) -> int:
+    """Returns the status of a call on a session that is open."""
+    if status == CLOSED:
+        raise Failure("the session is closed")
+    return status
+
+
 class Session:
     """A session: a machine with its undo history. It is used in a `with` block, or closed."""
 
@@ -93,22 +100,19 @@ class Session:
                  panel: bytes = b"", path: Optional[str] = None) -> None:
         self._handle = Handle()
         library, self._at = load(path), byref(self._handle)
-        self._calls = {name: getattr(library, f"pp6600_{name}") for name in CALLS}
+        self.calls = {name: functools.partial(getattr(library, f"pp6600_{name}"), self._at) for name in CALLS}
         text, count, status = ctypes.create_string_buffer(TEXT_ROOM), c_size_t(), c_uint32()
         if not all(0 <= number < MOST_OF_BYTE for number in (reader, printer)) or \
                 not all(0 <= number < MOST_OF_WORD for number in (history, central)):
             raise Refused("pp6600: BAD ARGUMENTS", 2)
-        opened = self._calls["open"](
+        opened = library.pp6600_open(
             c_uint32(history), c_uint32(central), c_uint8(reader), c_uint8(printer), deck, c_size_t(len(deck)), panel, c_size_t(len(panel)),
             self._at, text, c_size_t(len(text)), byref(count), byref(status))
         if opened != DONE:
             raise Refused(text.raw[:count.value].decode("ascii"), status.value)
 
     def _call(self, name: str, *arguments: object) -> int:
-        status: int = self._calls[name](self._at, *arguments)
-        if status == CLOSED:
-            raise Failure("the session is closed")
-        return status
+        return open_status(self.calls[name](*arguments))
 
     def __enter__(self) -> Session:
         return self
@@ -119,7 +123,7 @@ class Session:
     def close(self) -> None:
         """Closes the session. To close it again does nothing."""
         if self._handle.at:
-            self._calls["close"](self._at)
+            self.calls["close"]()
 
     __del__ = close
 
@@ -207,29 +211,32 @@ class LibraryEngine:
             self.session = Session(**options, path=path)
         except Unloadable as failure:
             raise Failure(f"{path} is not the library of the simulator: {failure.__cause__}") from failure
+        self._answer, self._looks = self.session.calls["answer"], self.session.calls["looks"]  # which are called most often
         self.text: Any = ctypes.create_string_buffer(ANSWER_ROOM)
         self.size, self.room = c_size_t(), c_size_t(ANSWER_ROOM)
         self.answered = c_size_t(), c_size_t(), c_uint32(), c_uint32()
-        self.taken, self.count = self.answered[:2]
+        self.taken, self.count, _, self.refused = self.answered
         self.counted = tuple(map(byref, self.answered))
-        self.looked: Sequence[int] = ()  # the places of the latest looks, and how many numbers there is room for
-        self.most, self.width, self.seen_room = c_uint32(), c_size_t(), c_size_t()
+        self.looked: Sequence[int] = ()  # the places of the latest looks, and for how many turns there is room
+        self.most_seen, self.most = 0, c_uint32()
 
     def answer(self, text: str) -> List[str]:
-        typed = text.encode("latin-1")
-        found: List[bytes] = []
-        while typed:
-            end = len(typed) if len(typed) <= MOST_AT_ONCE else typed.rfind(b"\n", 0, MOST_AT_ONCE) + 1 or len(typed)
-            self.size.value = end
-            status = self.session._call("answer", typed, self.size, self.text, self.room, *self.counted)
-            if status == DONE and end == len(typed) and not found:
-                return str(self.text[:self.count.value], "ascii").splitlines()
-            found.append(self.text[:self.count.value])
+        typed, found = text.encode("latin-1"), b""
+        while True:
+            self.size.value = len(typed)
+            status = self._answer(typed, self.size, self.text, self.room, *self.counted)
+            found += self.text[:self.count.value]
+            if status == DONE:
+                return found.decode("ascii").splitlines()
             typed = typed[self.taken.value:]
-            if status == ROOM and not self.taken.value:
+            if open_status(status) == ROOM:
                 self.room.value *= 4
                 self.text = ctypes.create_string_buffer(self.room.value)
-        return b"".join(found).decode("ascii").splitlines()
+
+    def perform(self, text: str) -> bool:
+        typed = text.encode("latin-1")
+        self.size.value = len(typed)
+        return self._answer(typed, self.size, self.text, self.room, *self.counted) == DONE and not self.refused.value
 
     def numbers(self, first: int, count: int) -> Sequence[int]:
         return self.session.numbers(first, count)
@@ -247,18 +254,38 @@ class LibraryEngine:
         return records
 
     def looks(self, places: Sequence[int], most: int) -> Tuple[Sequence[int], int]:
-        if self.looked != places:
-            self.looked, self.looked_at, self.width.value = list(places), (c_uint32 * len(places))(*places), len(places)
-        numbers = most * len(places)
-        if self.seen_room.value < numbers:
-            self.seen, self.seen_room.value = (c_uint64 * numbers)(), numbers
-            self.seen_bytes = memoryview(self.seen).cast("B")
+        turns = self._look(places, most)
+        return array("Q", self.seen[:len(places) * turns].tobytes()), turns
+
+    def until(self, places: Sequence[int], numbers: Sequence[int], most: int) -> Tuple[int, Sequence[int]]:
+        made, width = self._look(places, most), len(places)
+        same = made
+        for at, number in enumerate(numbers):
+            column = self.seen[at:same * width:width].tolist()
+            if column.count(number) < same:
+                same = first_other(column, number)
+        count = same + (same < made)
+        if count < made:
+            self.back(made - count)
+        return count, self.seen[same * width:count * width].tolist()
+
+    def _look(self, places: Sequence[int], most: int) -> int:
+        """Makes turns. Returns how many; what was seen is in the room for it."""
+        if self.looked is not places or most > self.most_seen:
+            self._make_room(places, most)
         self.most.value = most
-        if self.session._call("looks", self.most, self.looked_at, self.width, self.seen, self.seen_room, self.counted[0]) == REFUSED:
+        status = self._looks(self.most, self.looked_at, self.width, self.seen_at, self.seen_room, self.counted[0])
+        if status > WATCHED:
+            open_status(status)
             raise Failure("the machine does not have these places")
-        found, turns = array("Q"), self.taken.value
-        found.frombytes(self.seen_bytes[:8 * len(places) * turns])
-        return found, turns
+        return int(self.taken.value)
+
+    def _make_room(self, places: Sequence[int], most: int) -> None:
+        """Makes room for the numbers at places after so many turns."""
+        width = len(places)
+        self.looked, self.most_seen, self.looked_at, self.width = places, most, (c_uint32 * width)(*places), c_size_t(width)
+        self.seen_at, self.seen_room = (c_uint64 * (most * width))(), c_size_t(most * width)
+        self.seen = memoryview(self.seen_at).cast("B").cast("Q")
 
     def back(self, count: int) -> None:
         if not self.session.back(count):
@@ -270,6 +297,14 @@ class LibraryEngine:
 
     def close(self) -> None:
         self.session.close()
+
+
+def first_other(column: List[int], number: int) -> int:
+    """Returns the index of the first number of a column that is another one than this. There is one."""
+    last = len(column) - 1
+    if column[last] != number and column.count(number) == last:
+        return last
+    return next(at for at, one in enumerate(column) if one != number)
 
 
 def bytes_of(path: str, name: str) -> bytes:

@@ -3,12 +3,12 @@ the cell of the next word, and no jump."""
 
 from __future__ import annotations
 
-from typing import TYPE_CHECKING, Iterator, List, NamedTuple, Optional, Sequence, Set
+from typing import TYPE_CHECKING, Iterator, List, NamedTuple, Optional, Set
 
 from ..run.conditions import RJM, parsed
 from ..run.forms import CELLS, PROCESSORS, Place
 from ..run.origin_search import SET, TURN, OriginSearch, Step
-from ..run.search import Made, around, last_moments
+from ..run.search import Made, Search, around, spans
 from ..run.session import Session
 from ..run.tape import Position, Tape
 from ..run.turn import Processor
@@ -18,7 +18,6 @@ if TYPE_CHECKING:
     from .sources import Source
 
 LJM = "LJM"
-AT_FIRST, MORE, MOST = 1, 8, 0o10000  # arrivals at an address that are looked at
 
 
 class Rjm(NamedTuple):
@@ -28,7 +27,7 @@ class Rjm(NamedTuple):
     processor: Processor
 
 
-class Call(NamedTuple):
+class SubroutineCall(NamedTuple):
     """A subroutine that was called and has not returned: the address of its jump back, its RJM, and the last write of its return
     address and of its jump back, if that was after the RJM."""
 
@@ -45,13 +44,9 @@ class Call(NamedTuple):
 
 def arrivals(run: Session, number: int, address: int, first: int, last: int) -> Iterator[int]:
     """Yields the turns after one of a run, up to another one, after which P came to be an address, the latest first."""
-    most, seen = AT_FIRST, 0
-    while most <= MOST:
-        moments = last_moments(run, parsed(f"P {number:o} = {address:o}"), most, first, last)
-        yield from (moment.turn for moment in reversed(moments[:len(moments) - seen]))
-        if len(moments) < most:
-            return
-        seen, most = len(moments), most * MORE
+    search = Search(run, parsed(f"P {number:o} = {address:o}"))
+    for start, end in spans(last, first):
+        yield from reversed([turn for _, turn in search.found(start, end)])
 
 
 def turn_made(run: Session, turn: int) -> Made:
@@ -59,14 +54,14 @@ def turn_made(run: Session, turn: int) -> Made:
     return around(run, run.tape.before_turn(turn))[1]
 
 
-def call_of(run: Session, number: int, jump: int, position: Position) -> Optional[Call]:
+def call_of(run: Session, number: int, jump: int, position: Position) -> Optional[SubroutineCall]:
     """Returns the last call before a position of a subroutine whose jump back is at an address; None if it was not called."""
     for turn in arrivals(run, number, jump + 2, 0, run.tape.turn(position)):
         made = turn_made(run, turn)
         if made.slot == number and made.processor.name == RJM and not made.processor.phase:
             rjm = Rjm(Position(made.position + 1), made.processor)
             entry, back = (write_after(run, number, cell, rjm, position) for cell in (jump + 1, jump))
-            return Call(jump, rjm, entry, back)
+            return SubroutineCall(jump, rjm, entry, back)
     return None
 
 
@@ -76,7 +71,7 @@ def write_after(run: Session, number: int, cell: int, rjm: Rjm, position: Positi
     return step if step.cause in (TURN, SET) and step.position > rjm.position else None
 
 
-def has_returned(run: Session, number: int, call: Call, position: Position) -> bool:
+def has_returned(run: Session, number: int, call: SubroutineCall, position: Position) -> bool:
     """Returns whether the jump back of a subroutine was performed between its call and a position."""
     tape = run.tape
     last = tape.turn(position)
@@ -105,10 +100,10 @@ def address_of(run: Session, number: int, position: Position) -> Optional[int]:
     return step.processor.p if step.cause == TURN else None
 
 
-def calls(run: Session, number: int, source: Source, position: Position) -> List[Call]:
+def calls(run: Session, number: int, source: Source, position: Position) -> List[SubroutineCall]:
     """Returns the subroutines that a processor is in at a position of a run, the innermost first."""
     address, before = address_of(run, number, position), position
-    found: List[Call] = []
+    found: List[SubroutineCall] = []
     seen: Set[int] = set()
     while address is not None and (jump := source.subroutine_of(address)) is not None and jump not in seen:
         call = call_of(run, number, jump, before)
@@ -121,7 +116,7 @@ def calls(run: Session, number: int, source: Source, position: Position) -> List
     return found
 
 
-def sentence(run: Session, number: int, call: Call, symbols: AllSymbols) -> str:
+def sentence(run: Session, number: int, call: SubroutineCall, symbols: AllSymbols) -> str:
     """Returns what is said of a call."""
     text = f"{called(symbols, number, call.jump + 1)} called from {called(symbols, number, call.address)}, " \
            f"turn {run.tape.turn(call.rjm.position):o}"

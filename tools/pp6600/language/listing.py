@@ -19,7 +19,7 @@ Made = TypeVar("Made")
 MARK = "\ufeff"  # that some editors put before a text
 
 
-class Line(NamedTuple):
+class ListedLine(NamedTuple):
     """A line of a listing with words: its number, decimal from 1, the address of the first one, the words of four digits, and the
     source line."""
 
@@ -67,8 +67,8 @@ class Listing:
     def __init__(self, lines: Sequence[str], columns: Optional[Columns] = None, trust: bool = False, has_gaps: bool = False) -> None:
         """The lines are those of a text. Without columns they are guessed. What is in doubt raises InDoubt, or is kept. Between the rows
         of a dump there may be gaps."""
-        self.cells: Dict[int, Tuple[str, Line]] = {}  # by address: the word and the line
-        self.elsewhere: Dict[int, Tuple[str, Line]] = {}  # the same by the addresses for which code is assembled, if it is loaded to others
+        self.cells: Dict[int, Tuple[str, ListedLine]] = {}  # by address: the word and the line
+        self.elsewhere: Dict[int, Tuple[str, ListedLine]] = {}  # the same by the addresses for which code is assembled, if it is loaded to others
         self.names = Names()
         self.passed = 0  # lines with numbers that are not loaded
         printout = Printout(without_mark(lines), columns, has_gaps)
@@ -93,15 +93,15 @@ class Listing:
     def add(self, entry: Printed) -> None:
         """Takes what a line says."""
         self.passed += entry.is_passed
-        self.fill(Line(entry.number, entry.load, entry.words, entry.text))
+        self.fill(ListedLine(entry.number, entry.load, entry.words, entry.text))
         if entry.address != entry.load:
-            moved = Line(entry.number, entry.address, entry.words, entry.text)
+            moved = ListedLine(entry.number, entry.address, entry.words, entry.text)
             self.elsewhere.update({entry.address + at: (word, moved) for at, word in enumerate(entry.words) if word})
         for is_label, pairs in ((True, entry.labels), (False, entry.equates)):
             for name, number in pairs:
                 self.names.add(name, number, is_label)
 
-    def fill(self, line: Line) -> None:
+    def fill(self, line: ListedLine) -> None:
         """Puts the words of a line into their cells, but none that is unreadable. Two lines must not fill one cell."""
         wrong = next((wrong for at, word in enumerate(line.words) if word and (wrong := self.why_not_into(line.address + at))), None)
         if wrong:
@@ -154,7 +154,7 @@ def symbol_line(number: int, text: str) -> Optional[Tuple[str, int, bool]]:
     return words[0], value, is_label
 
 
-class Symbols(AddressNames):
+class ListingSymbols(AddressNames):
     """What the addresses of one processor are called, and the listing's own text beside a cell."""
 
     def __init__(self, lines: Sequence[str], columns: Optional[Columns] = None, trust: bool = False) -> None:
@@ -167,7 +167,7 @@ class Symbols(AddressNames):
         super().__init__(names, self.listing.cells)
 
     @classmethod
-    def of_file(cls, path: Optional[str], columns: Optional[Columns] = None, trust: bool = False) -> "Symbols":
+    def of_file(cls, path: Optional[str], columns: Optional[Columns] = None, trust: bool = False) -> "ListingSymbols":
         symbols = made_of(path, lambda lines: cls(lines, columns, trust))
         if not len(symbols.names) and not symbols.listing.cells:
             raise Failure(f"{named(path)} has neither lines of a listing nor lines NAME ADDRESS")

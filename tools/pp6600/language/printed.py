@@ -105,7 +105,7 @@ class Parts(NamedTuple):
         return [found.start() for found in re.finditer(r"\S+", self.text)] if self.is_aligned else []
 
 
-class Source(NamedTuple):
+class PrintedSource(NamedTuple):
     """The fields of a source line. The operand has the comment after it. The statement is the line without its label, in the columns of
     sources."""
 
@@ -309,16 +309,16 @@ def operation_at(words: Sequence[str], start: int) -> Optional[int]:
     return known[-1 if start < FIRST_OF_OPERATIONS else 0] if known else None
 
 
-def source_of(parts: Parts, operations: Set[int]) -> Source:
+def source_of(parts: Parts, operations: Set[int]) -> PrintedSource:
     """Returns the fields of a source line. The columns of operations are those of the whole listing."""
     if parts.starts and parts.starts[0] >= FIRST_OF_COMMENTS:
-        return Source("", "", "", "")
+        return PrintedSource("", "", "", "")
     label = label_of(parts.text.split(), parts, operations)
     _, _, rest = parts.text.lstrip().partition(label) if label else ("", "", parts.text)
     operation, *operand = rest.lstrip(":").split(None, 1) or [""]
     blanks = max(len(parts.text) - len(rest.lstrip(" :")), FIRST_OF_OPERATIONS)  # before the operation
     statement = f"{'':{blanks}}{rest.lstrip(' :')}" if parts.is_aligned else f"          {operation:6} {''.join(operand)}"
-    return Source(label, operation.upper(), operand[0] if operand else "", statement)
+    return PrintedSource(label, operation.upper(), operand[0] if operand else "", statement)
 
 
 def label_of(words: Sequence[str], parts: Parts, operations: Set[int]) -> str:

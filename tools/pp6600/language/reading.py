@@ -2,14 +2,14 @@
 operand. What is in doubt is said with its line and column."""
 
 import re
-from typing import Dict, Iterator, List, NamedTuple, Optional, Sequence, Tuple
+from typing import Dict, List, NamedTuple, Optional, Sequence, Tuple
 
 from ..run.forms import CELLS
 from .listed_words import Told, told_by
 from .names import octal_number
 from .printed import (
-    ADDRESS, SHORT, SUBR, TAB, WITH_WORDS, WORD, Columns, Parts, Source, Token, guessed, is_note, is_operation, operation_columns, parts_of,
-    source_of)
+    ADDRESS, SHORT, SUBR, TAB, WITH_WORDS, WORD, Columns, Parts, PrintedSource, Token, guessed, is_note, is_operation, operation_columns,
+    parts_of, source_of)
 from .source.machine import CODES, MNEMONICS, size_of
 from .source.state import LITERAL, LITERALS, NOMINAL, WORD_BITS
 
@@ -46,13 +46,13 @@ class Printed(NamedTuple):
     source: str = ""  # the source line in the columns of sources
 
 
-class Statement(NamedTuple):
+class PrintedStatement(NamedTuple):
     """A line with an operation that makes words: its number, the column of its first word, its fields, its address, and the words of
     it and of the lines that go on with it."""
 
     line: int
     column: int
-    source: Source
+    source: PrintedSource
     address: int
     load: int
     words: List[Optional[str]]
@@ -72,18 +72,18 @@ class Printout:
         addresses = [parts.address.text for parts in self.parts if parts.address and parts.words]
         self.has_zeros = any(re.fullmatch(f">?0[0-7]{{{FULL - 1}}}[bB]?", text) for text in addresses)
 
-    def read(self) -> "Reading":
+    def read(self) -> "PrintedReading":
         """Returns what the lines say: read a first time for the names, then with these, in that base for their numbers which leaves
         fewer doubts."""
-        names = Reading(self, {}, 8).names
-        return min((Reading(self, names, base) for base in (8, 10)), key=lambda reading: len(reading.doubts))
+        names = PrintedReading(self, {}, 8).names
+        return min((PrintedReading(self, names, base) for base in (8, 10)), key=lambda reading: len(reading.doubts))
 
 
-def source_line(source: Source) -> str:
+def source_line(source: PrintedSource) -> str:
     return f" {source.label:8} {source.operation:6} {source.operand}".rstrip()
 
 
-class Reading:
+class PrintedReading:
     """Reads the lines of a listing one after the other, with the names that are known of it."""
 
     def __init__(self, printout: Printout, known: Dict[str, Optional[int]], base: int) -> None:
@@ -91,7 +91,7 @@ class Reading:
         self.names: Dict[str, Optional[int]] = {}  # None: of several numbers
         self.doubts: List[Doubt] = []
         self.entries: List[Printed] = []
-        self.statement: Optional[Statement] = None  # that goes on with lines that have words alone
+        self.statement: Optional[PrintedStatement] = None  # that goes on with lines that have words alone
         self.origin: Optional[int] = None  # the cell after the last word, if that is known
         self.moved: Optional[int] = 0  # how many cells code for another place is loaded off its addresses; None: the next line says it
         self.is_located = self.has_ended = self.is_repeated = False
@@ -117,7 +117,7 @@ class Reading:
 
     # -- one line
 
-    def entry(self, line: str, parts: Parts, source: Source) -> Printed:
+    def entry(self, line: str, parts: Parts, source: PrintedSource) -> Printed:
         """Returns what a line says, after what it tells was checked."""
         entry = Printed(self.number, parts.text.strip(), source=parts.text.rstrip() if parts.is_aligned else source_line(source))
         if DUPLICATED.search(line):
@@ -135,14 +135,14 @@ class Reading:
             return self.coded(entry, parts, source)
         return self.with_label(entry, parts, source, line)
 
-    def is_literal(self, parts: Parts, source: Source) -> bool:
+    def is_literal(self, parts: Parts, source: PrintedSource) -> bool:
         """Returns whether a line after END has words of the program: no source line, and an address that goes on, or almost."""
         if not parts.address or not parts.words or any(source):
             return False
         return parts.address.address is None or parts.address.address == self.origin
 
     @staticmethod
-    def is_coded(parts: Parts, source: Source) -> bool:
+    def is_coded(parts: Parts, source: PrintedSource) -> bool:
         """Returns whether a line has words, or had some before it was read wrongly."""
         has_digits = parts.address is not None and any(symbol.isdigit() for symbol in parts.address.text)
         has_word = any(WORD.fullmatch(token.text) for token in parts.words)
@@ -150,7 +150,7 @@ class Reading:
             return has_digits or any(symbol.isdigit() for token in parts.words for symbol in token.text)
         return has_digits and (has_word or bool(parts.words) and parts.address is not None and parts.address.address is not None)
 
-    def coded(self, entry: Printed, parts: Parts, source: Source) -> Printed:
+    def coded(self, entry: Printed, parts: Parts, source: PrintedSource) -> Printed:
         """Returns what a line with words says."""
         if parts.flag:
             self.doubt(parts.flag, f"the line has the error flag {parts.flag.text}")
@@ -166,7 +166,7 @@ class Reading:
         if source.operation or source.label or not self.statement:
             self.check_statement()
             column = parts.words[0].start + 1 if parts.words else parts.column + 1
-            self.statement = Statement(self.number, column, source, address, load, list(words)) if self.is_whole(source) else None
+            self.statement = PrintedStatement(self.number, column, source, address, load, list(words)) if self.is_whole(source) else None
         else:
             self.statement.words.extend(words)
         if source.operation != "LIT":
@@ -174,7 +174,7 @@ class Reading:
             self.origin = None if None in words else load + len(words)  # of what follows from a doubt nothing is said
         return self.named(entry._replace(address=address, load=load, words=words), self.labels_at(source, address))
 
-    def is_whole(self, source: Source) -> bool:
+    def is_whole(self, source: PrintedSource) -> bool:
         """Returns whether a statement begins and ends its words: a VFD may go on in the last word of another one."""
         bits = sum(map(int, BITS.findall(source.operand.split()[0]))) if source.operation == "VFD" and source.operand else 0
         before = 0 if source.label else self.bits
@@ -188,7 +188,7 @@ class Reading:
         self.doubt(token, f"{token.text} has fewer than four digits" if few else f"{token.text} is no word of four octal digits")
         return None
 
-    def check_size(self, parts: Parts, source: Source) -> None:
+    def check_size(self, parts: Parts, source: PrintedSource) -> None:
         """Checks that an instruction has its words, and its code."""
         name, count = source.operation, len(parts.words)
         if name not in CODES:
@@ -266,7 +266,7 @@ class Reading:
 
     # -- lines without words
 
-    def without_words(self, entry: Printed, parts: Parts, source: Source) -> Printed:
+    def without_words(self, entry: Printed, parts: Parts, source: PrintedSource) -> Printed:
         """Returns what a line says whose operation makes no words: its numbers are the values of names."""
         name, numbers = source.operation, self.values_of(parts)
         if parts.flag and numbers:
@@ -296,7 +296,7 @@ class Reading:
                 found.append(number)
         return found
 
-    def equate(self, entry: Printed, parts: Parts, source: Source, numbers: List[int]) -> Printed:
+    def equate(self, entry: Printed, parts: Parts, source: PrintedSource, numbers: List[int]) -> Printed:
         """Returns what EQU says: the number that is printed, which the operand must have too."""
         if not source.label or not numbers:
             return entry
@@ -310,7 +310,7 @@ class Reading:
         operand = source.operand.split(None, 1)[:1]
         return self.named(entry, (pair,)) if operand and HERE.fullmatch(operand[0]) else self.named(entry, (), (pair,))
 
-    def counter(self, parts: Parts, source: Source, address: Optional[int]) -> Optional[int]:
+    def counter(self, parts: Parts, source: PrintedSource, address: Optional[int]) -> Optional[int]:
         """Performs an operation that moves the counters. Returns the address of its label."""
         name, value = source.operation, self.value(source)
         if name == "ORG":
@@ -340,7 +340,7 @@ class Reading:
         self.origin, self.moved, self.is_located = address if value is None else value, 0, False
         return self.origin
 
-    def locate(self, parts: Parts, source: Source, address: Optional[int], value: Optional[int]) -> Optional[int]:
+    def locate(self, parts: Parts, source: PrintedSource, address: Optional[int], value: Optional[int]) -> Optional[int]:
         """Performs LOC: code for another place goes where it is."""
         if parts.load and parts.load is not parts.address:
             self.check_order(octal_number(parts.load.text[1:]) or 0, parts.load)
@@ -351,7 +351,7 @@ class Reading:
         self.moved = None if value is None or self.origin is None else self.origin - value
         return address if value is None else value
 
-    def use(self, source: Source, address: Optional[int]) -> None:
+    def use(self, source: PrintedSource, address: Optional[int]) -> None:
         """Performs USE: each block goes on where it was."""
         self.blocks[self.used[-1]] = self.origin
         block = source.operand.split()[:1] or [""]
@@ -368,7 +368,7 @@ class Reading:
             self.entries.append(Printed(self.number, "", load - (self.moved or 0), load, ("0000",) * count))
         self.origin = load + count
 
-    def with_label(self, entry: Printed, parts: Parts, source: Source, line: str) -> Printed:
+    def with_label(self, entry: Printed, parts: Parts, source: PrintedSource, line: str) -> Printed:
         """Returns what a line says that has no words and no operation that is known: a macro, or a label alone."""
         is_line = parts.address is not None and parts.address.address is not None and not parts.words
         labels: Tuple[Tuple[str, int], ...] = ()
@@ -384,7 +384,7 @@ class Reading:
 
     # -- names and operands
 
-    def labels_at(self, source: Source, address: int) -> Tuple[Tuple[str, int], ...]:
+    def labels_at(self, source: PrintedSource, address: int) -> Tuple[Tuple[str, int], ...]:
         """Returns the names that a label gives to addresses."""
         if not source.label:
             return ()
@@ -397,7 +397,7 @@ class Reading:
             self.names[name.upper()] = None if is_other else number
         return entry._replace(labels=labels, equates=equates)
 
-    def value(self, source: Source) -> Optional[int]:
+    def value(self, source: PrintedSource) -> Optional[int]:
         """Returns the number of an operand; None if it has names that are not known."""
         told = Told(self.known, self.base, self.origin, self.origin and self.origin - (self.moved or 0))
         return told.number(source.statement)

@@ -38,10 +38,10 @@ def symbols_from(listings: Iterable[Sequence[str]], sources: Iterable[Sequence[s
     """Returns the symbols of pairs of a processor and a listing, and of a processor and a source with common decks in a folder."""
     symbols = AllSymbols()
     for number, path in [(processor(text), path) for text, path in listings]:
-        from .listing import Symbols
+        from .listing import ListingSymbols
         if number in symbols.of:
             raise Failure(f"processor {number:o} is given symbols twice")
-        symbols.of[number] = Symbols.of_file(path)
+        symbols.of[number] = ListingSymbols.of_file(path)
     for number, path in [(processor(text), path) for text, path in sources]:
         from .sources import Source, texts_in
         if number in symbols.of:

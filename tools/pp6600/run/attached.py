@@ -1,83 +1,39 @@
 """A session with devices of one's own, in which all goes back.
 
 Its unit is an action of the user: a turn with the replies of the devices after it is one, and so is each other action. BACK and
-FORWARD count units and have no limit. The tape has each reply as the SET H that it is.
-
-A device uses no watch. Turns are made many at once; those after the first that changed a channel of a device are taken back. What a
-device is told is an action too: its line sets Q of PP 00 to the number that it has."""
+FORWARD count units and have no limit. The tape has each reply as the SET H that it is. What a device is told is an action too: its line
+sets Q of PP 00 to the number that it has."""
 
 from __future__ import annotations
 
-import bisect
 import re
-from typing import Any, Dict, List, Optional, Sequence, Tuple
+from typing import Any, Dict, List, Sequence, Tuple
 
 from ..engine import interface as flat
 from ..failure import Failure
-from .device import Channel, Device, DeviceFailure, Event, Reply, Value, called, is_value, looked, value_at_start
-from .forms import CHANNELS, MOST_TURNS, STATES, Place, is_refusal
-from .plain_script import PlainScript
 from .console import LONGEST_LINE
+from .device import Channel, Device, DeviceFailure, Value, is_value, looked
+from .forms import CHANNELS, MOST_TURNS, Place, is_refusal
+from .new_turns import NewTurns, value_told
+from .past import Past, name_of
+from .plain_script import PlainScript
 from .session import REPLAYED, Session
-from .tape import STEP, Position, ReplyLine, UnitCounts, Units
+from .tape import Position, UnitCounts, Units
 
 COUNTED = re.compile(r"[ \t]*(STEP|BACK|FORWARD)(?:[ \t]+0*([1-7][0-7]{0,6}))?[ \t\r]*", re.I)
 BACK_W = re.compile(r"[ \t]*BACK[ \t]+W[ \t\r]*", re.I)
 TOO_FEW_KEPT, TOO_FEW_AHEAD = "ERR 07 TOO FEW KEPT", "ERR 16 TOO FEW AHEAD"
-MOST_NAME = 60  # letters
-MOST_AT_ONCE = 4096  # turns after which is looked at once
-MOST_LOOKED = 16  # places
-Channels = Tuple[Channel, ...]
-Values = Tuple[Value, ...]
-
-
-class States:
-    """The values of the devices at each position where they changed. Of those that are far back, one in many is kept: the others
-    are worked out anew when they are needed."""
-
-    def __init__(self, values: Values, exact: int, every: int) -> None:
-        """At least so many of the newest values are kept, and one in so many of those before."""
-        self.exact, self.every = exact, every
-        self.at: List[Position] = [Position(0)]
-        self.values: List[Optional[Values]] = [values]
-        self.folded = 0  # so many of the first are not all kept
-
-    def add(self, position: Position, values: Values) -> None:
-        self.at.append(position)
-        self.values.append(values)
-        if len(self.at) - self.folded > 2 * self.exact:
-            end = self.folded + self.exact
-            for number in range(self.folded, end):
-                if number % self.every:
-                    self.values[number] = None
-            self.folded = end
-
-    def entry(self, position: Position) -> int:
-        """Returns the number of the entry for a position."""
-        return bisect.bisect_right(self.at, position) - 1
-
-    def kept_before(self, entry: int) -> int:
-        """Returns the nearest entry up to this one whose values are kept."""
-        return next(number for number in range(entry, -1, -1) if self.values[number] is not None)
-
-    def cut(self, position: Position) -> None:
-        """Forgets what is after a position."""
-        end = self.entry(position) + 1
-        del self.at[end:], self.values[end:]
-        self.folded = min(self.folded, end)
 
 
 def names_of(devices: Sequence[Device]) -> Dict[int, str]:
-    """Returns the names of devices by their channels: those of their classes, as a note of the console may have them."""
-    return {device.channel: type(device).__name__.encode("ascii", "replace").decode()[:MOST_NAME] for device in devices}
+    """Returns the names of devices by their channels."""
+    return {device.channel: name_of(device) for device in devices}
 
 
 class Attached(Session):
     """A simulator with devices. A front end can take it in the place of a Session."""
 
-    exact_states, every_state = 20000, 1000
-    values: Values  # of the devices, and the number of the entry that they are; -1 if they are those of none
-    entry: int
+    exact_values, every_value = 20000, 1000
 
     def __init__(self, words: Sequence[str] = (), devices: Sequence[Device] = ()) -> None:
         """Begins a session with devices, no two of them on one channel."""
@@ -85,20 +41,13 @@ class Attached(Session):
         super().__init__(words)
         try:
             self._check_channels()
-            self._have(tuple(map(value_at_start, self.devices)), 0)
+            self.pasts = [Past(device, self.exact_values, self.every_value) for device in self.devices]
         except Failure:
             self.close()
             raise
-        self.states = States(self.values, self.exact_states, self.every_state)
         self.plain = PlainScript(self.history.room, self.tape)
         self.counts = UnitCounts(self.history, self.plain.history)
-        self.names = names_of(self.devices)
-        self.lines: Dict[Tuple[int, Optional[str], Optional[int]], ReplyLine] = {}  # by the number of the device, the state and the word
-        self.told: Dict[int, Tuple[int, Any]] = {}  # the number of a device and what it was told, by the position after it
-        states = [flat.STATES + device.channel for device in self.devices] or [flat.SLOT]
-        registers = [flat.REGISTERS + device.channel for device in self.devices]
-        self.looked = [*states, *registers] if 2 * len(states) <= MOST_LOOKED else states
-        self.gap, self.quiet = 1, 0  # turns between the last two changes of a channel, and since the last one
+        self.told: Dict[Position, Tuple[int, Any]] = {}  # the number of a device and what it was told, by the position after it
 
     def _check_channels(self) -> None:
         taken = {self.reader_channel: "the card reader", self.printer_channel: "the printer"}
@@ -117,7 +66,7 @@ class Attached(Session):
     def state(self, number: int = 0) -> Any:
         """Returns the present state of a device."""
         self._recall()
-        return self.values[number].state
+        return self.pasts[number].value.state
 
     @property
     def unit(self) -> Units:
@@ -180,60 +129,20 @@ class Attached(Session):
         if not is_value(what):
             raise Failure(f"a device can't be told {what!r:.60}: it can be changed in place")
         self._recall()
-        values, replies = self._told(number, what, self.values)
-        self.cut(self.position)
-        self._perform_new(f"SET Q 0 {self.registers(0)['Q']}")
-        self.told[self.position] = number, what
-        self._note(values, replies)
+        begin, new = self.position, self._new_turns()
+        new.tell(number, what)
+        self._commit(new)
+        self.told[Position(begin + 1)] = number, what
         self.plain.go(self.position)
-
-    def _told(self, number: int, what: Any, values: Values) -> Tuple[Values, List[ReplyLine]]:
-        """Returns the values of the devices after one was told something, and its reply. It does not look at its channel."""
-        device, value = self.devices[number], values[number]
-        new, reply = called(device, value, Event("told", what, self.turn), self._channels()[number])
-        if reply is None:
-            new = new._replace(seen=value.seen)
-        return (*values[:number], new, *values[number + 1:]), [] if reply is None else [self._line_of(number, reply)]
 
     def cut(self, position: Position) -> None:
         if position < self.tape.end:
             self.plain.go(self.position)
             super().cut(position)
-            self.states.cut(position)
-            if self.entry >= len(self.states.at):
-                self.entry = -1
+            for past in self.pasts:
+                past.cut(position)
             self.plain.cut(position)
-            self.told = {at: told for at, told in self.told.items() if at <= position}
-
-    def _perform_new(self, line: str) -> None:
-        """Performs a new action, which is not refused."""
-        if self.engine.answer(f"{line}\n") != ["OK"]:
-            raise Failure(f"the simulator refuses {line}")
-        self.tape.append(line)
-        self.history.performed(1)
-
-    def _line_of(self, number: int, reply: Reply) -> ReplyLine:
-        """Returns the line of a reply of a device."""
-        key = number, reply.state, reply.word
-        line = self.lines.get(key)
-        if line is None:
-            channel, word = self.devices[number].channel, "" if reply.word is None else f" {reply.word:o}"
-            line = self.lines[key] = ReplyLine(f"SET H {channel:02o} {reply.state}{word}", self.names[channel])
-        return line
-
-    def _note(self, values: Values, replies: Sequence[ReplyLine]) -> None:
-        """Notes what the devices are after the present unit, and performs their replies."""
-        if values is not self.values:
-            self.states.add(Position(self.history.position + len(replies)), values)
-            self._have(values, len(self.states.at) - 1)
-        for line in replies:
-            self._perform_new(line)
-
-    def _have(self, values: Values, entry: int) -> None:
-        """Takes the values of an entry as those at hand."""
-        self.values, self.entry = values, entry
-        dues = [value.due for value in values if value.due is not None]
-        self.due = min(dues) if dues else None  # the turn for which the first one is due
+            self.told = {at: what for at, what in self.told.items() if at <= position}
 
     # ---- back and forward
 
@@ -244,26 +153,30 @@ class Attached(Session):
 
     def _recall(self) -> None:
         """Sees that the values at hand are those at the position."""
-        entry, here = self.states.entry(self.position), self.position
-        if entry != self.entry:
-            values = self.states.values[entry]
-            self._have(self._values_anew(entry) if values is None else values, entry)
-            self.goto(here)
+        here = self.position
+        for number, past in enumerate(self.pasts):
+            entry = past.entry_at(here)
+            if entry != past.entry:
+                past.have(past.values[entry] or self._value_anew(number, entry), entry)
+                self.goto(here)
 
-    def _values_anew(self, entry: int) -> Values:
-        """Returns the values of an entry that were not kept: the devices look at their channels again."""
-        begin = self.states.kept_before(entry)
-        values = self.states.values[begin]
-        assert values is not None
-        for number in range(begin + 1, entry + 1):
-            unit = self.tape.units(self.states.at[number])
-            end = Position(self.tape.after_units(Units(unit - 1)) + 1)  # of the unit, without its replies
+    def _value_anew(self, number: int, entry: int) -> Value:
+        """Returns the value of a device that was not kept: it looks at its channel again."""
+        past = self.pasts[number]
+        begin, value = past.kept_before(entry)
+        for at in past.at[begin + 1:entry + 1]:
+            end = Position(self.tape.after_units(Units(self.tape.units(Position(at)) - 1)) + 1)  # of the unit, without its replies
             self.goto(end)
             if end in self.told:
-                values, _ = self._told(*self.told[end], values)
+                value, _ = value_told(past, value, self.told[end][1], self._channel(past.device.channel), self.turn)
             else:
-                values, _ = self._react(values, self._channels(), self.turn)
-        return values
+                value, _ = looked(past.device, value, self._channel(past.device.channel), self.turn)
+        return value
+
+    def _channel(self, number: int) -> Channel:
+        """Returns the state and the register of a channel."""
+        state, register = (self.engine.numbers(first + number, 1)[0] for first in (flat.STATES, flat.REGISTERS))
+        return state, register
 
     def _back(self, count: int) -> List[str]:
         if count > self.unit:
@@ -284,145 +197,32 @@ class Attached(Session):
         units = self.tape.whole_units(self.position)
         return self._arrive("BACK", here - units, self.tape.after_units(units))
 
-    # ---- turns
+    # ---- new actions
 
-    def _step(self, turns: int) -> List[str]:
-        begin, ahead = self.position, Ahead(self)
-        self.cut(self.position)
+    def _step(self, most: int) -> List[str]:
+        """Makes turns. If a device fails, the session is as it was."""
+        begin, turn, new = self.position, self.turn, self._new_turns()
+        watched = [Place.parse(line[2:]) for line in self.demand("DUMP W") if line != "W NONE"]
         try:
-            made, hit = self._turns(turns, [Place.parse(line[2:]) for line in self.demand("DUMP W") if line != "W NONE"])
+            hit = new.make(most, watched)
         except DeviceFailure:
+            self.history.went(new.position, self.engine.counts().kept)
             self.goto(begin)
-            self.cut(self.position)
-            self._recall()
-            ahead.put_back(self)
+            self.history.ahead = 0
             raise
-        return [f"TURNS {made:o} SLOT {self.next_slot:02o}", *([hit] if hit else [])]
+        self._commit(new)
+        return [f"TURNS {new.turn - turn:o} SLOT {self.next_slot:02o}", *([hit] if hit else [])]
 
-    def _turns(self, turns: int, watched: Sequence[Place]) -> Tuple[int, Optional[str]]:
-        """Makes so many turns, or up to a HIT. Returns how many, and the HIT."""
-        made, turn, hit = 0, self.turn, None
-        is_new = self._channels() != self._seen()  # after a SET or a DEADSTART there is something to see after the very next turn
-        while made < turns and hit is None:
-            count, now = self._quiet_turns(1 if is_new else self._expected(turns - made, turn))
-            made, turn = made + count, turn + count
-            hit = self._hit(watched) if watched else None
-            if now is not None or is_new or self.due is not None and self.due <= turn:
-                hit = self._look(watched, hit, now or self._channels(), turn)
-            elif hit:
-                self.plain.stops.append(self.position)
-            is_new = False
-        return made, hit
+    def _new_turns(self) -> NewTurns:
+        return NewTurns(self.engine, self.pasts, self.history.room, self.tape, self.position)
 
-    def _expected(self, most: int, turn: int) -> int:
-        """Returns after how many turns a channel may change, if it goes on as before, or a device is due; at most so many."""
-        expected = self.gap - self.quiet
-        if expected <= 0:
-            expected = min(self.quiet + 1, self.history.room, MOST_AT_ONCE)
-        if self.due is not None and self.due - turn < expected:
-            expected = max(self.due - turn, 1)
-        return expected if expected < most else most
-
-    def _quiet_turns(self, most: int) -> Tuple[int, Optional[Channels]]:
-        """Makes turns up to the first after which a channel of a device has another state, or a HIT, at most so many. An instruction that
-        changes a channel changes its state. Returns how many, and the channels if a state is another one."""
-        numbers, made = self.engine.looks(self.looked, most)
-        width, first = len(self.looked), made
-        for at, value in enumerate(self.values):
-            first = first_other(numbers[at::width], value.seen[0], first)
-        count = first + 1 if first < made else made
-        self.history.taken_back(made, made - count)
-        if count < made:
-            self.engine.back(made - count)
-        self.tape.append(STEP, count)
-        self.quiet += count
-        if first == made:
-            return count, None
-        self.gap, self.quiet = min(self.quiet, self.history.room), 0
-        return count, self._channels_in(numbers[(count - 1) * width:count * width])
-
-    def _look(self, watched: Sequence[Place], hit: Optional[str], now: Channels, turn: int) -> Optional[str]:
-        """Lets the devices look after a turn. Returns its HIT."""
-        values, replies = self._react(self.values, now, turn)
-        if hit:
-            self.plain.stops.append(self.position)
-        self._note(values, replies)
-        return hit_with_replies(watched, hit, self._named(now), self._named(self._seen())) if watched else None
-
-    def _hit(self, watched: Sequence[Place]) -> Optional[str]:
-        """Returns the HIT of the latest turn, or None."""
-        now = list(map(self.number_at, watched))
-        self.engine.back(1)
-        was = list(map(self.number_at, watched))
-        self.engine.forward(1)
-        return next((f"HIT {place.text} {old} {new}" for place, old, new in zip(watched, was, now) if old != new), None)
-
-    def _react(self, values: Values, now: Channels, turn: int) -> Tuple[Values, List[ReplyLine]]:
-        """Returns the values after each device has looked at its channel, and the replies."""
-        replies = []
-        for number, device in enumerate(self.devices):
-            new, reply = looked(device, values[number], now[number], turn)
-            if new is not values[number]:
-                values = (*values[:number], new, *values[number + 1:])
-            if reply is not None:
-                replies.append(self._line_of(number, reply))
-        return values, replies
-
-    def _channels_in(self, row: Sequence[int]) -> Channels:
-        """Returns the devices' channels of a look at them."""
-        count = len(self.devices)
-        return tuple(zip(row[:count], row[count:])) if len(row) > count else self._channels()
-
-    def _channels(self) -> Channels:
-        """Returns the devices' channels."""
-        numbers = self.engine.numbers(flat.STATES, 2 * CHANNELS)
-        return tuple((numbers[device.channel], numbers[CHANNELS + device.channel]) for device in self.devices)
-
-    def _seen(self) -> Channels:
-        """Returns the devices' channels as they left them."""
-        return tuple(value.seen for value in self.values)
-
-    def _named(self, channels: Channels) -> Dict[str, str]:
-        """Returns the digits of the registers of the devices' channels, by their places."""
-        return {f"H {device.channel:02o}": f"{register:04o}" for device, (_, register) in zip(self.devices, channels)}
-
-
-def first_other(states: Sequence[int], state: int, most: int) -> int:
-    """Returns the index of the first of some states that is another one; `most` if there is none before that."""
-    same = states.count(state)
-    if same == len(states):
-        return most
-    if same == len(states) - 1 and states[same] != state:
-        return same if same < most else most
-    return min(most, next(at for at, one in enumerate(states) if one != state))
-
-
-def hit_with_replies(watched: Sequence[Place], hit: Optional[str], seen: Dict[str, str], after: Dict[str, str]) -> Optional[str]:
-    """Returns the HIT of a turn with its replies: that of the first watched place that one of them changed, with the numbers before and
-    after the last one that did."""
-    hits = {" ".join(hit.split()[1:-2]): hit} if hit else {}
-    hits.update((place, f"HIT {place} {seen[place]} {number}") for place, number in after.items() if number != seen[place])
-    return next((hits[place.text] for place in watched if place.text in hits), None)
-
-
-class Ahead:
-    """What is ahead in a session. If a device fails in a new action, it is put back."""
-
-    def __init__(self, session: Attached) -> None:
-        position, tape, states, plain = session.position, session.tape, session.states, session.plain
-        first = states.entry(position) + 1
-        self.actions = list(tape.actions(position, tape.end))
-        self.at, self.values = states.at[first:], states.values[first:]
-        self.stops = plain.stops[bisect.bisect_right(plain.stops, position):]
-        self.told = {at: told for at, told in session.told.items() if at > position} if self.actions else {}
-        self.kept = plain.history.ahead
-
-    def put_back(self, session: Attached) -> None:
-        """Puts it back where it was. The session is at the position where it was then."""
-        for line, times in self.actions:
-            session.tape.append(line, times)
-        session.states.at += self.at
-        session.states.values += self.values
-        session.plain.stops += self.stops
-        session.plain.history.ahead = self.kept
-        session.told.update(self.told)
+    def _commit(self, new: NewTurns) -> None:
+        """Takes what was made into the tape, in place of what is ahead."""
+        new.flush()
+        self.cut(self.position)
+        self.tape.go_on(new.tape)
+        self.history.went(new.position, self.engine.counts().kept)
+        self.plain.stops += new.stops
+        for past, (at, values) in zip(self.pasts, new.new):
+            if values:
+                past.add(at, values)

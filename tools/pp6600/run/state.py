@@ -6,7 +6,7 @@ milliseconds although it has 41,000 cells."""
 from __future__ import annotations
 
 from itertools import zip_longest
-from typing import Dict, Iterable, Iterator, List, Mapping, NamedTuple, Optional, Sequence, Tuple, Union
+from typing import Iterable, Iterator, List, Mapping, NamedTuple, Optional, Sequence, Tuple, Union
 
 from ..engine import interface as flat
 from .console import Console
@@ -77,16 +77,16 @@ class Memory:
         return next((at % CELLS for at in range(first % CELLS, first % CELLS + CELLS) if cells[at:at + len(wanted)] == wanted), None)
 
 
-def state_of(console: Console, central: Optional[Tuple[int, int]] = None) -> State:
-    """Returns the present state, with the central words from a first to a last address."""
-    return State(console, central)
+def state_of(console: Console, with_central: bool = False) -> State:
+    """Returns the present state, with all central words or without them."""
+    return State(console, with_central)
 
 
 class State:
     """All numbers of the machine: `slot`, `processors`, `memories`, `channels` (the clock is the last), `watched` (places),
-    `printer`, `reader`, and `central`: the central words that were asked for, by their addresses."""
+    `printer`, `reader`, and `central`: the central words, if they were asked for."""
 
-    def __init__(self, console: Console, central: Optional[Tuple[int, int]] = None) -> None:
+    def __init__(self, console: Console, with_central: bool = False) -> None:
         self.numbers = numbers = console.engine.numbers(0, flat.PAPER)
         self.slot = console.slot()
         self.memories = [Memory(numbers[CELLS * number:CELLS * (number + 1)]) for number in range(PROCESSORS)]
@@ -95,35 +95,24 @@ class State:
         self.channels = [Channel(f"{number:02o}", state, register) for number, (state, register) in enumerate(zip(self.states(), registers))]
         self.watched = [Place.parse(line[2:]) for line in console.demand("DUMP W") if line != "W NONE"]
         printer, *paper = console.printer()
-        channel, symbols, column, mode = fields("LP", printer).values()
+        channel, symbols, column, mode = fields(printer).values()
         self.printer = Printer(channel, symbols, column, mode, paper)
-        self.reader = Reader(*fields("CR", console.reader()).values())
-        self.central: Dict[int, str] = {}
-        if central:
-            self.add_central(console.central(*central))
+        self.reader = Reader(*fields(console.reader()).values())
+        self.central = central_of(console) if with_central else ()
 
     def _processor(self, number: int) -> Processor:
         registers = {kind: named(Place(kind, (number,)).number, self.numbers)[1] for kind in OF_PROCESSOR[:-1]}
         memory, address = self.memories[number], int(registers["P"], 8)
         return Processor(registers, [memory.word(address), memory.word(address + 1)])
 
-    def add_central(self, lines: Iterable[str]) -> None:
-        """Adds central words by the lines of their dump."""
-        for line in lines:
-            word = fields("C", line)
-            self.central[int(word["address"], 8)] = word["word"]
-
-    def missing_central(self) -> List[int]:
-        """Returns the addresses of watched central words that were not asked for."""
-        return [place.numbers[0] for place in self.watched if place.kind == "C" and place.numbers[0] not in self.central]
-
     def watched_cells(self, processor: int) -> List[int]:
         """Returns the addresses of the watched cells of a processor."""
         return [place.numbers[1] for place in self.watched if place.kind == "M" and place.numbers[0] == processor]
 
-    def number_at(self, place: Place) -> Optional[str]:
-        """Returns the digits of the number at a place; None if it is a central word that was not asked for."""
-        return self.central.get(place.numbers[0]) if place.kind == "C" else f"{self.numbers[place.number]:0{place.digits}o}"
+    def number_at(self, place: Place) -> str:
+        """Returns the digits of the number at a place."""
+        number = self.central[place.numbers[0]] if place.kind == "C" else self.numbers[place.number]
+        return f"{number:0{place.digits}o}"
 
     @property
     def clock(self) -> str:

@@ -12,6 +12,7 @@ and forward without a limit."""
 from __future__ import annotations
 
 import bisect
+import functools
 import re
 from typing import Container, Dict, Iterable, Iterator, List, NamedTuple, NewType, Optional, Sequence, Tuple
 
@@ -116,6 +117,9 @@ class Action(NamedTuple):
         return self.word in WATCH_WORDS
 
 
+turns_of = functools.lru_cache(maxsize=4096)(functools.partial(Action, STEP))
+
+
 class Tape:
     """The actions of a run. A unit is an action as a user counts them: with the replies of devices after it."""
 
@@ -128,25 +132,53 @@ class Tape:
         for line, times in actions:
             self.append(line, times)
 
+    @classmethod
+    def after(cls, tape: Tape, position: Position) -> Tape:
+        """Returns an empty tape that goes on from a position of another one."""
+        new = cls()
+        new.starts, new.turns_before, new.units_before = [position], [tape.turn(position)], [tape.units(position)]
+        return new
+
     def append(self, line: str, times: int = 1) -> None:
         """Adds an action at the end, so many times."""
         if not times:
             return
-        is_turn = line == STEP
+        is_turn, is_reply = line == STEP, type(line) is ReplyLine
         if is_turn and self.runs and self.runs[-1].line == STEP:
-            times += self.runs.pop().times
-            self._pop_sums()
-        self.runs.append(Action(line, times))
-        self.starts.append(Position(self.starts[-1] + times))
-        self.turns_before.append(self.turns_before[-1] + times * is_turn)
-        self.units_before.append(self.units_before[-1] + times * (type(line) is not ReplyLine))
-        if not is_turn and type(line) is not ReplyLine:
+            times += self._pop().times
+        self._add(Action(line, times), times * is_turn, times * (not is_reply))
+        if not is_turn and not is_reply:
             self._note_kind(self.runs[-1].word)
 
-    def _pop_sums(self) -> None:
-        self.starts.pop()
-        self.turns_before.pop()
-        self.units_before.pop()
+    def append_replies(self, turns: int, replies: Sequence[Action]) -> None:
+        """Adds turns after which there are replies, or none, and the replies."""
+        if turns:
+            self._add(turns_of(turns), turns, turns)
+        self.runs += replies
+        for _ in replies:
+            self.starts.append(Position(self.starts[-1] + 1))
+            self.turns_before.append(self.turns_before[-1])
+            self.units_before.append(self.units_before[-1])
+
+    def _add(self, run: Action, turns: int, units: int) -> None:
+        self.runs.append(run)
+        self.starts.append(self.starts[-1] + run[1])  # type: ignore[arg-type]
+        self.turns_before.append(self.turns_before[-1] + turns)
+        self.units_before.append(self.units_before[-1] + units)
+
+    def go_on(self, new: Tape) -> None:
+        """Adds the actions of a tape that goes on from the end of this one."""
+        if new.runs and self.runs and new.runs[0].line == self.runs[-1].line == STEP:
+            new.runs[0] = Action(STEP, self._pop().times + new.runs[0].times)
+        self.runs += new.runs
+        self.starts += new.starts[1:]
+        self.turns_before += new.turns_before[1:]
+        self.units_before += new.units_before[1:]
+
+    def _pop(self) -> Action:
+        """Removes the last run, and returns it."""
+        del self.starts[-1], self.turns_before[-1], self.units_before[-1]
+        return self.runs.pop()
 
     def _note_kind(self, word: str) -> None:
         if word in WATCH_WORDS:
@@ -157,8 +189,7 @@ class Tape:
     def cut(self, position: Position) -> None:
         """Removes what is after a position."""
         while self.starts[-1] > position:
-            self._pop_sums()
-            action = self.runs.pop()
+            action = self._pop()
             self.watches -= action.is_watch
             self.append(action.line, max(position - self.end, 0))
         while self.dead_starts and self.dead_starts[-1] > position:
@@ -322,11 +353,10 @@ class History:
         self.kept = min(self.kept + count, self.room)
         self.ahead = 0
 
-    def taken_back(self, made: int, count: int) -> None:
-        """Notes that the simulator has performed so many new actions, and taken back so many of them."""
-        self.position = Position(self.position + made - count)
-        self.kept = min(self.kept + made, self.room) - count
-        self.ahead = 0
+    def went(self, position: Position, kept: int) -> None:
+        """Notes that the simulator has performed new actions up to a position, and keeps so many at most."""
+        self.kept = min(self.kept + position - self.position, kept)
+        self.position, self.ahead = position, 0
 
     def moved(self, count: int) -> None:
         """Notes that the simulator has gone forward by so many actions, or back if it is negative."""

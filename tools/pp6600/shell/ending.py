@@ -1,9 +1,10 @@
 """How a tool ends: whatever goes wrong is one line on standard error and status 2, never a traceback."""
 
+import codecs
 import os
 import signal
 import sys
-from typing import Any, Callable, Iterable, NoReturn, Optional
+from typing import Any, Callable, Iterable, NoReturn, Optional, Tuple
 
 from ..failure import Failure, Faults
 
@@ -22,8 +23,22 @@ def complain(message: object) -> None:
 
 def shown_text(text: str) -> str:
     """Returns a text without bytes that a terminal would obey, but for tabs and line ends."""
-    return "".join(letter if letter.isprintable() or letter in "\t\n" else letter.encode("unicode_escape", "surrogatepass").decode()
-                   for letter in text)
+    return "".join(letter if letter.isprintable() or letter in "\t\n" else escaped(letter) for letter in text)
+
+
+def escaped(letter: str) -> str:
+    """Returns how a letter is shown that can't be written; a byte of a file's name that is not UTF-8 as that byte."""
+    byte = letter.encode("utf-8", "surrogateescape") if "\udc80" <= letter <= "\udcff" else b""
+    return f"\\x{byte.hex()}" if byte else letter.encode("unicode_escape", "surrogatepass").decode()
+
+
+def escape(error: UnicodeError) -> Tuple[str, int]:
+    """Returns what is written in the place of letters that standard output can't have."""
+    assert isinstance(error, UnicodeEncodeError)
+    return "".join(map(escaped, error.object[error.start:error.end])), error.end
+
+
+codecs.register_error(escape.__name__, escape)
 
 
 def discard(stream: Any) -> None:
@@ -86,7 +101,7 @@ def open_streams() -> None:
     if sys.stdout is None:
         raise Failure("standard output is closed, so there is nowhere to write to")
     stdout: Any = sys.stdout
-    stdout.reconfigure(errors="backslashreplace")
+    stdout.reconfigure(errors=escape.__name__)
 
 
 def status_of(main: Callable[[], Any]) -> Any:

@@ -18,6 +18,7 @@ from ..engine.choice import HOME, LIBRARIES, NAMES, first_that_starts, handed_ou
 from ..failure import Failure
 from .completions import filled
 from .files import checked_program
+from .text_files import bytes_of
 
 TOP = os.path.dirname(os.path.dirname(os.path.dirname(os.path.dirname(os.path.realpath(__file__)))))  # the checkout, or OWN below a prefix
 IS_CHECKOUT = os.path.exists(os.path.join(TOP, "share", "which-build"))
@@ -40,6 +41,14 @@ LINKS = {".md": re.compile(r"!?\[(?P<text>[^\[\]]*)\]\((?P<file>[^)#:\s]+)[^)]*\
          ".html": re.compile(r"""<a\b[^>]*? href="(?P<file>[^"#:]+)[^>]*>(?P<text>.*?)</a>""", re.S)}
 
 
+def page_module() -> bytes:
+    """Returns the simulator with which a page runs: that of a checkout or of a class, whose folder has it in dist, or of an installation."""
+    for path in (os.path.join(HOME, "dist", PAGE_MODULE), os.path.join(HOME, PAGE_MODULE)):
+        if os.path.exists(path):
+            return bytes_of(path)
+    raise Failure(f"there is no {PAGE_MODULE} here, with which a page runs")
+
+
 class File(NamedTuple):
     """The bytes of a file, and whether it is a program."""
 
@@ -47,13 +56,13 @@ class File(NamedTuple):
     runs: bool = False
 
 
-class Link(NamedTuple):
+class SymbolicLink(NamedTuple):
     """A link, to a path from where it is."""
 
     target: str
 
 
-Entry = Union[File, Link]
+Entry = Union[File, SymbolicLink]
 Manifest = Dict[str, Entry]
 
 
@@ -65,7 +74,7 @@ def read(path: str) -> File:
 
 def entry_at(path: str) -> Entry:
     """Returns a file or a link of the system."""
-    return Link(os.readlink(path)) if os.path.islink(path) else read(path)
+    return SymbolicLink(os.readlink(path)) if os.path.islink(path) else read(path)
 
 
 def files_below(folder: str) -> Manifest:
@@ -110,8 +119,8 @@ def completions(tools: Iterable[str]) -> Manifest:
     paths = {"bash": f"{bash}/pp6600", "fish": f"{fish}/pp6600.fish", "zsh": "share/zsh/site-functions/_pp6600"}
     texts = {shell: read(os.path.join(TOP, "share", f"completion.{shell}")).data.decode() for shell in paths}
     return {**{path: File(filled(shell, texts[shell]).encode()) for shell, path in paths.items()},
-            **{f"{bash}/pp6600-{name}": Link("pp6600") for name in tools},
-            **{f"{fish}/pp6600-{name}.fish": Link("pp6600.fish") for name in tools}}
+            **{f"{bash}/pp6600-{name}": SymbolicLink("pp6600") for name in tools},
+            **{f"{fish}/pp6600-{name}.fish": SymbolicLink("pp6600.fish") for name in tools}}
 
 
 def programs_for(machine: str, *options: str) -> Dict[str, str]:
@@ -130,12 +139,12 @@ def of_this_checkout(programs: Dict[str, str]) -> Manifest:
     found: Manifest = {f"{OWN}/{name}": read(path)._replace(runs=not name.endswith(LOADED)) for name, path in programs.items()}
     found.update({f"{OWN}/{name}": read(os.path.join(TOP, path)) for name, path in IN_OWN.items()})
     found["bin/pp6600"] = read(os.path.join(TOP, "pp6600"))
-    found["bin/pp6600-python"] = Link(f"../{OWN}/pp6600-python")
-    found.update({f"bin/pp6600-{name}": Link(f"../{OWN}/tools/{name}") for name in tools})
+    found["bin/pp6600-python"] = SymbolicLink(f"../{OWN}/pp6600-python")
+    found.update({f"bin/pp6600-{name}": SymbolicLink(f"../{OWN}/tools/{name}") for name in tools})
     found.update({f"{OWN}/{path}": entry for path, entry in part("tools").items()})
     found.update({f"{PAGES}/{path}": entry for name in IN_PAGES for path, entry in part(name).items() if not OF_CHECKOUT.match(path)})
-    found[f"{PAGES}/tools"] = Link(f"../../{OWN}/tools")
-    found.update({f"share/doc/pp6600/{name}": Link(f"../../pp6600/{name}") for name in ("tools", *(path.split("/")[0] for path in IN_PAGES))})
+    found[f"{PAGES}/tools"] = SymbolicLink(f"../../{OWN}/tools")
+    found.update({f"share/doc/pp6600/{name}": SymbolicLink(f"../../pp6600/{name}") for name in ("tools", *(path.split("/")[0] for path in IN_PAGES))})
     found["share/doc/pp6600/changelog.gz"] = packed(os.path.join(TOP, "CHANGELOG.md"))
     return without_lost_links({**found, **completions(tools), **manual_pages()})
 
@@ -173,7 +182,7 @@ def without_lost_links(manifest: Manifest) -> Manifest:
     """Returns a manifest in whose pages each link that leads to none of its files is replaced by its text."""
     paths = {above for path in manifest for above in with_folders(path)}
     folders = [(path, os.path.normpath(os.path.join(os.path.dirname(path), entry.target)))
-               for path, entry in manifest.items() if isinstance(entry, Link)]
+               for path, entry in manifest.items() if isinstance(entry, SymbolicLink)]
 
     def is_there(path: str) -> bool:
         if path.split("/")[0] == "..":
@@ -205,7 +214,7 @@ def put(manifest: Manifest, folder: str) -> None:
         os.makedirs(os.path.dirname(whole), exist_ok=True)
         if os.path.lexists(whole):
             os.remove(whole)
-        if isinstance(entry, Link):
+        if isinstance(entry, SymbolicLink):
             os.symlink(entry.target, whole)
             continue
         with open(whole, "wb") as file:

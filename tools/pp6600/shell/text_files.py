@@ -1,5 +1,6 @@
-"""The files that a tool reads."""
+"""The files that a tool reads, and that it writes."""
 
+import os
 import sys
 from typing import Iterator, List, Optional
 
@@ -60,3 +61,19 @@ def lines_in(data: bytes, path: Optional[str]) -> List[str]:
     except UnicodeDecodeError as error:
         raise Failure(f"{named(path)} is not text in UTF-8") from error
     return [line.rstrip("\r") for line in lines_of(text)]
+
+
+def write_whole(path: str, data: bytes) -> None:
+    """Writes a file whole, or leaves it as it was. What is no plain file, as a pipe, is written to as it is."""
+    is_plain, target = not os.path.exists(path) or os.path.isfile(path), os.path.realpath(path)
+    fresh = f"{target}.{os.urandom(4).hex()}.part" if is_plain else path
+    try:
+        with open(fresh, "xb" if is_plain else "wb") as file:
+            file.write(data)
+        if is_plain:
+            os.replace(fresh, target)
+    except OSError as error:
+        raise Failure(f"can't write {path}: {error.strerror}") from error
+    finally:
+        if is_plain and os.path.exists(fresh):
+            os.remove(fresh)

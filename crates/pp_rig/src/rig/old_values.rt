@@ -1,130 +1,161 @@
-//! Undo records as lists of places with their old numbers.
+//! Undo records as places by their numbers, each with its old number, in a slice.
 #![tactic(auto, using(crate::proofs::OldValues::old_value_lists))]
 
-ghost use Rattle.std.specs.Prelude.{◌≡◌, ◌==◌, ◌+◌, ◌≤◌, ◌++◌, [], IsTrue, false, length, map, not};
-ghost use Rattle.arrayvec.specs.ArrayVec.{array_vec_len};
+ghost use Rattle.std.specs.Prelude.{◌≡◌, ◌+◌, ◌≤◌, ◌++◌, ◌↔◌, IfSome, IsNone, None, length, map, take};
 ghost use Rattle.pp_history.specs.SessionValue.{AreNewest, AtEach};
 ghost use Rattle.pp_machine.specs.Machine.{Machine};
-ghost use Rattle.pp_machine.specs.Prelude.{list_room, write_list};
+ghost use Rattle.pp_machine.specs.Olds.{numbered};
+ghost use Rattle.pp_machine.specs.Prelude.{Writes, list_room};
 ghost use Rattle.pp_machine.specs.Ranges.{watch_count};
 ghost use Rattle.pp_machine.specs.declared.place.Place.TheVariants.{WatchEntry};
-ghost use Rattle.pp_actions.specs.{WatchCodes.watch_code, WriteLists.writes_from};
+ghost use Rattle.pp_actions.specs.{Deadstart.deadstart_places, RecordLists.with_new_numbers, WatchCodes.watch_code, WriteLists.writes_from};
 ghost use Rattle.pp_rig.specs.Inner.ActionRecords.{FitsRecord, record_pairs};
 ghost use Rattle.pp_rig.specs.Inner.Short.{whole};
-ghost use Rattle.pp_rig.specs.Inner.TurnRecords.{FitsTurn, most_rest_places, most_turn_places, rest_pairs, turn_pairs};
+ghost use Rattle.pp_rig.specs.Inner.TurnRecords.{FitsTurn, devices_old_values, most_rest_places, most_turn_places, rest_pairs, turn_pairs};
 ghost use Rattle.pp_rig.specs.Rules.{rules};
 ghost use Rattle.pp_machine.specs.Inner.AllDevices.{all_model};
 
 use super::{Rig, RigRecord, ShortTurn, TurnRecord, TurnRest};
 use pp_actions::{Watched, renumbered};
 use pp_history::{Session, UndoRecord};
-use pp_machine::{AllDevices, AllRecords, Devices, Place, Write, WriteList, append, push_if};
+use pp_machine::{AllDevices, AllRecords, Devices, Old, Place, put_old, put_old_if, put_olds};
 
 impl RigRecord {
-    /// Writes the old values of the record over `list`: each place that it has, with its old number, in its order. The
-    /// record must fit a machine, as it does right after its action. A turn has at most 44 (decimal) places.
+    /// Writes each place that the record has, with its old number, into a slice, in the order of the record, behind the first
+    /// `used` that are there. Returns how many are there then. The record must fit a machine, as it does right after its
+    /// action. A turn has at most 44 (decimal) places.
+    #[inline(always)]
     #[tactic(auto, using(crate::proofs::OldValues::old_value_lists), unfolding(crate::specs::Inner::TurnRecords::turn_pairs))]
-    pub fn old_values_into(&self, list: &mut WriteList)
+    pub fn put_old_values(&self, olds: &mut [Old], used: usize) -> usize
         requires fits { (s : Machine) × FitsRecord self.now s }
-        ensures items { write_list list.new.items ≡ record_pairs self.now }
-        ensures at_most { (turn : TurnRecord) → self.now ≡ RigRecord.Turn turn → length list.new.items ≤ most_turn_places }
+        requires room { used + list_room ≤ length olds.old }
+        ensures items { take result olds.new ≡ take used olds.old ++ numbered (record_pairs self.now) }
+        ensures at_most { result ≤ used + list_room }
+        ensures at_most_of_turn { (turn : TurnRecord) → self.now ≡ RigRecord.Turn turn → result ≤ used + most_turn_places }
     {
-        list.clear();
         match self {
-            RigRecord::Turn(turn) => turn.push_old_values(list),
-            RigRecord::Settings(old) => append(list, old.as_slice()),
-            RigRecord::Watched(i) => list.push(Write::new(Place::WatchEntry { i: *i }, 0)),
-            RigRecord::Unwatched { i, places } => push_entries(*i, places.as_slice(), list),
-            RigRecord::Restarted { numbers } => {
-                append(list, renumbered(numbers.as_slice()).as_slice());
-            }
+            RigRecord::Turn(turn) => turn.put_old_values(olds, used),
+            RigRecord::Settings(old) => put_olds(olds, used, old.as_slice()),
+            RigRecord::Watched(i) => put_old(olds, used, Place::WatchEntry { i: *i }, 0),
+            RigRecord::Unwatched { i, places } => put_entries(*i, places.as_slice(), olds, used),
+            RigRecord::Restarted { numbers } => put_restarted(numbers.as_slice(), olds, used),
         }
     }
 }
 
 impl ShortTurn {
-    /// Writes the old values of the record over `list`, as `RigRecord::old_values_into` does.
+    /// Does what `RigRecord::put_old_values` does.
     #[inline(always)]
     #[tactic(auto, using(crate::proofs::OldValues::old_value_lists), unfolding(crate::specs::Inner::TurnRecords::turn_pairs))]
-    pub fn old_values_into(&self, list: &mut WriteList)
+    pub fn put_old_values(&self, olds: &mut [Old], used: usize) -> usize
         requires fits { (s : Machine) × FitsRecord (whole self.now) s }
-        ensures items { write_list list.new.items ≡ record_pairs (whole self.now) }
-        ensures at_most { length list.new.items ≤ most_turn_places }
+        requires room { used + list_room ≤ length olds.old }
+        ensures items { take result olds.new ≡ take used olds.old ++ numbered (record_pairs (whole self.now)) }
+        ensures at_most { result ≤ used + most_turn_places }
     {
-        list.clear();
-        self.pp.push_old_values(self.rest.slot, list);
-        self.rest.push_old_values(list);
+        let used = self.pp.put_old_values(self.rest.slot, olds, used);
+        self.rest.put_old_values(olds, used)
     }
 }
 
 impl TurnRecord {
-    /// Appends each place that the record has, with its old number.
+    /// Writes each place that the record has, with its old number.
+    #[inline(always)]
     #[tactic(auto, using(crate::proofs::OldValues::old_value_lists), unfolding(crate::specs::Inner::TurnRecords::turn_pairs))]
-    fn push_old_values(&self, list: &mut WriteList)
+    fn put_old_values(&self, olds: &mut [Old], used: usize) -> usize
         requires fits { (s : Machine) × FitsTurn self.now s }
-        requires room { array_vec_len list.old + most_turn_places ≤ list_room }
-        ensures items { write_list list.new.items ≡ write_list list.old.items ++ turn_pairs self.now }
-        ensures at_most { array_vec_len list.new ≤ array_vec_len list.old + most_turn_places }
+        requires room { used + most_turn_places ≤ length olds.old }
+        ensures items { take result olds.new ≡ take used olds.old ++ numbered (turn_pairs self.now) }
+        ensures at_most { result ≤ used + most_turn_places }
     {
-        self.pp.push_old_values(self.rest.slot, list);
-        self.rest.push_old_values(list);
+        let used = self.pp.put_old_values(self.rest.slot, olds, used);
+        self.rest.put_old_values(olds, used)
     }
 }
 
 impl TurnRest {
-    /// Appends each place that the devices, the clock and the slot overwrote, with its old number.
+    /// Writes each place that the devices, the clock and the slot overwrote, with its old number.
     #[inline(always)]
     #[tactic(auto, using(crate::proofs::OldValues::old_value_lists), unfolding(crate::specs::Inner::TurnRecords::rest_pairs))]
-    fn push_old_values(&self, list: &mut WriteList)
-        requires { array_vec_len list.old + most_rest_places ≤ list_room }
-        ensures items { write_list list.new.items ≡ write_list list.old.items ++ rest_pairs self.now }
-        ensures at_most { array_vec_len list.new ≤ array_vec_len list.old + most_rest_places }
+    fn put_old_values(&self, olds: &mut [Old], used: usize) -> usize
+        requires { used + most_rest_places ≤ length olds.old }
+        ensures items { take result olds.new ≡ take used olds.old ++ numbered (rest_pairs self.now) }
+        ensures at_most { result ≤ used + most_rest_places }
+    {
+        let used = self.put_devices(olds, used);
+        let clock = u64::from(self.clock);
+        let used = put_old_if(olds, used, self.slot == 9, Place::Clock, clock);
+        put_old(olds, used, Place::Slot, u64::from(self.slot))
+    }
+
+    /// Writes each place that the devices overwrote, with its old number.
+    #[inline(always)]
+    fn put_devices(&self, olds: &mut [Old], used: usize) -> usize
+        requires { used + all_model.most ≤ length olds.old }
+        ensures items { take result olds.new ≡ take used olds.old ++ numbered (devices_old_values self.now) }
+        ensures at_most { result ≤ used + all_model.most }
     {
         if self.are_devices_called {
-            push_devices(&self.devices, list);
+            put_called_devices(&self.devices, olds, used)
+        } else {
+            used
         }
-        push_if(list, self.slot == 9, Place::Clock, u64::from(self.clock));
-        list.push(Write::new(Place::Slot, u64::from(self.slot)));
     }
 }
 
-/// Appends each place that a device overwrote, with its old number. This is a separate function, so other turns need not
+/// Writes each place that a device overwrote, with its old number. This is a separate function, so other turns need not
 /// save the registers that it needs.
 #[inline(never)]
-fn push_devices(back: &AllRecords, list: &mut WriteList)
-    requires { array_vec_len list.old + all_model.most ≤ list_room }
-    ensures items { write_list list.new.items ≡ write_list list.old.items ++ all_model.pairs back.now }
-    ensures at_most { array_vec_len list.new ≤ array_vec_len list.old + all_model.most }
+fn put_called_devices(back: &AllRecords, olds: &mut [Old], used: usize) -> usize
+    requires { used + all_model.most ≤ length olds.old }
+    ensures items { take result olds.new ≡ take used olds.old ++ numbered (all_model.pairs back.now) }
+    ensures at_most { result ≤ used + all_model.most }
 {
-    AllDevices::push_old_values(back, list);
+    AllDevices::put_old_values(back, olds, used)
 }
 
-/// Appends the codes of watched places, at the watch entries from i on.
-fn push_entries(i: u8, watches: &[Watched], list: &mut WriteList)
+/// Writes the codes of watched places, at the watch entries from i on.
+fn put_entries(i: u8, watches: &[Watched], olds: &mut [Old], used: usize) -> usize
     requires within { i + length watches.now ≤ watch_count }
-    requires room { array_vec_len list.old + length watches.now ≤ list_room }
-    ensures { write_list list.new.items
-        ≡ write_list list.old.items ++ writes_from WatchEntry i (map watch_code watches.now) }
+    requires room { used + length watches.now ≤ length olds.old }
+    ensures items { take result olds.new
+        ≡ take used olds.old ++ numbered (writes_from WatchEntry i (map watch_code watches.now)) }
+    ensures at_most { result ≤ used + length watches.now }
 {
+    let mut end = used;
     for (k, watched) in watches.iter().enumerate() {
         let entry = Place::WatchEntry { i: i + k as u8 };
-        list.push(Write::new(entry, watched.code()));
+        end = put_old(olds, end, entry, watched.code());
     }
+    end
 }
 
-/// Writes the old values of the newest action over `list`: each place that it wrote, with its number before, in the order
-/// of its undo record. Returns whether an action can be undone; if none can, the list is empty.
-pub fn newest_old_values_into(session: &Session<Rig>, list: &mut WriteList) -> bool
-    ensures some { result ≡ not (length session.now.records == 0) }
-    ensures old_values { IsTrue result → AtEach rules session.now (λ v.
-        AreNewest rules v.start v.standing (write_list list.new.items)) }
-    ensures empty { result ≡ false → list.new.items ≡ [] }
+/// Writes the places of a dead start with these numbers. This is a separate function, so other actions need not clear the
+/// memory of its lists.
+#[inline(never)]
+fn put_restarted(numbers: &[u32], olds: &mut [Old], used: usize) -> usize
+    requires { used + list_room ≤ length olds.old }
+    ensures items { take result olds.new
+        ≡ take used olds.old ++ numbered (with_new_numbers deadstart_places numbers.now) }
+    ensures at_most { result ≤ used + list_room }
 {
-    list.clear();
-    match session.newest() {
-        None => return false,
-        Some(UndoRecord::Head(turn)) => turn.old_values_into(list),
-        Some(UndoRecord::Tail(back)) => back.old_values_into(list),
+    put_olds(olds, used, renumbered(numbers).as_slice())
+}
+
+/// Writes the old values of the newest action into a slice: each place that it wrote, by its number, with its number before,
+/// in the order of its undo record, behind the first `used` that are there. Returns how many are there then, or `None` if no
+/// action can be undone.
+#[inline(always)]
+pub fn put_newest_old_values(session: &Session<Rig>, olds: &mut [Old], used: usize) -> Option<usize>
+    requires { used + list_room ≤ length olds.old }
+    ensures none { IsNone result ↔ (length session.now.records ≡ 0) }
+    ensures at_most { IfSome result (λ end. end ≤ used + list_room) }
+    ensures old_values { IfSome result (λ end. AtEach rules session.now (λ v. (pairs : Writes Place)
+        × AreNewest rules v.start v.standing pairs × (take end olds.new ≡ take used olds.old ++ numbered pairs))) }
+    ensures unchanged { result ≡ None → olds.new ≡ olds.old }
+{
+    match session.newest()? {
+        UndoRecord::Head(turn) => Some(turn.put_old_values(olds, used)),
+        UndoRecord::Tail(back) => Some(back.put_old_values(olds, used)),
     }
-    true
 }

@@ -8,7 +8,7 @@ from ...language.symbol_options import add_symbols, symbols_of
 from ...run.forms import CELLS, CLOCK, PROCESSORS
 from ...run.search import Condition, Search, Test, around, spans
 from ...run.tape import STEP
-from ...run.turn import CHANNEL_CODES, TWO_WORDS, TurnKind, cells_written, kind_of_turn
+from ...run.turn import CHANNEL_CODES, TWO_WORDS, TurnKind, kind_of_turn
 from ...shell.command_line import add_script, arguments, channel, count, processor, write_lines
 from ...shell.script import replayed
 
@@ -75,26 +75,9 @@ def fate_of_word(processor, after, was, now):
     return " WORD LEFT" if is_left else ""
 
 
-class Code:
-    """The words that a processor has performed since some position, as long as it is sure that it overwrites none of them."""
-
-    def __init__(self, channel):
-        self.channel, self.words, self.users, self.is_sure = channel, {}, set(), True
-
-    def knows(self, addresses):
-        return self.is_sure and self.words.keys() >= addresses
-
-    def add(self, words):
-        """Adds words by their addresses, which were performed, and not overwritten meanwhile."""
-        self.words.update(words)
-        self.users.update(address for address, word in words.items() if word & 0o77 == self.channel and word >> 6 in CHANNEL_CODES)
-        stored = [cells_written(word) for word in {*self.words.values()}]
-        self.is_sure = self.is_sure and all(cells is not None and self.words.keys().isdisjoint(cells) for cells in stored)
-
-
 class Touches(Test):
-    """Whether a turn of some processors may have touched a channel: whether it changed it, or its processor uses the channel by an
-    instruction that was in a cell at its P, or in a block transfer."""
+    """Whether a turn of some processors may have touched a channel: whether it changed it, or its processor uses the channel by a word that
+    was at its P, or in a block transfer."""
 
     is_change = True
 
@@ -107,72 +90,56 @@ class Touches(Test):
         return [*self.of_channel, *(flat.P + number for number in self.processors)]
 
     def begin(self, run):
-        self.code = {number: Code(self.channel) for number in self.processors}
-        self.look(run)
-        return False
-
-    def look(self, run):
         """Looks at a run before some turns."""
         self.before = {place: run.engine.numbers(place, 1)[0] for place in self.places}
         self.phases = run.engine.numbers(flat.PHASE, PROCESSORS)
+        return False
 
     def verdicts(self, looks):
-        found = bytearray(looks.turns)
+        found, written = bytearray(looks.turns), looks.written()
         for place in self.of_channel:
             values, before = looks.columns[place], self.before[place]
             if values.count(before) < len(values):
                 for at, (was, now) in enumerate(zip(chain((before,), values), values)):
                     found[at] |= was != now and (looks.slot + at) % PROCESSORS in self.processors
-        self.p = {number: [self.before[flat.P + number], *looks.own(number, flat.P + number)] for number in self.processors}
-        is_known = all(not self.phases[number] and self.code[number].knows({*p}) for number, p in self.p.items())
-        written = set() if is_known else looks.written()
         for number in self.processors:
-            for at in self.of_processor(looks.run, number, written, looks.first_own(number)):
+            for at in self.of_processor(looks, number, written):
                 found[at] = 1
-        self.look(looks.run)
+        self.begin(looks.run)
         return bytes(found)
 
-    def of_processor(self, run, number, written, first):
-        """Returns the turns of a processor that may use the channel. Its P before each of its turns is known, and which cells were written
-        in these turns, if any of those at P were."""
-        p, phase, code, memory = self.p[number], self.phases[number], self.code[number], flat.CELLS + CELLS * number
-        addresses = {*p}
-        users = addresses & code.users
-        if not code.knows(addresses):
-            low = min(addresses)
-            numbers = run.engine.numbers(memory + low, max(addresses) - low + 1)
-            words = {one: numbers[one - low] for one in addresses if memory + one not in written}
-            code.add(words)
-            code.is_sure = code.is_sure and not phase and len(words) == len(addresses)
-            users = addresses if len(words) < len(addresses) else addresses & code.users
-        if phase and phase & 0o77 == self.channel or any(code.words[one] >> 6 in BLOCK_BEGINS for one in users & code.words.keys()):
+    def of_processor(self, looks, number, written):
+        """Returns the turns of a processor that may use the channel. The run is after them."""
+        memory, first, phase = flat.CELLS + CELLS * number, looks.first_own(number), self.phases[number]
+        p = [self.before[flat.P + number], *looks.own(number, flat.P + number)][:-1]
+        low, addresses = min(p, default=0), {*p}
+        words = looks.run.engine.numbers(memory + low, max(p, default=0) - low + 1)
+        users = {one for one in addresses if self.uses(words[one - low])}
+        if phase and self.uses(phase) or any(words[one - low] >> 6 in BLOCK_BEGINS for one in users) or \
+                not written.isdisjoint(memory + one for one in addresses):
             users = addresses
-        return [first + PROCESSORS * at for at, one in enumerate(p[:-1]) if one in users] if users else []
+        return [first + PROCESSORS * at for at, one in enumerate(p) if one in users] if users else []
+
+    def uses(self, word):
+        """Returns whether an instruction uses the channel."""
+        return word & 0o77 == self.channel and word >> 6 in CHANNEL_CODES
 
 
-def positions_of(asked, run, last):
-    """Yields the positions before the turns that a command line asks for, up to a last turn; of a channel all that may touch it."""
-    tape, processors, first = run.tape, asked.processor or range(PROCESSORS), asked.first - 1
+def positions_of(asked, run, first, last):
+    """Yields the positions before the turns after one, and up to another, that a command line asks for; of a channel all that may touch it."""
+    tape, processors = run.tape, asked.processor or range(PROCESSORS)
     if asked.channel is not None:
-        return positions_of_touches(asked, run, min(first, last), last)
-    if asked.last is not None:
-        first = max(last - asked.last * PROCESSORS, first)
+        search = Search(run, Condition([Touches(asked.channel, processors)]))
+        return (position for position, _ in search.found(first, last))
     end = tape.at_turn(last)
-    found = (position for position, line in takewhile(lambda stop: stop[0] < end, tape.stops(first, processors)) if line == STEP)
-    return found if asked.last is None else list(found)[-asked.last:]
+    return (position for position, line in takewhile(lambda stop: stop[0] < end, tape.stops(first, processors)) if line == STEP)
 
 
-def positions_of_touches(asked, run, first, last):
-    """Yields the positions before the turns after one, and up to another, that may touch the channel."""
-    search = Search(run, Condition([Touches(asked.channel, asked.processor or range(PROCESSORS))]))
-    return (position for position, _ in search.found(first, last))
-
-
-def last_lines(asked, run, tracer, last):
-    """Returns the lines of the last turns that touched the channel, as many as the command line asks for."""
+def last_lines(asked, run, tracer, first, last):
+    """Returns the last lines of turns, as many as the command line asks for."""
     found = []
-    for start, end in spans(last, min(asked.first - 1, last)):
-        found[:0] = filter(None, map(tracer.line, list(positions_of_touches(asked, run, start, end))))
+    for start, end in spans(last, first, PROCESSORS * asked.last):
+        found[:0] = filter(None, map(tracer.line, list(positions_of(asked, run, start, end))))
         if len(found) >= asked.last:
             break
     return found[-asked.last:]
@@ -192,10 +159,10 @@ def main():
     symbols = symbols_of(asked)
     run, script = replayed(asked, symbols, asked.script)
     last = run.tape.turns if asked.to is None else min(asked.to, run.tape.turns)
-    tracer = Tracer(run, asked.channel, symbols)
-    if asked.channel is None or asked.last is None:
-        write_lines(filter(None, map(tracer.line, positions_of(asked, run, last))))
+    first, tracer = min(asked.first - 1, last), Tracer(run, asked.channel, symbols)
+    if asked.last is None:
+        write_lines(filter(None, map(tracer.line, positions_of(asked, run, first, last))))
     else:
-        write_lines(last_lines(asked, run, tracer, last))
+        write_lines(last_lines(asked, run, tracer, first, last))
     run.close()
     return script.status()

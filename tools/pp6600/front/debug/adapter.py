@@ -12,10 +12,10 @@ from ...shell.device_options import device_of
 from ...shell.options import OPTIONS, processor
 from ...shell.text_files import script_lines, shown
 from .breakpoints import DATA, Breakpoints
+from .debugged import Debugged, latest_turn
 from .listings import Listings
-from .debugged import MachineWithDevices, MachineWithoutDevices, latest_turn
 from .own import OwnSources
-from .protocol import Refused
+from .protocol import BadRequest
 from .requests import Requests
 from .running import Runner
 from .setting import Setting
@@ -133,11 +133,11 @@ class Adapter(Requests, Setting):
         """Returns what does a request."""
         method = getattr(self, f"do_{command}", None)
         if method is None:
-            raise Refused(f"{command[:MOST_SHOWN]} is not supported")
+            raise BadRequest(f"{command[:MOST_SHOWN]} is not supported")
         if self.machine is None and command not in BEFORE_LAUNCH:
-            raise Refused("no simulator runs: launch one first")
+            raise BadRequest("no simulator runs: launch one first")
         if self.is_running and command not in WHILE_RUNNING:
-            raise Refused("the machine runs: pause it first")
+            raise BadRequest("the machine runs: pause it first")
         return method
 
     def stopped(self, reason, number, text="", ids=()):
@@ -173,7 +173,7 @@ class Adapter(Requests, Setting):
         lines = script_lines(str(script)) if script else []
         symbols = symbols_from(*(pairs(arguments.get(name), name) for name in ("symbols", "sources")), arguments.get("text"))
         devices = devices_from(arguments.get("devices"))
-        own, machine = OwnSources(symbols), MachineWithDevices(words, devices) if devices else MachineWithoutDevices(words)
+        own, machine = OwnSources(symbols), Debugged(words, devices)
         self.end_simulator()
         self.machine, self.arguments, self.own = machine, arguments, own
         if self.listings is None:
@@ -228,7 +228,7 @@ class Adapter(Requests, Setting):
 
     def number(self, thread):
         if not isinstance(thread, int) or not 1 <= thread <= PROCESSORS:
-            raise Refused(f"{thread} is no thread: they are 1 to {PROCESSORS}")
+            raise BadRequest(f"{thread} is no thread: they are 1 to {PROCESSORS}")
         return thread - 1
 
     def do_threads(self, **_):
@@ -323,12 +323,12 @@ class Adapter(Requests, Setting):
 def devices_from(asked):
     """Returns the devices that an argument of a launch names."""
     if asked is not None and not isinstance(asked, list):
-        raise Refused("devices is no list")
+        raise BadRequest("devices is no list")
     return [device_of(str(text)) for text in asked or ()]
 
 
 def pairs(asked, name):
     """Returns the processors and the files that an argument of a launch names."""
     if asked is not None and not isinstance(asked, dict):
-        raise Refused(f"{name} is no object with a file for each processor")
+        raise BadRequest(f"{name} is no object with a file for each processor")
     return [(str(number), str(path)) for number, path in (asked or {}).items()]

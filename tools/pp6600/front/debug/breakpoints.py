@@ -5,7 +5,7 @@ from typing import TYPE_CHECKING, Dict, FrozenSet, NamedTuple, Optional, Tuple
 
 from ...failure import Failure
 from ...run.forms import CELLS, PROCESSORS, Place
-from .protocol import Refused
+from .protocol import BadRequest
 from .terms import Terms
 
 if TYPE_CHECKING:
@@ -15,7 +15,7 @@ LINE_ID, INSTRUCTION_ID, DATA_ID, SOURCE_ID = 1 << 16, 1 << 17, 1 << 18, 1 << 19
 LINE, INSTRUCTION, DATA = "breakpoint", "instruction breakpoint", "data breakpoint"  # why a run stops
 
 
-class Cell(NamedTuple):
+class ProcessorCell(NamedTuple):
     """A cell of a processor. References to it count bytes, two a cell, and have the processor above."""
 
     number: int
@@ -31,10 +31,10 @@ class Cell(NamedTuple):
         try:
             at = int(reference, 0) + offset
         except (TypeError, ValueError):
-            raise Refused(f"{reference} is no reference to a cell") from None
+            raise BadRequest(f"{reference} is no reference to a cell") from None
         number, byte = at >> 16, at & 0xFFFF
         if byte % 2 or not 0 <= number < PROCESSORS or byte >= 2 * CELLS:
-            raise Refused(f"{reference} with {offset} is no reference to a cell")
+            raise BadRequest(f"{reference} with {offset} is no reference to a cell")
         return cls(number, byte // 2)
 
     @property
@@ -45,7 +45,7 @@ class Cell(NamedTuple):
 def checked(place):
     """Returns a place, if there is one of these numbers."""
     if not place.exists:
-        raise Refused(f"{place.short} is out of range")
+        raise BadRequest(f"{place.short} is out of range")
     return place
 
 
@@ -56,11 +56,11 @@ def places_of(text):
         if place.kind != "M" or not rest:
             return [checked(Place.parse(text))]
     except Failure as failure:
-        raise Refused(str(failure)) from None
+        raise BadRequest(str(failure)) from None
     last = int(rest[0], 8) if len(rest) == 1 and re.fullmatch("[0-7]{1,5}", rest[0]) else -1
     number, first = checked(place).numbers
     if not first <= last < CELLS:
-        raise Refused(f"{text} is no range of cells")
+        raise BadRequest(f"{text} is no range of cells")
     return [Place("M", (number, at)) for at in range(first, last + 1)]
 
 
@@ -70,7 +70,7 @@ class Point(NamedTuple):
 
     number: int  # its identifier
     reason: str
-    cells: Dict[Cell, Optional[FrozenSet[int]]] = {}
+    cells: Dict[ProcessorCell, Optional[FrozenSet[int]]] = {}
     places: Tuple[Place, ...] = ()
     terms: Terms = Terms()
     file: Optional["SourceFile"] = None  # the source, and the line there

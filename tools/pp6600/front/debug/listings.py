@@ -10,7 +10,7 @@ import re
 import shutil
 import tempfile
 
-from ...run.forms import CELLS, PROCESSORS, ROW, ROWS
+from ...run.forms import CELLS, PROCESSORS
 from ...run.turn import NAMES, TWO_WORDS
 
 NAME = re.compile(r"PP(0[0-7]|1[01])\.pplist")
@@ -57,7 +57,7 @@ class Listings:
 
     def __init__(self):
         self.folder = tempfile.mkdtemp(prefix="pp6600-")
-        self.files, self.rows, self.beside = {}, {}, []
+        self.files, self.cells, self.beside = {}, {}, []
         for number in range(PROCESSORS):
             self.files[number] = open(self.path(number), "xb", buffering=0)
             if hasattr(os, "fchmod"):  # on Windows a file that can't be written can't be removed
@@ -67,7 +67,7 @@ class Listings:
         """Begins a run with the symbols of some processors, by their numbers. Other symbols make lines of another length."""
         old, self.beside = self.beside, [Beside(symbols.get(number)) for number in range(PROCESSORS)]
         for number, file in self.files.items():
-            self.rows[number] = [None] * ROWS
+            self.cells[number] = None
             if old and old[number].width != self.beside[number].width:
                 file.truncate(0)
 
@@ -84,33 +84,27 @@ class Listings:
     def source(self, number):
         return {"name": f"PP{number:02o}.pplist", "path": self.path(number)}
 
-    def lines(self, number, memory, cells):
-        """Returns the lines of some cells of a processor, each as long as any other."""
-        beside = self.beside[number]
-        if not beside.width:
-            return "".join(f"{instruction(memory, cell):{WIDTH}}\n" for cell in cells).encode("ascii")
-        return b"".join(f"{instruction(memory, cell):{WIDTH}}".encode("ascii") + beside.at(cell, memory.word(cell)) + b"\n"
-                        for cell in cells)
+    def line(self, number, memory, cell):
+        """Returns the line of a cell of a processor, as long as any other."""
+        return f"{instruction(memory, cell):{WIDTH}}".encode("ascii") + self.beside[number].at(cell, memory.word(cell)) + b"\n"
 
     def text(self, number, memory):
-        return self.lines(number, memory, range(CELLS)).decode()
+        return b"".join(self.line(number, memory, cell) for cell in range(CELLS)).decode()
 
     def follow(self, number, memory):
-        """Writes what has changed of a processor's cells."""
-        old = self.rows[number]
-        if old == memory.rows:
-            return
-        for row in [at for at, (was, now) in enumerate(zip(old, memory.rows)) if was != now]:
-            first = max(ROW * row - 1, 0)  # the word before may be the first one of an instruction of two words
-            self.write(number, memory, range(first, ROW * row + ROW))
-        if old[0] != memory.rows[0]:  # after cell 7777 comes cell 0000
-            self.write(number, memory, range(CELLS - 1, CELLS))
-        self.rows[number] = memory.rows
+        """Writes what has changed of a processor's cells, in its place. The word before may be the first one of an instruction of two."""
+        old, self.cells[number] = self.cells[number], memory.numbers
+        if old is None:
+            self.write(number, 0, self.text(number, memory).encode())
+        elif old != memory.numbers:
+            changed = [at for at, (was, now) in enumerate(zip(old, memory.numbers)) if was != now]
+            for cell in {(at - before) % CELLS for at in changed for before in (0, 1)}:
+                self.write(number, cell, self.line(number, memory, cell))
 
-    def write(self, number, memory, cells):
-        """Writes the lines of some cells in their place."""
-        self.files[number].seek(cells[0] * (WIDTH + self.beside[number].width + 1))
-        self.files[number].write(self.lines(number, memory, cells))
+    def write(self, number, cell, lines):
+        """Writes lines in their place, from that of a cell on."""
+        self.files[number].seek(cell * (WIDTH + self.beside[number].width + 1))
+        self.files[number].write(lines)
 
     def remove(self):
         for file in self.files.values():

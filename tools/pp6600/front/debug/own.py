@@ -5,7 +5,7 @@ from typing import NamedTuple
 
 from ...failure import Failure
 from ...run.forms import CELLS
-from .breakpoints import Cell
+from .breakpoints import ProcessorCell
 
 
 class OwnLine(NamedTuple):
@@ -55,7 +55,7 @@ class SourceFile:
         for number, lines in self.of.items():
             for row in lines.rows.get(line, ()):
                 for address in {row.location % CELLS, row.origin}:
-                    found.setdefault(Cell(number, address), set()).add(row.line.number)
+                    found.setdefault(ProcessorCell(number, address), set()).add(row.line.number)
         return {cell: frozenset(lines) for cell, lines in found.items()}
 
     def next_line(self, line):

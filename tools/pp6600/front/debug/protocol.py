@@ -13,7 +13,7 @@ LONGEST_HEADER = 4096  # bytes of a line before a message
 LONGEST_MESSAGE = 1 << 26  # bytes
 
 
-class Refused(Failure):
+class BadRequest(Failure):
     """A request that can't be done; the text says why."""
 
 

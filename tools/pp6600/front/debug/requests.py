@@ -6,9 +6,9 @@ import binascii
 from ...convert.cells import set_lines
 from ...language.calls import calls, sentence
 from ...run.forms import CELLS, PROCESSORS
-from .breakpoints import Cell
+from .breakpoints import ProcessorCell
 from .listings import instruction
-from .protocol import Refused
+from .protocol import BadRequest
 from .running import Runner
 from .variables import CALL_SCOPE, place_of, scope_and_number, scopes, set_line, value_of, variable, variables
 
@@ -28,7 +28,7 @@ class Requests:
     def frame(self, frame):
         """Returns the processor of a frame: each has one, and one more in a block transfer."""
         if not isinstance(frame, int) or not 1 <= frame <= 2 * PROCESSORS:
-            raise Refused(f"{frame} is no frame")
+            raise BadRequest(f"{frame} is no frame")
         return (frame - 1) % PROCESSORS
 
     def do_stackTrace(self, threadId, startFrame=0, levels=0, **_):
@@ -37,11 +37,11 @@ class Requests:
         processor, memory = state.processors[number], state.memories[number]
         waits = processor.waits_for(state.states())
         name = f"P {processor.registers['P']} {'in ' if processor.phase else ''}{processor.text}{f' waits for {waits}' if waits else ''}"
-        frames = [self.one_frame(threadId, name, Cell(number, processor.p), self.own.line_at_p(number, processor))]
+        frames = [self.one_frame(threadId, name, ProcessorCell(number, processor.p), self.own.line_at_p(number, processor))]
         begun = (int(memory.word(0), 8) - 1) % CELLS  # cell 0000 has where the block goes on
         if processor.phase and memory.word(begun) == processor.registers["PHASE"]:
             line = self.own.line(number, begun, [memory.word(begun), memory.word(begun + 1)])
-            frames.append(self.one_frame(threadId + PROCESSORS, f"begun at {begun:04o}", Cell(number, begun), line))
+            frames.append(self.one_frame(threadId + PROCESSORS, f"begun at {begun:04o}", ProcessorCell(number, begun), line))
         return {"stackFrames": frames[startFrame:startFrame + levels if levels else None], "totalFrames": len(frames)}
 
     def one_frame(self, frame, name, cell, line):
@@ -61,19 +61,20 @@ class Requests:
         if number is None and isinstance(sourceReference, int) and 1 <= sourceReference <= PROCESSORS:
             number = sourceReference - 1
         if number is None:
-            raise Refused("no listing of this session")
+            raise BadRequest("no listing of this session")
         return {"content": self.listings.text(number, self.machine.state.memories[number]), "mimeType": "text/plain"}
 
     def do_gotoTargets(self, source, line, **_):
         number, file, address = self.listings.number_of(source), self.own.file(source.get("path")), line - self.base
-        cells = [Cell(number, address)] if number is not None and 0 <= address < CELLS else sorted(file.cells(address + 1)) if file else []
+        is_listed = number is not None and 0 <= address < CELLS
+        cells = [ProcessorCell(number, address)] if is_listed else sorted(file.cells(address + 1)) if file else []
         return {"targets": [{"id": cell.bits, "label": f"P {cell.address:04o}", "line": line,
                              "instructionPointerReference": cell.reference} for cell in cells]}
 
     def do_goto(self, threadId, targetId, **_):
-        number, target = self.number(threadId), Cell(targetId >> 12, targetId & 0o7777)
+        number, target = self.number(threadId), ProcessorCell(targetId >> 12, targetId & 0o7777)
         if target.number != number:
-            raise Refused(f"that is a cell of PP {target.number:02o}" if target.number < PROCESSORS else "that is no target")
+            raise BadRequest(f"that is a cell of PP {target.number:02o}" if target.number < PROCESSORS else "that is no target")
         self.set_number(f"SET P {number:o} {target.address:o}")
         self.after = lambda: self.stopped("goto", number)
 
@@ -109,7 +110,7 @@ class Requests:
         """Performs a line that sets numbers."""
         answer = self.act(line)
         if answer != ["OK"]:
-            raise Refused(f"{answer[0] if answer else 'nothing'}: {line}")
+            raise BadRequest(f"{answer[0] if answer else 'nothing'}: {line}")
         self.look()
 
     def do_setVariable(self, variablesReference, name, value, **_):
@@ -129,7 +130,7 @@ class Requests:
             acts, text = True, text[len(PREFIX):].strip()
         try:
             return {"result": self.value(text, number), "variablesReference": 0}
-        except Refused:
+        except BadRequest:
             if not acts:
                 raise
         answers = []
@@ -162,33 +163,33 @@ class Requests:
     # ---- memory and instructions
 
     def do_readMemory(self, memoryReference, count, offset=0, **_):
-        cell = Cell.of(memoryReference, offset)
+        cell = ProcessorCell.of(memoryReference, offset)
         if not isinstance(count, int) or count < 0:
-            raise Refused(f"{count} is no count of bytes: it is 0 or more")
+            raise BadRequest(f"{count} is no count of bytes: it is 0 or more")
         memory = self.machine.state.memories[cell.number]
         last = min(cell.address + (count + 1) // 2, CELLS)
         data = b"".join(int(memory.word(at), 8).to_bytes(2, "big") for at in range(cell.address, last))[:count]
         return {"address": cell.reference, "data": base64.b64encode(data).decode("ascii"), "unreadableBytes": count - len(data)}
 
     def do_writeMemory(self, memoryReference, data, offset=0, **_):
-        cell = Cell.of(memoryReference, offset)
+        cell = ProcessorCell.of(memoryReference, offset)
         try:
             data = base64.b64decode(data, validate=True)
         except binascii.Error as error:
-            raise Refused(f"what is to be written is not base64: {error}") from None
+            raise BadRequest(f"what is to be written is not base64: {error}") from None
         if len(data) % 2 or any(byte > 0o17 for byte in data[::2]):
-            raise Refused("a cell is two bytes, the upper bits first, and has 12 bits (decimal)")
+            raise BadRequest("a cell is two bytes, the upper bits first, and has 12 bits (decimal)")
         words = [f"{int.from_bytes(data[at:at + 2], 'big'):04o}" for at in range(0, len(data), 2)]
         if cell.address + len(words) > CELLS:
-            raise Refused("that goes past cell 7777")
+            raise BadRequest("that goes past cell 7777")
         for line in set_lines(cell.number, cell.address, words):
             self.set_number(line)
         return {"bytesWritten": len(data)}
 
     def do_disassemble(self, memoryReference, instructionCount, offset=0, instructionOffset=0, **_):
         if instructionCount > MOST_INSTRUCTIONS:
-            raise Refused(f"{instructionCount} instructions are too many: {MOST_INSTRUCTIONS} at most")
-        cell = Cell.of(memoryReference, offset)
+            raise BadRequest(f"{instructionCount} instructions are too many: {MOST_INSTRUCTIONS} at most")
+        cell = ProcessorCell.of(memoryReference, offset)
         first = cell.address + instructionOffset
         last = first + instructionCount
         before, after = range(first, min(last, 0)), range(max(first, CELLS), last)
@@ -198,7 +199,7 @@ class Requests:
     def instruction(self, number, address):
         """Returns a cell as an instruction, and where its line is."""
         memory = self.machine.state.memories[number]
-        cell = Cell(number, address)
+        cell = ProcessorCell(number, address)
         found = self.where(cell, self.own.line(number, address, [memory.word(address), memory.word(address + 1)]))
         return {"address": cell.reference, "instructionBytes": memory.word(address),
                 "instruction": instruction(memory, address), "location": found["source"], "line": found["line"]}

@@ -4,8 +4,8 @@ import itertools
 
 from ...failure import Failure
 from ...run.forms import CELLS, MOST_WATCHES
-from .breakpoints import DATA, DATA_ID, INSTRUCTION, INSTRUCTION_ID, LINE, LINE_ID, SOURCE_ID, Cell, Point, places_of
-from .protocol import Refused
+from .breakpoints import DATA, DATA_ID, INSTRUCTION, INSTRUCTION_ID, LINE, LINE_ID, SOURCE_ID, Point, ProcessorCell, places_of
+from .protocol import BadRequest
 from .terms import Terms
 from .variables import place_of, scope_and_number, value_of
 
@@ -15,7 +15,7 @@ class Setting:
 
     def line(self, line):
         if not isinstance(line, int) or isinstance(line, bool):
-            raise Refused(f"{line} is no line")
+            raise BadRequest(f"{line} is no line")
         return line
 
     def terms(self, asked, numbers):
@@ -25,7 +25,7 @@ class Setting:
             try:
                 self.machine.number_at(place)
             except Failure:
-                raise Refused(f"ERR 04 RANGE: {place.text} is not there") from None
+                raise BadRequest(f"ERR 04 RANGE: {place.text} is not there") from None
         return terms
 
     def do_setBreakpoints(self, source, breakpoints=(), **_):
@@ -50,7 +50,7 @@ class Setting:
                 answer, point = point_of(one)
                 answers.append({"verified": True, **answer})
                 points.append(point)
-            except Refused as refused:
+            except BadRequest as refused:
                 answers.append({"verified": False, "message": str(refused), **({"line": one["line"]} if "line" in one else {})})
         return answers, points
 
@@ -58,8 +58,8 @@ class Setting:
         """Returns the answer and the breakpoint on a line of a listing."""
         address = one["line"] - self.base
         if not 0 <= address < CELLS:
-            raise Refused("no line of the listing")
-        cell = Cell(number, address)
+            raise BadRequest("no line of the listing")
+        cell = ProcessorCell(number, address)
         point = Point(LINE_ID | cell.bits, LINE, {cell: None}, terms=self.terms(one, [number]))
         return {"id": point.number, "line": one["line"], "source": self.listings.source(number),
                 "instructionReference": cell.reference}, point
@@ -77,7 +77,7 @@ class Setting:
         """Returns the answer and the breakpoint on a line of a file, or on the next one that makes words."""
         line = file.next_line(one["line"] - self.base + 1)
         if line is None:
-            raise Refused("no line from here on makes a word")
+            raise BadRequest("no line from here on makes a word")
         cells = file.cells(line)
         point = Point(one["id"], LINE, cells, (), self.terms(one, sorted({cell.number for cell in cells})), file, line)
         return {"line": line - 1 + self.base, "source": file.source, "instructionReference": min(cells).reference}, point
@@ -101,7 +101,7 @@ class Setting:
         return {"breakpoints": answers}
 
     def instruction_point(self, one):
-        cell = Cell.of(one.get("instructionReference"), one.get("offset", 0))
+        cell = ProcessorCell.of(one.get("instructionReference"), one.get("offset", 0))
         point = Point(INSTRUCTION_ID | cell.bits, INSTRUCTION, {cell: None}, terms=self.terms(one, [cell.number]))
         return {"id": point.number, "instructionReference": cell.reference}, point
 
@@ -131,9 +131,9 @@ class Setting:
         """Returns the answer and a data breakpoint, which is set."""
         places = places_of(str(one.get("dataId")))
         if one.get("accessType", "write") != "write":
-            raise Refused("only changes are seen")
+            raise BadRequest("only changes are seen")
         if len({*self.machine.state.watched, *self.points.places(), *places}) > MOST_WATCHES:
-            raise Refused("at most eight places are watched, those of WATCH among them")
+            raise BadRequest("at most eight places are watched, those of WATCH among them")
         self.check(places)
         terms = self.terms({**one, "logMessage": None}, [])  # the protocol has no such log points
         point = Point(number, DATA, places=tuple(places), terms=terms)

@@ -17,7 +17,7 @@ from ...engine.interface import place_number
 from ...run.conditions import Changes, Waits
 from ...run.forms import CELLS, PROCESSORS, Place
 from ...run.search import Looks
-from .breakpoints import Cell
+from .breakpoints import ProcessorCell
 from .debugged import is_turn, latest_turn
 from .terms import Terms
 
@@ -127,7 +127,7 @@ class StopSearch:
         return self.entry is not None and number == self.aim.processor
 
     def arrivals(self, looks, before):
-        """Yields the stops before the next turns of the processors that come to a breakpoint in some turns. What they were before is known."""
+        """Yields the stops before the next turns of processors that come to a breakpoint in some turns. Where they were before is known."""
         for number, addresses in self.addresses.items():
             p, places = looks.own(number, flat.P + number), (flat.P + number, flat.PHASE + number)
             if not self.is_to_return(number) and addresses.isdisjoint(p):
@@ -169,7 +169,7 @@ class StopSearch:
 
     def is_on(self, point, stop):
         """Returns whether a stop is at a place or a cell of a breakpoint; of a line of a source the cell must have its word."""
-        cell = Cell(stop.number, stop.address)
+        cell = ProcessorCell(stop.number, stop.address)
         if stop.place or cell not in point.cells:
             return stop.place in point.places
         lines = point.cells[cell]

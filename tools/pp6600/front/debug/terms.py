@@ -13,7 +13,7 @@ from typing import NamedTuple, Optional
 from ...failure import Failure
 from ...run.conditions import first_place, parsed
 from ...run.search import Column, Condition
-from .protocol import Refused
+from .protocol import BadRequest
 
 SIGNS = {"=": operator.eq, "==": operator.eq, ">": operator.gt, ">=": operator.ge, "<": operator.lt, "<=": operator.le,
          "%": lambda count, number: count % number == 0}
@@ -32,12 +32,12 @@ class Hits(NamedTuple):
     def parse(cls, text):
         found = COUNT.fullmatch(text)
         if not found:
-            raise Refused(f"{text} is no count of hits: it is a number, or one of = > >= < <= % and a number")
+            raise BadRequest(f"{text} is no count of hits: it is a number, or one of = > >= < <= % and a number")
         if not re.fullmatch("[0-7]+", found[2]):
-            raise Refused(f"{found[2]} is not octal")
+            raise BadRequest(f"{found[2]} is not octal")
         number = int(found[2], 8)
         if not number and found[1] == "%":
-            raise Refused("no number is a multiple of 0")
+            raise BadRequest("no number is a multiple of 0")
         return cls(found[1] or "=", number)
 
     def hold(self, number):
@@ -75,10 +75,10 @@ class Terms(NamedTuple):
         try:
             tests = parsed(condition, symbols) if condition else None
             if tests and tests.remembers:
-                raise Refused("returns wrongly is about a whole run, so it is for until, and for no breakpoint")
+                raise BadRequest("returns wrongly is about a whole run, so it is for until, and for no breakpoint")
             return cls(tests, Hits.parse(hits) if hits else None, Log(log, numbers, symbols) if log else None, condition)
         except Failure as failure:
-            raise Refused(str(failure)) from None
+            raise BadRequest(str(failure)) from None
 
     def places(self):
         """Returns all places that they are about."""
@@ -96,7 +96,7 @@ def place_of(text, number, symbols):
     """Returns the place that an expression names."""
     place, rest = first_place(of_processor(text.split(), number), symbols)
     if rest or not place.exists:
-        raise Refused(f"{{{text}}} is no place")
+        raise BadRequest(f"{{{text}}} is no place")
     return place
 
 

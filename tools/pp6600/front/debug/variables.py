@@ -6,8 +6,8 @@ from ...failure import Failure
 from ...language.names import AllSymbols
 from ...run.forms import KINDS, PROCESSORS, REGISTERS, Place
 from ...run.search import Column
-from .breakpoints import Cell, checked
-from .protocol import Refused
+from .breakpoints import ProcessorCell, checked
+from .protocol import BadRequest
 from .terms import of_processor
 
 SCOPES = ("Registers", "Channels and clock", "Devices", "Watches", "History", "Calls")
@@ -17,7 +17,7 @@ REGISTER_SCOPE, CHANNEL_SCOPE, DEVICE_SCOPE, WATCH_SCOPE, HISTORY_SCOPE, CALL_SC
 def scope_and_number(asked):
     """Returns the scope and the processor of a reference."""
     if not isinstance(asked, int) or not 0 < asked >> 8 <= len(SCOPES) or not 0 <= asked & 0xFF < PROCESSORS:
-        raise Refused(f"{asked} is no reference to variables")
+        raise BadRequest(f"{asked} is no reference to variables")
     return asked >> 8, asked & 0xFF
 
 
@@ -51,7 +51,7 @@ def register(state, number, name):
     """Returns a register; P leads to the memory."""
     digits = state.processors[number].registers[name]
     place = f"{name} {number:o}" if name in KINDS else ""
-    memory = {"memoryReference": Cell(number, int(digits, 8)).reference} if name == "P" else {}
+    memory = {"memoryReference": ProcessorCell(number, int(digits, 8)).reference} if name == "P" else {}
     return {**variable(name, digits, place), **memory}
 
 
@@ -64,7 +64,7 @@ def devices(state):
 def value_of(machine, place):
     """Returns the digits of the number at a place; of a channel the state too."""
     if place.kind == "C" and place.numbers[0] >= machine.central_size:
-        raise Refused(f"ERR 04 RANGE: {place.short} is not in central memory")
+        raise BadRequest(f"ERR 04 RANGE: {place.short} is not in central memory")
     return Column(place).shown(machine)[0][1]
 
 
@@ -76,15 +76,15 @@ def place_of(text, number=None, symbols=AllSymbols()):
         words = symbols.place_in_digits(words)
         return checked(Place.parse(" ".join(words)))
     except Failure as failure:
-        raise Refused(f"{text} is no place: {failure}") from None
+        raise BadRequest(f"{text} is no place: {failure}") from None
 
 
 def set_line(scope, number, name, value):
     if not re.fullmatch("[0-7A-Za-z ]+", value):
-        raise Refused(f"{value} is not octal")
+        raise BadRequest(f"{value} is not octal")
     if scope == REGISTER_SCOPE and name == "PHASE":
-        raise Refused("PHASE can't be set; to set P ends a block transfer")
+        raise BadRequest("PHASE can't be set; to set P ends a block transfer")
     if scope in (DEVICE_SCOPE, HISTORY_SCOPE, CALL_SCOPE):
-        raise Refused(f"{name} can't be set")
+        raise BadRequest(f"{name} can't be set")
     place = place_of(name, number if scope == REGISTER_SCOPE else None)
     return place, f"SET {place.short} {value}"

@@ -12,8 +12,6 @@ import shlex
 import zlib
 from typing import Any, Dict, Mapping, NamedTuple, Optional
 
-from ...engine.choice import HOME
-from ...failure import Failure
 from ...language.display_code import SYMBOLS
 from ...language.names import AllSymbols
 from ...language.sources import Source, words_of
@@ -21,16 +19,14 @@ from ...language.source.statements import TAB
 from ...run import sentences
 from ...run.turn import (
     AT_END_OF_BLOCK, AT_END_OF_INPUT, IN_BLOCK, INSTRUCTIONS, NAMES, RELATIVE_JUMPS, STATE_LETTERS, TWO_WORDS, WAITS_FOR)
-from ...shell.installation import PAGE_MODULE
 from ...shell.options import OPTIONS
-from ...shell.text_files import bytes_of
 from ..keys import for_page
 
 WEB = os.path.join(os.path.dirname(os.path.abspath(__file__)), "web")
 # The scripts, in the order in which they are joined: of the page and its worker, of the worker, of the page.
 SCRIPTS = {"shared": ("layout", "turns", "library"),
            "engine": ("simulator", "recorder", "conditions", "session", "worker"),
-           "view": ("rows", "places", "engine", "machine", "program", "lines", "source", "pictures", "origin",
+           "view": ("elements", "rows", "places", "engine", "machine", "program", "source", "pictures", "origin",
                     "lanes", "barrel", "exercises", "editing", "console", "assembler", "keys", "controls")}
 MODES = {"reader": ("IDLE", "READING", "STATUS", "SENT"), "printer": ("IDLE", "PRINTING", "STATUS", "SENT")}
 
@@ -136,29 +132,3 @@ def heading(title: Optional[str], script: Optional[str]) -> str:
     of its folder."""
     folder, name = os.path.dirname(os.path.abspath(script or "")), os.path.basename(script or "") or "standard input"
     return readable(title or (os.path.basename(folder) if name == "script" else "") or name)
-
-
-# ---- files
-
-def module_bytes() -> bytes:
-    """Returns the simulator as WebAssembly: that of a checkout or of a class, whose folder has it in dist, or that of an installation."""
-    for path in (os.path.join(HOME, "dist", PAGE_MODULE), os.path.join(HOME, PAGE_MODULE)):
-        if os.path.exists(path):
-            return bytes_of(path)
-    raise Failure(f"there is no {PAGE_MODULE} here, with which a page runs")
-
-
-def write_page(path: str, text: str) -> None:
-    """Writes a file whole, or leaves it as it was. What is no plain file, as a pipe, is written to as it is."""
-    is_plain, target = not os.path.exists(path) or os.path.isfile(path), os.path.realpath(path)
-    fresh = f"{target}.{os.urandom(4).hex()}.part" if is_plain else path
-    try:
-        with open(fresh, "xb" if is_plain else "wb") as file:
-            file.write(text.encode("utf-8"))
-        if is_plain:
-            os.replace(fresh, target)
-    except OSError as error:
-        raise Failure(f"can't write {path}: {error.strerror}") from error
-    finally:
-        if is_plain and os.path.exists(fresh):
-            os.remove(fresh)

@@ -4,7 +4,7 @@ has the replies of the devices, so a device only looks at its channel here."""
 from __future__ import annotations
 
 from itertools import chain
-from typing import Any, Dict, Iterator, List, Sequence, Tuple
+from typing import Any, Dict, Iterable, Iterator, List, Sequence, Tuple
 
 from ...devices.pictures import svg
 from ...failure import Failure
@@ -30,47 +30,39 @@ def moments_of(console: Console, lines: Sequence[str]) -> Iterator[Tuple[str, Li
                 yield answer[0], []
 
 
-class Devices:
-    """Devices with their values and the turns in effect, by how many actions are in effect."""
-
-    def __init__(self, devices: Sequence[Device]) -> None:
-        self.devices = devices
-        self.values: List[Tuple[Tuple[Value, ...], int]] = [(tuple(map(value_at_start, devices)), 0)]
-        self.position = 0
-
-    def take(self, answer: str, rows: Sequence[str]) -> None:
-        """Takes a moment: lets the devices look after a turn, or goes where a BACK or FORWARD leads."""
+def values_at(devices: Sequence[Device], moments: Iterable[Tuple[str, List[str]]]) -> Iterator[Tuple[Value, ...]]:
+    """Yields the values of devices at each moment: after a turn they look, and a BACK or FORWARD leads to those that they had."""
+    known, position = [(tuple(map(value_at_start, devices)), 0)], 0  # with the turns in effect, by how many actions are in effect
+    for answer, rows in moments:
         kind, *rest = answer.split()
-        if kind in MOVES:
-            self.position += MOVES[kind] * int(rest[0], 8)
-            return
-        values, turn = self.values[self.position]
+        values, turn = known[position]
         if rows:
             turn += 1
-            values = tuple(looked(device, value, channel_of(rows[device.channel]), turn)[0] for device, value in zip(self.devices, values))
-        self.position += 1
-        self.values[self.position:] = [(values, turn)]
+            values = tuple(looked(device, value, channel_of(rows[device.channel]), turn)[0] for device, value in zip(devices, values))
+        position += MOVES[kind] * int(rest[0], 8) if kind in MOVES else 1
+        if kind not in MOVES:
+            known[position:] = [(values, turn)]
+        yield known[position][0]
 
 
 def pictures_of(words: Sequence[str], devices: Sequence[Device], lines: Sequence[str]) -> Dict[str, Any]:
     """Returns what the page has to know of the pictures of devices, while it performs the lines of a script for the simulator alone: of
     each device which lines are seen from which moment on."""
-    seen = Devices([device for device in devices if type(device).picture is not Device.picture])
+    seen = [device for device in devices if type(device).picture is not Device.picture]
     numbers: Dict[str, int] = {}
-    shown: List[List[Tuple[int, List[int]]]] = [[] for _ in seen.devices]
+    shown: List[List[Tuple[int, List[int]]]] = [[] for _ in seen]
     states: List[Any] = [None] * len(shown)
     with Console(words) as console:
-        for moment, (answer, rows) in enumerate(chain([("BACK 0", [])], moments_of(console, lines)) if shown else ()):
+        for moment, values in enumerate(values_at(seen, chain([("BACK 0", [])], moments_of(console, lines))) if shown else ()):
             if moment >= MOST_MOMENTS:
                 raise Failure(f"with devices a film has at most {MOST_MOMENTS:o} (octal) moments, and this run has more")
-            seen.take(answer, rows)
-            for at, (device, value) in enumerate(zip(seen.devices, seen.values[seen.position][0])):
+            for at, (device, value) in enumerate(zip(seen, values)):
                 if value.state is states[at] and moment:
                     continue
                 states[at] = value.state
                 text = [numbers.setdefault(line, len(numbers)) for line in (drawn(device, value.state, svg) or "").splitlines()]
                 if not shown[at] or shown[at][-1][1] != text:
                     shown[at].append((moment, text))
-    parts = [{"name": type(device).__name__, "channel": device.channel, "shown": own} for device, own in zip(seen.devices, shown)]
+    parts = [{"name": type(device).__name__, "channel": device.channel, "shown": own} for device, own in zip(seen, shown)]
     table = {"devices": parts, "lines": list(numbers), "script": sum(len(line) + 1 for line in lines)}
     return {"pictures": {**table, "moments": moment + 1}} if parts else {}

@@ -5,9 +5,10 @@ from ...run.attached import names_of
 from ...run.tape import NOTE_OF_DEVICE
 from ...shell.command_line import Failure, add_script, arguments, bytes_of, octal, simulator
 from ...shell.device_options import add_devices, devices_of, script_with
+from ...shell.installation import page_module
 from ...shell.script import performed
-from ...shell.text_files import lines_of
-from .page import Files, heading, module_bytes, of_symbols, options, page, run, tables, write_page
+from ...shell.text_files import lines_of, write_whole
+from .page import Files, heading, of_symbols, options, page, run, tables
 from .pictures import pictures_of
 
 DESCRIPTION = """Makes a film of a run: one web page with the proved simulator in it, which needs no network and no server. Opening it
@@ -29,8 +30,8 @@ def main():
     symbols, devices, words = symbols_of(asked), devices_of(asked), simulator(asked)
     loading = "".join(f"{line}\n" for line in symbols.loading(()))
     script = loading.encode() + bytes_of(asked.script)
-    own = device_names(lines_of(script.decode("latin-1")))
-    silent = [device for device in devices if names_of([device])[device.channel] not in own]  # no reply of theirs is in the script
+    saved = {note[1] for note in map(NOTE_OF_DEVICE.fullmatch, lines_of(script.decode("latin-1"))) if note}  # names of devices
+    silent = [device for device in devices if names_of([device])[device.channel] not in saved]  # no reply of theirs is in the script
     if silent:
         script, refusals = script_with(words, silent, script)
     lines = lines_of(script.decode("latin-1"))
@@ -42,10 +43,5 @@ def main():
     files = Files(script, part(asked.deck), part(asked.panel))
     about = {**tables(), **options(asked, names_of(devices)), **run(asked, files), **of_symbols(symbols), "opens": asked.around,
              **pictures_of(words, devices, lines)}
-    write_page(asked.output, page(heading(asked.title, asked.script), module_bytes(), about))
+    write_whole(asked.output, page(heading(asked.title, asked.script), page_module(), about).encode("utf-8"))
     return (refusals if silent else done.refusals).status()
-
-
-def device_names(lines):
-    """Returns the names of the devices whose replies are in a script, as a saved one has them."""
-    return {note[1] for note in map(NOTE_OF_DEVICE.fullmatch, lines) if note}

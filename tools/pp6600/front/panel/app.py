@@ -4,28 +4,27 @@ opens a page."""
 import os
 import re
 import time
-from contextlib import closing
 from functools import partial
 
 from ...failure import Failure
 from ...language.calls import calls, sentence
 from ...language.names import AllSymbols
 from ...run.device import DeviceFailure
-from ...run.forms import KINDS
+from ...run.forms import KINDS, Place
 from ...run.line_search import turn_of_line_before, turn_of_next_line
 from ...run.moments import text_of
 from ...run.searches import Stopped, last_before, next_found
-from ...run.session import REPLAYED, Session
+from ...run.session import REPLAYED
 from ...shell.keyboard import FIRST_WORDS, card
 from ..keys import ARROWS, PAGES, PANEL
-from .keys import LINES, Facts, help_lines, to_turn
-from .origins import Origin, OriginPage
-from .page import Page
-from .pictures import PicturePage, devices_that
+from .key_lines import LINES, Facts, help_lines, to_turn
+from .origins import OriginPage
+from .picture_page import PicturePage, devices_that
 from .prompt import Prompt
 from .remarks import in_width, remarks
-from .screen import LEAST_COLUMNS, LEAST_ROWS, Shown, is_too_small, layout, log_lines, screen
-from .text import Line
+from .screen import LEAST_COLUMNS, LEAST_ROWS, ScreenContent, is_too_small, layout, log_lines, screen
+from .text import MarkedLine
+from .text_page import TextPage
 from .view import View
 
 MOST_COUNT_DIGITS = 10
@@ -36,7 +35,6 @@ MOVES = {*ARROWS.values(), *PAGES}  # actions that move the cursor
 PROMPTS = {"line": "> ", "place": "go to ", "turn": "turn ", "until": "until ", "back-until": "back until ", "search": "search ",
            "save": "w ", "keys": "keys "}
 NEW_ACTIONS = (["SET"], ["STEP"], ["WATCH"], ["UNWATCH"], ["DEADSTART"])  # the first words of their lines
-AFTER_FAULT = {"save", "log", "help", "next-part", "part-before", *MOVES}  # actions that need no simulator
 
 
 def words_to_find(text, kind):
@@ -58,7 +56,6 @@ class Panel:
         self.typed = {kind: [] for kind in PROMPTS}
         self.typed["back-until"] = self.typed["until"]
         self.asked = []  # lines that would discard what is ahead
-        self.fault = None  # why the simulator is no longer there
         self.is_asked_to_quit = self.is_ended = False
         self.show = lambda: None  # draws the screen
         self.is_stopped = lambda: False  # by the operator
@@ -70,7 +67,7 @@ class Panel:
         whole = self.guard(self.session.perform_script, lines, self.stops)
         if whole and turn is not None:
             self.go_to_turn(f"{turn:o}")
-        elif whole is not None and self.fault is None:
+        elif whole is not None:
             self.message = "" if whole else f"the script was stopped after {len(self.session.sent)} (decimal) lines"
         self.see()
 
@@ -103,24 +100,19 @@ class Panel:
         return symbols if symbols and symbols.is_source else None
 
     def see(self):
-        """Moves the windows to their cursors, and sees that what they show is read."""
-        if is_too_small(self.columns, self.rows):
-            return
-        session, view = self.session, self.view
-        view.source = self.source() if view.as_source else None
-        rows = self.memory_rows()
-        view.scroll(session.state, rows, session.size)
-        if self.fault is None:
-            self.guard(session.look_at_central, view.central_top, rows)
+        """Moves the windows to their cursors."""
+        if not is_too_small(self.columns, self.rows):
+            self.view.source = self.source() if self.view.as_source else None
+            self.view.scroll(self.session.state, self.memory_rows(), self.session.size)
 
     def screen(self):
         if self.page:
             return self.page.screen(self.columns, self.rows)
         session = self.session
-        shown = Shown(session.state, session.before, self.view, session.history.turns,
-                      session.history.kept, session.history.to_redo, session.size, session.log, self.message,
-                      self.prompt and self.prompt.shown(), self.symbols)
-        return screen(shown, self.columns, self.rows)
+        content = ScreenContent(session.state, session.before, self.view, session.history.turns,
+                                session.history.kept, session.history.to_redo, session.size, session.log, self.message,
+                                self.prompt and self.prompt.shown(), self.symbols)
+        return screen(content, self.columns, self.rows)
 
     # ---- keys
 
@@ -142,7 +134,7 @@ class Panel:
         """Performs a key outside a line and a page."""
         count, self.count, self.message = self.count, "", ""
         asked, self.is_asked_to_quit = self.is_asked_to_quit, False
-        action, changes = PANEL.get(key, ""), f"{self.view.place()} changes"
+        action, changes, times = PANEL.get(key, ""), f"{self.view.place()} changes", int(count or "1", 8)
         typed = {"again": ("until", ""), "back-again": ("back-until", ""), "next-change": ("until", changes),
                  "change-before": ("back-until", changes), "next-line": ("next-line", count or "1"),
                  "line-before": ("line-before", count or "1"), **({"turn": ("turn", count)} if count else {})}
@@ -152,14 +144,16 @@ class Panel:
             self.message = "" if count else "q quits, ? shows all keys"
         elif action == "quit":
             self.quit(asked)
-        elif self.fault and action not in AFTER_FAULT:
-            self.message = self.last_words()
         elif action in LINES:
-            self.send_action(action, int(count or "1", 8))
+            self.send_action(action, times)
         elif action in typed:
             self.take_line(*typed[action])
+        elif action in MOVES:
+            self.view.move(action, times, self.memory_rows(), self.session.size)
+        elif action in PROMPTS:
+            self.prompt = Prompt(action, PROMPTS[action], self.typed[action])
         elif action:
-            self.look(action, int(count or "1", 8))
+            self.look(action, times)
         elif key != "Enter":
             self.message = f"no key {key}; ? shows all keys"
 
@@ -176,23 +170,16 @@ class Panel:
     def look(self, action, count):
         """Performs an action that sends nothing."""
         view = self.view
-        simple = {
-            "next-part": lambda: view.next_pane(1), "part-before": lambda: view.next_pane(-1), "follow": view.follow,
-            "processor-before": lambda: view.choose_processor(view.processor - count),
-            "next-processor": lambda: view.choose_processor(view.processor + count),
-            "processor-in-slot": lambda: view.choose_processor(self.session.state.slot), "instructions": view.toggle_program,
-            "display-code": view.toggle_display_code, "source": self.toggle_source, "central": self.toggle_central,
-            "origin": self.show_origin, "calls": self.show_calls, "pictures": self.show_pictures, "log": self.show_log,
-            "help": self.show_keys}
-        if action in simple:
-            simple[action]()
-        elif action in MOVES:
-            view.move(action, count, self.memory_rows(), self.session.size)
-        elif action in PROMPTS:
-            self.prompt = Prompt(action, PROMPTS[action], self.typed[action])
+        {"next-part": lambda: view.next_pane(1), "part-before": lambda: view.next_pane(-1), "follow": view.follow,
+         "processor-before": lambda: view.choose_processor(view.processor - count),
+         "next-processor": lambda: view.choose_processor(view.processor + count),
+         "processor-in-slot": lambda: view.choose_processor(self.session.state.slot), "instructions": view.toggle_program,
+         "display-code": view.toggle_display_code, "source": self.toggle_source, "central": self.toggle_central,
+         "origin": self.show_origin, "calls": self.show_calls, "pictures": self.show_pictures, "log": self.show_log,
+         "help": self.show_keys}[action]()
 
     def show_keys(self):
-        self.page = Page("The keys of the panel", [Line(text) for text in help_lines()])
+        self.page = TextPage("The keys of the panel", [MarkedLine(text) for text in help_lines()])
 
     def toggle_source(self):
         """Shows the source, or the cells."""
@@ -223,20 +210,13 @@ class Panel:
     # ---- lines
 
     def guard(self, function, *words):
-        """Calls a function that needs the simulator, and returns what it returns, or None if the simulator or a device fails."""
+        """Calls a function that makes turns, and returns what it returns, or None if a device fails."""
         try:
             return function(*words)
         except DeviceFailure as failure:
-            self.guard(self.session.look_again)
-            self.message = self.message if self.fault else str(failure)
-        except Failure as failure:
-            self.fault = str(failure)
-            self.message = self.last_words()
-        return None
-
-    def last_words(self):
-        """Returns what can still be done after the simulator failed, and why it did."""
-        return f"w FILE saves what was sent, q quits: {self.fault}"
+            self.session.look_again()
+            self.message = str(failure)
+            return None
 
     def send_action(self, action, count):
         session, view = self.session, self.view
@@ -246,7 +226,7 @@ class Panel:
     def send(self, lines):
         """Sends lines, but asks before the first of them discards what is ahead, unless it will be refused."""
         ahead = self.session.history.to_redo
-        if ahead and lines[0].upper().split()[:1] in NEW_ACTIONS and not self.guard(self.session.would_refuse, lines[0]):
+        if ahead and lines[0].upper().split()[:1] in NEW_ACTIONS and not self.session.would_refuse(lines[0]):
             self.asked = lines
             self.message = f"{lines[0]} discards the {ahead:o} actions ahead: y sends it, any other key does not"
         else:
@@ -264,9 +244,8 @@ class Panel:
         """Sends lines, and shows what is to be said about them."""
         self.shown_at = time.monotonic()
         outcome = self.guard(self.session.perform, lines, self.stops)
-        said = self.guard(remarks, self.session, outcome, self.view.place(), self.symbols) if outcome else None
-        if said is not None:
-            self.message = in_width(said, self.columns)
+        if outcome:
+            self.message = in_width(remarks(self.session, outcome, self.view.place(), self.symbols), self.columns)
 
     # ---- a line that is typed
 
@@ -319,9 +298,8 @@ class Panel:
         """Goes to a turn, and shows what is to be said of it."""
         replays = self.session.simulator.replays
         self.guard(self.session.to_turn, turn)
-        if self.fault is None:
-            more = [f"{REPLAYED} in a fresh simulator"] if self.session.simulator.replays > replays else []
-            self.message = in_width(said + more, self.columns)
+        more = [f"{REPLAYED} in a fresh simulator"] if self.session.simulator.replays > replays else []
+        self.message = in_width(said + more, self.columns)
 
     def go_to_found(self, find, text):
         """Goes to the next turn at which a condition comes to hold, or the last one before; without a text, that typed before."""
@@ -352,13 +330,13 @@ class Panel:
             raise Stopped
 
     def show_log(self):
-        self.page = Page("All lines and answers", log_lines(self.session.log, None), at_end=True)
+        self.page = TextPage("All lines and answers", log_lines(self.session.log, None), at_end=True)
 
     def show_origin(self):
         """Opens the page of where the number at the cursor came from."""
         self.shown_at = time.monotonic()
         try:
-            self.page = OriginPage(Origin(self.session, self.view.place(), self.searched, self.symbols))
+            self.page = OriginPage(self.session, Place.parse(self.view.place()), self.searched, self.symbols)
         except Failure as failure:  # the operator's, or that of the search's own simulator
             self.message = str(failure)
 
@@ -368,9 +346,11 @@ class Panel:
         if source is None:
             self.message = self.no_source()
             return
-        with closing(Session.of_tape(self.session.simulator.words, self.session.history.in_effect())) as run:
-            lines = [Line(sentence(run, number, call, self.symbols)) for call in calls(run, number, source, run.tape.end)]
-        self.page = Page(f"The subroutines that PP {number:02o} is in", lines or [Line("none that was called and has not returned")])
+        with self.session.search() as run:
+            found = calls(run, number, source, self.session.simulator.position)
+            lines = [MarkedLine(sentence(run, number, call, self.symbols)) for call in found]
+        none = [MarkedLine("none that was called and has not returned")]
+        self.page = TextPage(f"The subroutines that PP {number:02o} is in", lines or none)
 
     def show_pictures(self):
         page = PicturePage(self)
@@ -388,15 +368,16 @@ class Panel:
             raise Failure(f"a key would discard the {session.history.to_redo:o} actions ahead: > goes to the newest")
         self.guard(session.tell, devices[0][0], text.replace("\\r", "\r"))
 
-    def searched(self, turn, turns):
+    def searched(self, position):
         """Shows now and then how far back a search is, and ends it if the operator stops it."""
+        turn, turns = self.session.simulator.tape.turn(position), self.session.history.turns
         self.report(f"searched back to turn {turn:o} of {turns:o}; Ctrl-C stops")
         if self.is_stopped():
             raise Stopped
 
     def go_before(self, page):
         """Goes to before the action that wrote the number of the step chosen on a page."""
-        count = page.origin.undone(page.chosen)
+        count = page.undone()
         if count is None:
             self.message = f"nothing wrote it: {page.lines[page.at].text.strip()}"
         else:
@@ -410,11 +391,11 @@ class Panel:
             word, *more = words_to_find(text, "C")
             if more:
                 raise Failure("in central memory one word is searched at a time")
-            found = self.guard(session.find_central, word, view.word + 1)
+            found = session.find_central(int(word, 8), view.word + 1)
         else:
             found = session.state.memories[view.processor].find(words_to_find(text, "M"), view.cell + 1)
         if found is None:
-            self.message = self.message or f"{text} is not there"
+            self.message = f"{text} is not there"
         elif view.pane == "central":
             view.word = found
         else:

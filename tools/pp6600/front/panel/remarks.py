@@ -3,8 +3,8 @@
 from ...run.forms import Place, hit_of
 from ...run.reasons import reason
 from ...run.session import REPLAYED
+from .logged_session import kind_of
 from .next_change import next_change
-from .session import kind_of
 
 # What a key does about a refusal.
 ADVICE = {"ERR 07": "< goes back to the beginning", "ERR 10": "[ goes to older changes", "ERR 15": "t watches the number at the cursor",

@@ -1,5 +1,5 @@
-"""The memory of the chosen processor by rows: an instruction each, or as the source: a row for each instruction, with the line that it is of,
-or was, and before it the lines without words, as notes. `Source.line_of` says whose line a cell is. A cell of no line has its own row."""
+"""The memory of the chosen processor by rows: an instruction each, or as the source. Then a row has the line that it is of, or was, and
+before it are the lines without words, as notes. `Source.line_of` says whose line a cell is. A cell of no line has its own row."""
 
 import functools
 import os
@@ -10,7 +10,7 @@ from ...language.source.statements import TAB, Line as SourceText
 from ...run.disassembly import Row, rows_above, rows_around, rows_from
 from ...run.forms import CELLS
 from ...run.sentences import sentence
-from .text import CURSOR, HEAD, HERE, OVERWRITTEN, WATCHED, Line
+from .text import CURSOR, HEAD, HERE, OVERWRITTEN, WATCHED, MarkedLine
 
 if TYPE_CHECKING:
     from ...language.sources import CellLine
@@ -119,7 +119,7 @@ def cells_line(shown, cells, row):
     view, was = shown.view, shown.before.memories[shown.view.processor]
     watched = shown.state.watched_cells(view.processor)
     sign = sign_of(row, cells.processor.p, cells.back, watched)
-    line = Line(sign, HERE if sign in ">r" else None).add(f"{row.address:04o} ")
+    line = MarkedLine(sign, HERE if sign in ">r" else None).add(f"{row.address:04o} ")
     for at, word in enumerate(row.words):
         address = (row.address + at) % CELLS
         cursor = CURSOR if view.pane == "memory" and address == view.cell else None
@@ -145,14 +145,14 @@ def source_line(line, entry, is_present, digits, width):
     mark, mark_of_note = HERE if is_present else None, OVERWRITTEN if cell and cell.second is not None else None
     line.fit(TEXT_FROM).add(f"{'>' if is_present else ' '}{source.number:{digits}}{'+' if source.call else ' '}", mark)
     room = width - len(line.text) - len(note)
-    return line.add_line(Line(text, mark).fit(min(len(text), room))).add(note, mark_of_note)
+    return line.add_line(MarkedLine(text, mark).fit(min(len(text), room))).add(note, mark_of_note)
 
 
 def entry_line(shown, cells, entry, width):
     """Returns the line of an entry."""
     row, line, source = entry.row, entry.line, cells.source
     if entry.note or line and line.is_there:
-        begun = Line() if entry.note else cells_line(shown, cells, row)
+        begun = MarkedLine() if entry.note else cells_line(shown, cells, row)
         return source_line(begun, entry, not entry.note and row.address == cells.here, notes_of(source).digits, width)
     was = f"was {os.path.basename(source.path)}:{line.number}" if line else ""
     return instruction_line(shown, cells, row, was, OVERWRITTEN if was else None)
@@ -162,7 +162,7 @@ def head_line(shown, cells):
     """Returns the line above the rows: what they are, and where the processor is."""
     number, source = shown.view.processor, cells.source
     at = shown.symbols.name(number, cells.processor.registers["P"]) if cells.back is None else ""
-    head = Line(f"PP {number:02o}  {'SOURCE' if source else 'INSTRUCTIONS'}", HEAD).add(f"   P is {at}" if at else "")
+    head = MarkedLine(f"PP {number:02o}  {'SOURCE' if source else 'INSTRUCTIONS'}", HEAD).add(f"   P is {at}" if at else "")
     head.add("" if cells.back is None else f"   in a block; returns to {cells.back:04o}")
     return head.add(f"   {os.path.basename(source.path)}, lines in decimal" if source else "")
 
@@ -177,4 +177,4 @@ def rows_pane(shown, count, width):
 def sentence_line(shown):
     """Returns what the next turn of the chosen processor does."""
     number, state = shown.view.processor, shown.state
-    return Line(f"PP {number:02o} {sentence(state.processors[number], state.memories[number].number, state.channels)}")
+    return MarkedLine(f"PP {number:02o} {sentence(state.processors[number], state.memories[number].number, state.channels)}")

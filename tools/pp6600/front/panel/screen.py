@@ -8,7 +8,7 @@ from ...run.forms import CELLS, ROW, Place
 from ...run.state import State
 from .rows_pane import WIDTH, rows_pane, sentence_line
 from .text import (
-    CHANGED, CHOSEN, CURSOR, HEAD, HERE, REFUSED, SLOT, TITLE, WATCHED, Line, beside, in_height)
+    CHANGED, CHOSEN, CURSOR, HEAD, HERE, REFUSED, SLOT, TITLE, WATCHED, MarkedLine, beside, in_height)
 from .view import View, central_top, memory_top
 
 LEAST_COLUMNS, LEAST_ROWS = 80, 24
@@ -23,7 +23,7 @@ HINTS_OF_SOURCE = "N next line  P line before  s step  b back  m cells  C centra
 
 
 @dataclass
-class Shown:
+class ScreenContent:
     """All that a screen shows. `before` is the state before the last action; the log has lines with their answers."""
 
     state: State
@@ -75,10 +75,8 @@ def layout(columns, rows, is_by_rows=False):
 
 
 def are_zero(memory, first, count):
-    """Returns whether so many words from the first cell on are 0000. It looks at rows, for there may be thousands of cells."""
-    last, before = first + count, first % ROW
-    words = "".join(row[4:] for row in (memory.rows * 2)[first // ROW:last // ROW + 1])
-    return not words[5 * before:5 * (before + count)].strip(" 0")
+    """Returns whether so many words from the first cell on are 0000."""
+    return not any((memory.numbers * 2)[first:first + count])
 
 
 def is_idle(now, was, number):
@@ -99,7 +97,7 @@ def processor_line(shown, number):
     now, was = state.processors[number], before.processors[number]
     memory, memory_before = state.memories[number], before.memories[number]
     chosen = number == view.processor
-    line = Line(">" if state.slot == number else " ", SLOT)
+    line = MarkedLine(">" if state.slot == number else " ", SLOT)
     line.add(f"{number:02o}", CHOSEN if chosen else None).add(" ")
 
     def add_register(name, is_new=True):
@@ -118,7 +116,7 @@ def processor_line(shown, number):
 
 
 def processor_lines(shown):
-    head = Line(" PP P    AT P          A      Q    PHASE  WAITS FOR", HEAD)
+    head = MarkedLine(" PP P    AT P          A      Q    PHASE  WAITS FOR", HEAD)
     return [head] + [processor_line(shown, number) for number in range(len(shown.state.processors))]
 
 
@@ -126,18 +124,18 @@ def channel_part(shown, number):
     """Returns a channel: its number, state and register."""
     now, was = shown.state.channels[number], shown.before.channels[number]
     cursor = shown.cursor_in("channels") if number == shown.view.channel else None
-    line = Line(f"{now.number} ").add_number(now.state, was.state)
+    line = MarkedLine(f"{now.number} ").add_number(now.state, was.state)
     return line.add_number(now.register, was.register, cursor)
 
 
 def device_lines(shown):
     """Returns the card reader and the printer."""
     now, was = shown.state.reader, shown.before.reader
-    reader = Line(f"CR {now.channel} ").add_number(now.mode, was.mode)
+    reader = MarkedLine(f"CR {now.channel} ").add_number(now.mode, was.mode)
     reader.fit(COLUMN_FROM).add("COLUMN ").add_number(now.column, was.column)
-    card = Line(f"{'':6}CARD ").add_number(now.card, was.card).add(f"OF {now.cards}")
+    card = MarkedLine(f"{'':6}CARD ").add_number(now.card, was.card).add(f"OF {now.cards}")
     now, was = shown.state.printer, shown.before.printer
-    printer = Line(f"LP {now.channel} ").add_number(now.mode, was.mode)
+    printer = MarkedLine(f"LP {now.channel} ").add_number(now.mode, was.mode)
     return [reader, card, printer.fit(COLUMN_FROM).add("COLUMN ").add_number(now.column, was.column)]
 
 
@@ -147,7 +145,7 @@ def channel_lines(shown):
     half = (len(channels) + 1) // 2
     clock = channels[-1].add("clk")
     rows = beside(channels[:half], channels[half:-1] + [clock], 13)
-    return [Line("CHANNELS", HEAD)] + rows + device_lines(shown)
+    return [MarkedLine("CHANNELS", HEAD)] + rows + device_lines(shown)
 
 
 def memory_row(shown, first):
@@ -156,7 +154,7 @@ def memory_row(shown, first):
     memory, was = shown.state.memories[view.processor], shown.before.memories[view.processor]
     here = int(shown.state.processors[view.processor].registers["P"], 8)
     watched = shown.state.watched_cells(view.processor)
-    line = Line(f"{first:04o}")
+    line = MarkedLine(f"{first:04o}")
     for address in range(first, first + ROW):
         cursor = shown.cursor_in("memory") if address == view.cell else None
         is_watched = address in watched
@@ -169,7 +167,7 @@ def memory_row(shown, first):
 def memory_lines(shown, rows):
     """Returns the cells around P or the cursor."""
     view = shown.view
-    head = Line(f"PP {view.processor:02o}", HEAD)
+    head = MarkedLine(f"PP {view.processor:02o}", HEAD)
     for digit in range(ROW):
         head.add(f"{digit:4o}  ", HEAD)
     head.fit(CENTRAL_FROM - 1)
@@ -180,17 +178,17 @@ def memory_lines(shown, rows):
 def central_line(shown, address):
     """Returns a central word: a star is before one that the last action changed, w before a watched one."""
     view = shown.view
-    now, was = shown.state.central.get(address), shown.before.central.get(address)
-    is_watched = Place("C", (address,)) in shown.state.watched
-    changed = CHANGED if now and was and now != was else None
-    line = Line(f"{address:06o}").add("*" if changed else "w" if is_watched else " ", changed)
+    place = Place("C", (address,))
+    is_watched, now = place in shown.state.watched, shown.state.number_at(place)
+    changed = CHANGED if now != shown.before.number_at(place) else None
+    line = MarkedLine(f"{address:06o}").add("*" if changed else "w" if is_watched else " ", changed)
     cursor = shown.cursor_in("central") if address == view.word else None
-    return line.add(now or "", changed, cursor, WATCHED if is_watched else None)
+    return line.add(now, changed, cursor, WATCHED if is_watched else None)
 
 
 def central_lines(shown, rows):
     top = central_top(shown.view.central_top, shown.view.word, rows, shown.size)
-    return [Line("CENTRAL MEMORY", HEAD)] + [central_line(shown, top + row) for row in range(rows)]
+    return [MarkedLine("CENTRAL MEMORY", HEAD)] + [central_line(shown, top + row) for row in range(rows)]
 
 
 def memory_part(shown, rows, width):
@@ -213,13 +211,12 @@ def machine_lines(shown, rows, width):
 
 def watch_part(shown, place):
     """Returns a watched place with its number."""
-    now = shown.state.number_at(place)
-    return Line(f"{place.text} ").add_number(now or "", shown.before.number_at(place) if now else None)
+    return MarkedLine(f"{place.text} ").add_number(shown.state.number_at(place), shown.before.number_at(place))
 
 
 def watch_rows(shown, width, rows):
     """Returns the watches in at most so many rows, several in a row."""
-    line = Line("WATCHES ", HEAD)
+    line = MarkedLine("WATCHES ", HEAD)
     lines = [line]
     watches = shown.state.watched
     for number, place in enumerate(watches):
@@ -228,7 +225,7 @@ def watch_rows(shown, width, rows):
             if len(lines) == rows:
                 line.fit(width - 10).add(f" {len(watches) - number:o} more")
                 break
-            line = Line(" " * 8)
+            line = MarkedLine(" " * 8)
             lines.append(line)
         line.add_line(part)
     if not watches:
@@ -238,12 +235,12 @@ def watch_rows(shown, width, rows):
 
 def paper_lines(shown, rows):
     """Returns the end of the paper; the last line is `/` and not `|` if it has no line end."""
-    return in_height([Line(text) for text in shown.state.printer.paper[-rows:]] or [Line("none")], rows)
+    return in_height([MarkedLine(text) for text in shown.state.printer.paper[-rows:]] or [MarkedLine("none")], rows)
 
 
 def paper_head(shown):
     """Returns the number of symbols on the paper."""
-    return Line("PAPER ", HEAD).add_number(shown.state.printer.symbols, shown.before.printer.symbols)
+    return MarkedLine("PAPER ", HEAD).add_number(shown.state.printer.symbols, shown.before.printer.symbols)
 
 
 def answer_mark(answer):
@@ -254,19 +251,19 @@ def log_rows(log, rows):
     """Returns the last lines, each with its answer beside it."""
     lines = []
     for typed, answers in log[-rows:] if rows else []:
-        line = Line(f"> {typed}").add("   ")
+        line = MarkedLine(f"> {typed}").add("   ")
         line.fit(max(len(line.text), 24)).add("; ".join(answers), answer_mark(answers[0] if answers else ""))
         lines.append(line)
     lines = lines[max(len(lines) - rows, 0):]
-    return [Line() for _ in range(rows - len(lines))] + lines
+    return [MarkedLine() for _ in range(rows - len(lines))] + lines
 
 
 def log_lines(log, rows):
     """Returns the last lines and answers, each in a row of its own; all of them if there is no number of rows."""
     lines = []
     for typed, answers in log if rows is None else log[-rows:]:
-        lines.append(Line(f"> {typed}"))
-        lines += [Line(answer, answer_mark(answer)) for answer in answers]
+        lines.append(MarkedLine(f"> {typed}"))
+        lines += [MarkedLine(answer, answer_mark(answer)) for answer in answers]
     return lines if rows is None else lines[-rows:]
 
 
@@ -277,17 +274,17 @@ def title_line(shown, width):
     """Returns the line at the top."""
     left = f" TURN {shown.turn:o}  SLOT {shown.state.slot:02o}  KEPT {shown.kept:o}  AHEAD {shown.ahead:o}"
     right = f"cursor {shown.view.place()}  all octal  ? help "
-    return Line(left + right.rjust(width - len(left)), TITLE).fit(width)
+    return MarkedLine(left + right.rjust(width - len(left)), TITLE).fit(width)
 
 
 def bottom_line(shown):
     """Returns the line at the bottom, and the column of the terminal's cursor in it if there is a prompt."""
     if shown.prompt:
         asked, text, place = shown.prompt
-        return Line(asked, HEAD).add(text), len(asked) + place
+        return MarkedLine(asked, HEAD).add(text), len(asked) + place
     if shown.message:
-        return Line(shown.message, REFUSED if shown.message.startswith("ERR ") else None), None
-    return Line(HINTS if shown.view.source is None else HINTS_OF_SOURCE), None
+        return MarkedLine(shown.message, REFUSED if shown.message.startswith("ERR ") else None), None
+    return MarkedLine(HINTS if shown.view.source is None else HINTS_OF_SOURCE), None
 
 
 def narrow_lines(shown, columns, parts):
@@ -301,10 +298,10 @@ def narrow_lines(shown, columns, parts):
 def wide_lines(shown, columns, parts):
     """Returns the lines between top and bottom, with watches, paper and the lines typed at the right."""
     left = LEFT if shown.view.shows_central else max(LEFT, min(MOST_LEFT, columns - LEAST_RIGHT))
-    watches = [watch_part(shown, place) for place in shown.state.watched] or [Line("none")]
-    right = [Line("WATCHES", HEAD)] + watches + [Line(), paper_head(shown)] + paper_lines(shown, parts.paper)
+    watches = [watch_part(shown, place) for place in shown.state.watched] or [MarkedLine("none")]
+    right = [MarkedLine("WATCHES", HEAD)] + watches + [MarkedLine(), paper_head(shown)] + paper_lines(shown, parts.paper)
     height = parts.memory + MACHINE_ROWS + int(shown.view.is_by_rows) - len(right) - 1
-    right += [Line("LINES", HEAD)] + in_height(log_lines(shown.log, height), height)
+    right += [MarkedLine("LINES", HEAD)] + in_height(log_lines(shown.log, height), height)
     return beside(machine_lines(shown, parts.memory, left), right, left + 2)
 
 
@@ -335,9 +332,9 @@ def is_too_small(columns, rows):
 def small_screen(columns, rows):
     """Returns what a terminal shows that is too small."""
     words = f"The panel needs {LEAST_COLUMNS} columns and {LEAST_ROWS} lines (decimal). q quits.".split()
-    lines = [Line()]
+    lines = [MarkedLine()]
     for word in words:
         if len(lines[-1].text) + len(word) >= columns:
-            lines.append(Line())
+            lines.append(MarkedLine())
         lines[-1].add(f"{word} ")
     return Screen([line.fit(columns) for line in in_height(lines, rows)], (0, 0))

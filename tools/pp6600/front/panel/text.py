@@ -19,7 +19,7 @@ REFUSED = "refused"
 CUT, CUT_IN_ASCII = "\u2026", ">"  # the last character of a text that is cut
 
 
-class Line:
+class MarkedLine:
     """A line of text. A mark has its first column, the column after its last one, and its kind."""
 
     def __init__(self, text="", *marks):
@@ -66,11 +66,11 @@ class Line:
 def beside(left, right, column):
     """Returns lines with the right part from a column on."""
     height = max(len(left), len(right))
-    left = left + [Line() for _ in range(height - len(left))]
-    right = right + [Line() for _ in range(height - len(right))]
+    left = left + [MarkedLine() for _ in range(height - len(left))]
+    right = right + [MarkedLine() for _ in range(height - len(right))]
     return [first.fit(column).add_line(second) for first, second in zip(left, right)]
 
 
 def in_height(lines, height):
     """Returns so many lines, the first ones; blank lines follow if there are fewer."""
-    return lines[:height] + [Line() for _ in range(height - len(lines))]
+    return lines[:height] + [MarkedLine() for _ in range(height - len(lines))]

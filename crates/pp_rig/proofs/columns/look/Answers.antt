@@ -1,7 +1,6 @@
-use Rattle.std.proofs.Common.{◌≡◌, ◌∙◌, ◌+◌, ◌*◌, ap, arith, length, refl, rules, sym, take}
-use Rattle.pp_machine.specs.Prelude.{number}
-use Rattle.pp_rig.proofs.TurnRuns.{ends_with_hit, ends_without_hit, machine_more, moved_more, places_later, ran_more, ran_none, rows_after}
-use Rattle.pp_rig.specs.Columns.{row, rows_of}
+use Rattle.std.proofs.Common.{◌≡◌, ◌∙◌, ◌+◌, ◌*◌, arith, length, refl, rules}
+use Rattle.pp_rig.proofs.TurnRuns.{ends_with_hit, machine_more, moved_more, places_later, ran_more, ran_none, rows_after}
+use Rattle.pp_rig.specs.Columns.{rows_of}
 use Rattle.pp_rig.proofs.columns.look.Goals as goal
 
 pub loop-turns-init : goal.loop-turns-init

@@ -1,7 +1,6 @@
-use Rattle.std.proofs.Common.{◌≡◌, ◌+◌, ◌++◌, [], ◌∷◌, All, ap, get_or, map, refl, rules, take}
+use Rattle.std.proofs.Common.{refl, rules}
 use Rattle.std.proofs.lemmas.List.{map-append, take_more}
 use Rattle.std.proofs.lemmas.List.Elements.{All-push}
-use Rattle.pp_machine.specs.Numbering.{place_at}
 use Rattle.pp_machine.specs.Prelude.{Has}
 use Rattle.pp_rig.proofs.columns.places_from.Goals as goal
 

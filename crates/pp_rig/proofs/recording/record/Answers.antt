@@ -1,10 +1,11 @@
-use Rattle.std.proofs.Common.{◌≡◌, ◌∙◌, ◌+◌, ◌<◌, ◌++◌, ap, arith, length, refl, replicate, rules, sym, take}
+use Rattle.std.proofs.Common.{◌≡◌, ◌∙◌, ◌<◌, ◌++◌, ap, length, refl, replicate, rules}
 use Rattle.std.proofs.lemmas.List.{take_more_set}
 use Rattle.pp_actions.specs.declared.action.Action.TheVariants.{Turn}
 use Rattle.pp_rig.proofs.Recordings.{moments_more, olds_more}
 use Rattle.pp_rig.proofs.TurnRuns.{ends_with_hit, moved_more, ran_more, ran_none}
 use Rattle.pp_rig.specs.Inner.ActionRecords.{old_values_of}
-use Rattle.pp_rig.specs.Recording.{moment_of, moments_of, numbered, olds_of}
+use Rattle.pp_machine.specs.Olds.{numbered}
+use Rattle.pp_rig.specs.Recording.{moment_of, moments_of, olds_of}
 use Rattle.pp_rig.specs.Stopping.{turned}
 use Rattle.pp_rig.proofs.recording.record.Goals as goal
 

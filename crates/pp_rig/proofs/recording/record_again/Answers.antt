@@ -4,7 +4,8 @@ use Rattle.pp_actions.specs.declared.action.Action.TheVariants.{Turn}
 use Rattle.pp_rig.proofs.Recordings.{ahead_following, forward_more, forward_none, moments_following, olds_following, performed_following, still_ahead}
 use Rattle.pp_rig.specs.Action.{next}
 use Rattle.pp_rig.specs.Inner.ActionRecords.{old_values_of}
-use Rattle.pp_rig.specs.Recording.{moment_of, moments_of, numbered, olds_of}
+use Rattle.pp_machine.specs.Olds.{numbered}
+use Rattle.pp_rig.specs.Recording.{moment_of, moments_of, olds_of}
 use Rattle.pp_rig.proofs.recording.record_again.Goals as goal
 
 pub loop-actions-init : goal.loop-actions-init

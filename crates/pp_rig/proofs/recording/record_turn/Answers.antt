@@ -1,4 +1,4 @@
-use Rattle.std.proofs.Common.{◌≡◌, ◌∙◌, ap, arith, length, refl, rules, sym}
+use Rattle.std.proofs.Common.{arith, refl}
 use Rattle.pp_actions.specs.declared.action.Action.TheVariants.{Turn}
 use Rattle.pp_history.specs.SessionLaws.{machine_at}
 use Rattle.pp_history.specs.SessionValue.{IsAt, after_act}

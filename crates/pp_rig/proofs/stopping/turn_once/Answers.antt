@@ -1,10 +1,10 @@
-use Rattle.std.proofs.Common.{◌≡◌, ◌∙◌, ap, arith, is_some}
-use Rattle.pp_actions.specs.Watches.{watches_of}
+use Rattle.std.proofs.Common.{◌∙◌, ◌≤◌, ap, arith, is_some, sym}
+use Rattle.pp_actions.specs.declared.action.Action.TheVariants.{Turn}
 use Rattle.pp_history.specs.SessionLaws.{machine_at}
-use Rattle.pp_rig.proofs.Turns.{turn-watches}
+use Rattle.pp_history.specs.SessionValue.{after_act}
+use Rattle.pp_rig.proofs.Runs.{newest_turn}
 use Rattle.pp_rig.specs.Rules.{rules}
-use Rattle.pp_rig.specs.Stopping.{after_turns}
-use Rattle.pp_rig.specs.Turn.{turn}
+use Rattle.pp_rig.specs.Stopping.{after_turns, hit_of}
 use Rattle.pp_rig.proofs.stopping.turn_once.Goals as goal
 
 pub returns-then-is_empty-clause-at : goal.returns-then-is_empty-clause-at
@@ -18,7 +18,6 @@ returns-clause-at c = c.act.ensures.at
 pub returns-clause-hit : goal.returns-clause-hit
 returns-clause-hit c =
     let (v, at) = c.has_session_value.ensures in
-    let s = c.args.session.now.machine in
-    let same : watches_of (turn s) ≡ watches_of s = grind (arith, turn-watches s) in
-    let hit = rw (← machine_at rules c.args.session.now v at, c.act.ensures.machine, same) at (c.newest_change.ensures v (c.act.ensures.at v at)) in
-    c.is_some.ensures ∙ ap is_some hit
+    let some : 1 ≤ v.capacity = omega (arith, c.capacity-capacity.ensures.at v at, c.capacity-capacity.ensures.in_range) in
+    c.newest_changed.ensures (after_act v Turn) (c.act.ensures.at v at) ∙ newest_turn v some
+    ∙ ap (λ s. is_some (hit_of s)) (sym (machine_at rules c.args.session.now v at))

@@ -6,46 +6,39 @@ const CIRCLE = 2.2, RING = 7.3, BOX_WIDTH = 7.6, BOX_HEIGHT = 1.75, BOX_APART = 
 const STATE_CLASSES = ["inactive", "empty", "full", "function"];
 const barrel = { folded: false, all: [], channels: [], used: new Set() }; // channels: those of all used ones that have room
 
-function foldBarrel() { barrel.folded = !barrel.folded; show(); }
-
 // The channels that the picture has: those with a device, and those that a turn has used or changed.
 function findChannels(first) {
   if (!first) barrel.used = new Set(Object.keys(film.devices).map(Number));
-  const { clock, words, states } = layout, { used } = barrel;
-  const note = (place) => {
-    if (place >= words && place < clock) used.add(place - words);
-    else if (place >= states && place < words) used.add(place - states);
-  };
-  for (let at = film.starts[first]; at < film.places.length; at++) note(film.places[at]);
-  for (const { name } of film.next) if (/^(AJM|IJM|FJM|EJM|IAN|IAM|OAN|OAM|ACN|DCN|FAN|FNC) /.test(name)) used.add(parseInt(name.slice(4), 8));
-  barrel.all = [...used].filter((c) => c <= CLOCK).sort((one, other) => one - other);
+  for (const place of film.places.subarray(film.starts[first])) if (channelAt(place) >= 0) barrel.used.add(channelAt(place));
+  for (const number of film.turned.subarray(first)) if (turning.isOfChannel((number % CELLS) >> 6)) barrel.used.add(number & 0o77);
+  barrel.all = [...barrel.used].filter((c) => c <= CLOCK).sort((one, other) => one - other);
+}
+
+// The channel of a place that is the state or the register of one, but of the clock; else -1.
+function channelAt(place) {
+  const { clock, words, states } = layout;
+  return place < states || place >= clock ? -1 : place - (place < words ? states : words);
 }
 
 // On a projector the boxes are no higher than the ring: first come the channels that this turn changed, then those for which one waits.
 function chooseChannels() {
-  const waited = Array.from({ length: PROCESSORS }, (_, n) => channelOf(nextOf(n).waits)), room = 2 * (RING + CIRCLE) - BOX_APART;
+  const waited = range(PROCESSORS).map((n) => parseInt(nextOf(n).waits, 8)), room = 2 * (RING + CIRCLE) - BOX_APART;
   const rank = (c) => (hasChanged(c) ? 0 : waited.includes(c) ? 1 : 2);
   let used = 0;
   const first = [...barrel.all].sort((one, other) => rank(one) - rank(other)).filter((c) => (used += heightOfChannel(c)) <= room);
   barrel.channels = isProjected() ? barrel.all.filter((c) => first.includes(c)) : barrel.all;
 }
 
-// The channel that a text of what is waited for begins with; no number if nothing is waited for.
-const channelOf = (waits) => parseInt(waits, 8);
-
 // The word that the turn of a moment moved over a channel: the channel, whether the processor put it there, and the word itself; or null.
 function wordMoved(moment) {
-  const { starts, places, whats } = film.writes;
-  for (let write = isTurn(moment) ? starts[moment] : starts[moment + 1]; write < starts[moment + 1]; write++) {
-    if (whats[write] & BY_DEVICE) continue;
-    const [source] = sourcesOf(write, 0), into = channelAt(places[write]), from = source ? channelAt(source.place) : -1;
-    if (into >= 0) return { channel: into, isOutput: true, word: numberIn(moment, places[write], film.now) };
-    if (from >= 0) return { channel: from, isOutput: false, word: numberIn(moment, places[write], film.now) };
+  const isRegister = (place) => place >= layout.words && place <= layout.clock;
+  for (const { place, what, sources } of isTurn(moment) ? writesOf(moment) : []) {
+    const from = sources.length ? sources[0].place : -1, isOutput = isRegister(place);
+    if (what & BY_DEVICE || !(isOutput || isRegister(from))) continue;
+    return { channel: (isOutput ? place : from) - layout.words, isOutput, word: numberIn(moment, place, film.now) };
   }
   return null;
 }
-
-function channelAt(place) { const { clock, words } = layout; return place >= words && place <= clock ? place - words : -1; }
 
 // ---- where things are
 
@@ -66,7 +59,6 @@ function processorAt(n, { cx, cy, rx, ry, isFlat }) {
   return { x: cx + rx * x, y: cy + ry * y };
 }
 
-const deviceOf = (c) => (c === CLOCK ? "clock" : film.devices[c] || "");
 const heightOfChannel = (c) => BOX_APART + (deviceOf(c) ? BELOW_BOX : 0);
 
 // The upper left corner of a channel's box. The boxes are one below the other, in the middle of the height.
@@ -77,119 +69,96 @@ function boxOf(c, { width, height, boxes, cx, rx }) {
 
 // ---- the drawing
 
-function drawn(parent, kind, words, text) {
-  const element = document.createElementNS("http://www.w3.org/2000/svg", kind);
-  for (const [name, value] of Object.entries(words)) element.setAttribute(name, value);
-  if (text !== undefined) element.textContent = text;
-  parent.append(element);
-  return element;
-}
+const shape = (kind, properties, ...parts) => make(kind, { class: "", ...properties }, ...parts);
 
 function showBarrel() {
   const svg = byId("barrel-picture");
   byId("barrel-fold").setAttribute("aria-expanded", !barrel.folded);
-  setText(byId("barrel-fold"), `${barrel.folded ? "▸" : "▾"} The barrel`);
+  fill(byId("barrel-fold"), `${barrel.folded ? "▸" : "▾"} The barrel`);
   svg.toggleAttribute("hidden", barrel.folded && !isProjected());
   if (svg.hasAttribute("hidden")) return;
   chooseChannels();
-  const sizes = sizesOfBarrel(svg), { unit, width, height, rx, ry, cx, cy } = sizes;
-  svg.textContent = "";
-  svg.setAttribute("height", height * unit);
-  svg.setAttribute("viewBox", `0 0 ${width * unit} ${height * unit}`);
-  const picture = drawn(svg, "g", { transform: `scale(${unit})` });
-  drawn(picture, "rect", { x: cx - rx, y: cy - ry, width: 2 * rx, height: 2 * ry, rx: ry, class: "ring" });
-  drawLinesOfBarrel(picture, sizes);
-  for (let n = 0; n < PROCESSORS; n++) drawProcessor(picture, n, sizes);
-  drawMiddle(picture, sizes);
-  drawSlot(picture, film.numbers[layout.slot], sizes);
-  for (const c of barrel.channels) drawChannel(picture, c, boxOf(c, sizes));
-  const left = barrel.all.length - barrel.channels.length, end = { x: width - BOX_WIDTH / 2, y: (height + sizes.boxes) / 2 + 1 };
-  if (left) drawn(picture, "text", end, `${octal(left)} more`);
-  svg.setAttribute("aria-label", barrelText());
+  const sizes = sizesOfBarrel(svg), { unit, width, height, rx, ry, cx, cy } = sizes, left = barrel.all.length - barrel.channels.length;
+  const words = { height: height * unit, viewBox: `0 0 ${width * unit} ${height * unit}`, "aria-label": barrelText() };
+  for (const [name, value] of Object.entries(words)) svg.setAttribute(name, value);
+  fill(svg, make("g", { transform: `scale(${unit})` },
+    shape("rect", { x: cx - rx, y: cy - ry, width: 2 * rx, height: 2 * ry, rx: ry, class: "ring" }), make("g", {}, linesOfBarrel(sizes)),
+    range(PROCESSORS).map((n) => circleOf(n, sizes)), make("g", {}, middleOf(sizes)), markOfSlot(numberOf("SLOT"), sizes),
+    barrel.channels.map((c) => channelBox(c, boxOf(c, sizes))),
+    left ? shape("text", { x: width - BOX_WIDTH / 2, y: (height + sizes.boxes) / 2 + 1 }, `${octal(left)} more`) : null));
 }
 
 // A circle names what its processor did in the turn of this moment; else what it does next.
-function drawProcessor(picture, n, sizes) {
-  const { x, y } = processorAt(n, sizes), acted = isTurn(film.at) && film.processor[film.at] === n, next = nextOf(n);
-  const classes = ["processor", acted ? "acted" : "", next.waits ? "waits" : "", lanes.all[n].quiet ? "quiet" : ""];
-  const group = drawn(picture, "g", { class: classes.filter(Boolean).join(" "), transform: `translate(${x} ${y})`, "data-processor": n });
-  group.onclick = () => chooseMemory(n);
-  drawn(group, "circle", { r: CIRCLE });
-  drawn(group, "text", { y: -0.75 }, two(n));
-  drawn(group, "text", { y: 0.4, class: "strong" }, (acted ? turnOf(film.at) : next).name.slice(0, 3));
-  drawn(group, "text", { y: 1.5 }, four(acted ? film.p[film.at] : film.numbers[register(n, 0)]));
+function circleOf(n, sizes) {
+  const { x, y } = processorAt(n, sizes), acted = hasTurn(n), next = nextOf(n);
+  const kind = classes({ processor: true, acted, waits: next.waits, quiet: lanes.all[n].quiet });
+  const texts = [[two(n), -0.75, ""], [(acted ? turnOf(film.at) : next).name.slice(0, 3), 0.4, "strong"],
+    [four(acted ? film.p[film.at] : numberOf("P", n)), 1.5, ""]];
+  return shape("g", { class: kind, transform: `translate(${x} ${y})`, "data-processor": n, onclick: () => chooseMemory(n) },
+    make("circle", { r: CIRCLE }), texts.map(([text, down, name]) => shape("text", { y: down, class: name }, text)));
 }
 
 // The mark of the processor whose turn comes next, at the inner side of its circle.
-function drawSlot(picture, n, sizes) {
+function markOfSlot(n, sizes) {
   const { x, y } = processorAt(n, sizes), degrees = Math.atan2(sizes.cy - y, sizes.isFlat && n % 5 ? 0 : sizes.cx - x) * 180 / Math.PI;
   const transform = `translate(${x} ${y}) rotate(${degrees})`;
-  drawn(picture, "path", { class: "slot", d: `M ${CIRCLE + 0.15} 0 l 0.55 -0.45 v 0.9 Z`, transform, "data-processor": n });
+  return shape("path", { class: "slot", d: `M ${CIRCLE + 0.15} 0 l 0.55 -0.45 v 0.9 Z`, transform, "data-processor": n });
 }
 
 // The middle of the ring: the action, what it was, and the first cell or word that it changed.
-function drawMiddle(picture, { cx, cy, isFlat }) {
-  const lines = middleLines(isFlat), step = lines.length > 4 ? 1.15 : 1.3;
-  lines.forEach((text, at) => {
-    const y = cy + 0.35 + (at - (lines.length - 1) / 2) * step, width = LETTER * (text.length + 1);
-    drawn(picture, "rect", { x: cx - width / 2, y: y - 0.95, width, height: step, class: "under" });
-    drawn(picture, "text", { x: cx, y, class: at ? "middle" : "middle strong" }, text);
-  });
+function middleOf({ cx, cy, isFlat }) {
+  const lines = middleLines(isFlat), step = lines.length > 4 ? 1.15 : 1.3, first = cy + 0.35 - ((lines.length - 1) / 2) * step;
+  return lines.map((text, at) => shape("text", { x: cx, y: first + at * step, class: at ? "middle" : "middle strong" }, text));
 }
 
 // After a turn also A and Q of its processor. A flat ring has room for longer lines.
 function middleLines(isFlat) {
-  const change = film.at && film.kinds[film.at] !== JUMP ? changesOf(film.at).find(({ name }) => /^(M|C|XP) /.test(name)) : null;
+  const change = changesOf(film.at).find(({ name }) => /^(M|C|XP) /.test(name)), kind = film.kinds[film.at];
   const changed = change ? [change.name, change.name[0] === "M" ? change.text : "another word"] : [];
-  if (film.kinds[film.at] === SKIP) return [`${octal(film.skips.get(film.at))} turns`, "not filmed"];
-  if (!isTurn(film.at)) return [inShort(film.at ? lineOf(film.at).text.trim() : "the beginning", 17), ...changed];
-  const { name, isBlock } = turnOf(film.at), kinds = [...(isBlock ? ["in its block"] : []), ...(film.kinds[film.at] === WAITING ? ["waits"] : [])];
-  const n = film.processor[film.at], [a, q] = ["A", "Q"].map((one) => `${one} ${textAt(placeNamed(`${one} ${octal(n)}`))}`);
-  const head = [`PP ${two(n)} ${name}`, ...kinds];
-  return [...(isFlat ? [head.join(" ")] : head), `${a} ${q}`, ...changed];
+  if (kind === SKIP) return [`${octal(film.skips.get(film.at))} turns`, "not filmed"];
+  if (!isTurn(film.at)) return [inShort(film.at ? lineText(film.at) : "the beginning", 17), ...changed];
+  const { name, isBlock } = turnOf(film.at), n = film.processor[film.at];
+  const registers = ["A", "Q"].map((one) => `${one} ${textAt(placeWith(one, n))}`);
+  const head = [`PP ${two(n)} ${name}`, ...(isBlock ? ["in its block"] : []), ...(kind === WAITING ? ["waits"] : [])];
+  return [...(isFlat ? [head.join(" ")] : head), registers.join(" "), ...changed];
 }
 
 const inShort = (text, length) => (text.length > length ? `${text.slice(0, length - 3)} ..` : text);
-const hasChanged = (c) => c < CHANNELS && [layout.words + c, layout.states + c].some((place) => changedIn(film.at, place, place));
+const hasChanged = (c) => c < CHANNELS && changedIn(film.at, layout.words + c, layout.states + c);
 
 // The box of a channel: its state, or the word that is on it; below it its device, underlined if it did something in this turn.
-function drawChannel(picture, c, { x, y }) {
-  const state = c < CHANNELS ? film.numbers[layout.states + c] : 2, places = placeNamed(`H ${octal(c)}`).places;
-  const name = `channel ${STATE_CLASSES[state]}${hasChanged(c) ? " changed" : ""}`;
-  const group = drawn(picture, "g", { class: name, transform: `translate(${x} ${y})`, "data-channel": c });
-  group.onclick = () => choose(placeNamed(`H ${octal(c)}`));
-  drawn(group, "rect", { width: BOX_WIDTH, height: BOX_HEIGHT, rx: BOX_HEIGHT / 2 });
-  drawn(group, "text", { x: 2.1, y: 1.27 }, `H ${two(c)}`);
-  drawn(group, "text", { x: 5.4, y: 1.27, class: "strong" }, state > 1 ? four(film.numbers[places[0]]) : state ? "empty" : "");
-  const device = deviceOf(c), did = c < CHANNELS && [places[0], layout.states + c].some((place) => isByDevice(film.at, place));
-  drawn(group, "text", { x: BOX_WIDTH / 2, y: BOX_HEIGHT + 1, class: did ? "acted" : "" }, device);
+function channelBox(c, { x, y }) {
+  const state = stateOf(c), word = placeWith("H", c);
+  const did = c < CHANNELS && [word.places[0], layout.states + c].some((place) => isByDevice(film.at, place));
+  const kind = classes({ channel: true, [STATE_CLASSES[state]]: true, changed: hasChanged(c) });
+  return shape("g", { class: kind, transform: `translate(${x} ${y})`, "data-channel": c, onclick: () => choose(word) },
+    make("rect", { width: BOX_WIDTH, height: BOX_HEIGHT, rx: BOX_HEIGHT / 2 }), shape("text", { x: 2.1, y: 1.27 }, `H ${two(c)}`),
+    shape("text", { x: 5.4, y: 1.27, class: "strong" }, state > 1 ? textAt(word) : state ? "empty" : ""),
+    shape("text", { x: BOX_WIDTH / 2, y: BOX_HEIGHT + 1, class: did ? "acted" : "" }, deviceOf(c)));
 }
 
 // A dashed line from each processor that waits to its channel, and a line with the word that this turn moved.
-function drawLinesOfBarrel(picture, sizes) {
+function linesOfBarrel(sizes) {
   const lineTo = (n, c) => {
     const { x, y } = processorAt(n, sizes), box = boxOf(c, sizes), end = box.y + BOX_HEIGHT / 2;
     const toMiddle = sizes.cy + (y - sizes.cy) * 0.4;
     return `M ${x} ${y} C ${sizes.cx + (x - sizes.cx) * 0.3} ${toMiddle} ${box.x - 6} ${end} ${box.x} ${end}`;
   };
-  for (let n = 0; n < PROCESSORS; n++) {
-    const c = channelOf(nextOf(n).waits);
-    if (c <= CLOCK) drawn(picture, "path", { class: "waits", d: lineTo(n, c), "data-waits": `${n} ${c}` });
-  }
+  const waits = range(PROCESSORS).map((n) => [n, parseInt(nextOf(n).waits, 8)]).filter(([, c]) => c <= CLOCK);
+  const drawn = waits.map(([n, c]) => make("path", { class: "waits", d: lineTo(n, c), "data-waits": `${n} ${c}` }));
   const moved = wordMoved(film.at);
-  if (!moved) return;
-  const { x, y } = boxOf(moved.channel, sizes), word = four(moved.word), text = moved.isOutput ? `${word}→` : `←${word}`;
-  drawn(picture, "path", { class: "moved", d: lineTo(film.processor[film.at], moved.channel) });
-  const transform = `translate(${x - 2.4} ${y + BOX_HEIGHT / 2})`;
-  const group = drawn(picture, "g", { class: "word", transform, "data-channel": moved.channel });
-  drawn(group, "rect", { x: -1.9, y: -0.85, width: 3.8, height: 1.7, rx: 0.3 });
-  drawn(group, "text", { y: 0.37 }, text);
+  if (!moved) return drawn;
+  const { x, y } = boxOf(moved.channel, sizes), transform = `translate(${x - 2.4} ${y + BOX_HEIGHT / 2})`;
+  return [...drawn, make("path", { class: "moved", d: lineTo(film.processor[film.at], moved.channel) }),
+    shape("g", { class: "word", transform, "data-channel": moved.channel },
+      make("rect", { x: -1.9, y: -0.85, width: 3.8, height: 1.7, rx: 0.3 }),
+      shape("text", { y: 0.37 }, moved.isOutput ? `${four(moved.word)}→` : `←${four(moved.word)}`))];
 }
 
 // The picture in words, for those who do not see it.
 function barrelText() {
-  const waits = [...Array(PROCESSORS).keys()].filter((n) => nextOf(n).waits).map((n) => `PP ${two(n)} waits for ${nextOf(n).waits}`);
-  const moved = wordMoved(film.at);
-  const word = moved ? [`${four(moved.word)} goes ${moved.isOutput ? "to" : "from"} H ${two(moved.channel)}`] : [];
-  return `The barrel. ${[middleLines(true).join(", "), ...word, ...waits, `PP ${two(film.numbers[layout.slot])} is next`].join("; ")}.`;
+  const waits = range(PROCESSORS).map((n) => nextOf(n).waits && `PP ${two(n)} waits for ${nextOf(n).waits}`), moved = wordMoved(film.at);
+  const goes = moved && `${four(moved.word)} goes ${moved.isOutput ? "to" : "from"} H ${two(moved.channel)}`;
+  const parts = [middleLines(true).join(", "), goes, ...waits, `PP ${two(numberOf("SLOT"))} is next`];
+  return `The barrel. ${parts.filter(Boolean).join("; ")}.`;
 }

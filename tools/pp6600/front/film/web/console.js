@@ -5,12 +5,9 @@ function buildConsole() {
     window.addEventListener(kind, (event) => { engine.isHeld = event.buttons > 0; }, true);
   }
   byId("console").onsubmit = (event) => { event.preventDefault(); sendTyped(); };
-  byId("typed").onkeydown = recall;
-  byId("typed").onpaste = pasted;
-  byId("leave-branch").onclick = engine.leaveBranch;
-  byId("save-script").onclick = saveScript;
-  byId("save-film").onclick = saveFilm;
-  byId("copy-link").onclick = copyLink;
+  Object.assign(byId("typed"), { onkeydown: recall, onpaste: pasted });
+  const buttons = { "leave-branch": engine.leaveBranch, "save-script": saveScript, "save-film": saveFilm, "copy-link": copyLink };
+  for (const [id, onclick] of Object.entries(buttons)) byId(id).onclick = onclick;
   document.addEventListener("dragover", (event) => event.preventDefault());
   document.addEventListener("drop", (event) => { event.preventDefault(); takeFiles([...event.dataTransfer.files]); });
 }
@@ -18,10 +15,9 @@ function buildConsole() {
 const typed = { lines: [], at: 0 };
 
 async function sendTyped() {
-  const field = byId("typed"), text = field.value, until = /^\s*(back\s+)?until\s+(.*)$/i.exec(text);
-  if (until) shown.searched = [until[2]];
-  const isDone = await (until ? engine.until([until[2]], Boolean(until[1])) : engine.act([text]));
-  if (!isDone) return;
+  const field = byId("typed"), text = field.value, [, , condition] = UNTIL.exec(text) || [];
+  if (condition !== undefined) shown.searched = [condition];
+  if (!(await engine.act([text]))) return;
   typed.at = typed.lines.push(text);
   if (field.value === text) field.value = "";
 }
@@ -31,7 +27,7 @@ function pasted(event) {
   const text = event.clipboardData.getData("text");
   if (!/\n./.test(text)) return;
   event.preventDefault();
-  engine.act(text.replace(/\r/g, "").replace(/\n$/, "").split("\n"));
+  engine.act(linesIn(text));
 }
 
 // Up and down bring back what was typed before.
@@ -53,25 +49,20 @@ async function saveScript() { const { script } = await ask("script"); saveBytes(
 async function saveFilm() {
   const { script } = await ask("script"), files = [{ kind: "script", name: nameOfSession(), bytes: script }];
   for (const kind of ["deck", "panel"]) if (engine.given[kind]) files.push({ kind, name: kind, bytes: engine.given[kind] });
-  const about = { ...engine.about, ...engine.given.options, files, again: "", opens: null, pictures: hasPictures(script) ? engine.about.pictures : undefined };
-  const bytes = await through(new CompressionStream("deflate"), new TextEncoder().encode(JSON.stringify(about)));
-  const page = engine.page.replace(/(<script type="text\/plain" id="film">)[^<]*/, (_, begin) => `${begin}\n${base64(bytes)}\n`);
+  const about = { ...engine.about, ...engine.given.options, files, again: "", opens: null };
+  if (!hasPictures(script)) delete about.pictures;
+  const text = await packed(new TextEncoder().encode(JSON.stringify(about)), "deflate");
+  const page = engine.page.replace(/(<script type="text\/plain" id="film">)[^<]*/, (_, begin) => `${begin}\n${text}\n`);
   saveBytes(new TextEncoder().encode(page), `${nameOfSession()}.html`);
-}
-
-function base64(bytes) {
-  let letters = "";
-  for (let at = 0; at < bytes.length; at += 8192) letters += String.fromCharCode(...bytes.subarray(at, at + 8192));
-  return btoa(letters);
 }
 
 // Files that are dropped take the place of those of the run: rows of octal numbers are a panel if they are twelve, else a deck.
 async function takeFiles(files) {
   const { script } = await ask("script"), given = { ...engine.given, script };
   for (const file of files) {
-    const text = textOfBytes(new Uint8Array(await file.arrayBuffer())), rows = linesOfOctals(text), count = rows.flat().length;
-    const isNumbers = rows.length > 0 && rows.every((row) => row.every((word) => !Number.isNaN(word)));
-    given[!isNumbers ? "script" : count === 12 ? "panel" : "deck"] = text;
+    const text = textOfBytes(new Uint8Array(await file.arrayBuffer())), rows = linesOfOctals(text), words = rows.flat();
+    const isNumbers = rows.length > 0 && !words.some(Number.isNaN);
+    given[!isNumbers ? "script" : words.length === 12 ? "panel" : "deck"] = text;
   }
   await beginAnew(given, "the session has begun anew");
 }
@@ -86,14 +77,13 @@ async function beginAnew(given, said) {
 // ---- links: the script, and if they are not those of the file the deck and the panel, in the part of the address after #
 
 const LONGEST_LINK = 8000;
-const deflated = async (text) => base64(await through(new CompressionStream("deflate-raw"), bytesOfText(text)))
-  .replace(/\+/g, "-").replace(/\//g, "_").replace(/=+$/, "");
+const deflated = async (text) => (await packed(bytesOfText(text), "deflate-raw")).replace(/\+/g, "-").replace(/\//g, "_").replace(/=+$/, "");
 
 async function copyLink() {
-  const { script } = await ask("script"), words = [`script=${await deflated(script)}`], own = filesOf(engine.about);
-  for (const kind of ["deck", "panel"]) if (engine.given[kind] !== own[kind]) words.push(`${kind}=${await deflated(engine.given[kind])}`);
-  const place = shown.chosen ? `&place=${shown.chosen.name.replace(/ /g, "+")}` : "";
-  const link = `${location.href.split("#")[0]}#${words.join("&")}&moment=${octal(film.at)}${place}`;
+  const { script } = await ask("script"), given = { ...engine.given, script }, own = { ...filesOf(engine.about), script: null };
+  const kinds = ["script", "deck", "panel"].filter((kind) => given[kind] !== own[kind]);
+  const words = await Promise.all(kinds.map(async (kind) => `${kind}=${await deflated(given[kind])}&`));
+  const link = `${location.href.split("#")[0]}#${words.join("")}moment=${octal(film.at)}${placeInAddress()}`;
   if (link.length > LONGEST_LINK) return say("the session is too long for a link: save the file, and pass that on", true);
   try {
     await navigator.clipboard.writeText(link);
@@ -121,13 +111,17 @@ async function filesOfAddress(given) {
 // ---- what was typed is kept in this browser, in case that the tab is closed
 
 const keyOfPage = () => `pp6600 ${location.pathname} ${document.title}`;
-const keptBefore = () => {
+
+// Returns what an action with what the browser keeps returns; null if it keeps nothing.
+function withStorage(action) {
   try {
-    return JSON.parse(localStorage.getItem(keyOfPage()));
+    return action(localStorage);
   } catch {
-    return null; // a browser that keeps nothing
+    return null;
   }
-};
+}
+
+const keptBefore = () => withStorage((storage) => JSON.parse(storage.getItem(keyOfPage())));
 
 // Offers what was typed here the last time, if it is something else than what is shown.
 function offerKept() {
@@ -137,10 +131,6 @@ function offerKept() {
 }
 
 async function keepTyped() {
-  try {
-    const { script } = await ask("script");
-    localStorage.setItem(keyOfPage(), JSON.stringify({ ...engine.given, script }));
-  } catch {
-    // a browser that keeps nothing
-  }
+  const { script } = await ask("script");
+  withStorage((storage) => storage.setItem(keyOfPage(), JSON.stringify({ ...engine.given, script })));
 }

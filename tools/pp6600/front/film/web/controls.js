@@ -1,109 +1,82 @@
 // ---- the chosen number
 
 function choose(place) {
-  shown.chosen = place;
-  shown.changes = place && momentsThatChanged(place.places);
-  if (shown.origin) showNoOrigin();
+  Object.assign(shown, { chosen: place, changes: place ? momentsThatChanged(place.places) : [] });
   byId("place").value = place ? place.name : "";
   accept("place", "");
   byId("chosen").hidden = !place;
   if (place && place.kind === "M") showCell(...place.numbers, false);
   else if (place && place.kind === "C") showCentralWord(place.numbers[0], false);
-  drawLanes();
-  show();
+  setOrigin(null);
 }
 
 function chooseNone() { choose(null); followTurns(); }
 
-// The latest change and the one to which "previous change" goes: that before it, at the moment of the change itself.
-function changesBack() {
-  const here = resolve(film.at), last = changeBefore(shown.changes, film.at);
-  return [last, last > 0 && last === film.at ? changeBefore(shown.changes, here - 1) : last];
-}
-
-// The change to which "next change" goes, whether it is the first at all, and the line that goes back before there is one.
-function changeAhead(last) {
-  const [next, cut] = changeAfter(shown.changes, film.at);
-  if (next || last) return { next, first: !last, cut };
-  return { next: shown.changes[countUpTo(shown.changes, film.at)] || 0, first: true, cut }; // though the script goes back before it
+// The changes around the moment that is shown: the latest; that to which "previous change" goes, at the moment of a change the one before
+// it; the next, which may be the first at all; and the line that goes back before there is one.
+function changesAround() {
+  const { changes } = shown, last = changeBefore(changes, film.at), [next, cut] = changeAfter(changes, film.at);
+  const previous = last > 0 && last === film.at ? changeBefore(changes, film.at - 1) : last;
+  const first = changes[countUpTo(changes, film.at)] || 0; // though the script goes back before it
+  return { last, previous, next: next || last ? next : first, isFirst: !last, cut };
 }
 
 function showChosen() {
   const place = shown.chosen;
-  showOriginHere();
+  byId("set").hidden = !canSet(place);
+  byId("run-to").hidden = byId("run-back").hidden = !place || place.kind !== "M";
   if (!place) return;
-  showSetting();
-  const [last, previous] = changesBack(), { next, first, cut } = changeAhead(last);
-  const by = (moment) => `by ${makerText(moment, place.places[0])}.`;
-  const parts = [`${place.name} is ${textAt(place)}.`];
-  if (last > 0) parts.push(`${last === film.at ? "Changed here" : `Last change: ${whenText(last)}`}, ${by(last)}`);
-  else if (last === NOT_RECORDED) parts.push("Its last change may be in turns that were not recorded: previous change looks there.");
-  if (next > 0) parts.push(`${first ? "First change" : "Next change"}: ${whenText(next)}, ${by(next)}`);
-  else if (cut) parts.push(`No change before the line ${lineOf(cut).text.trim()}, which goes back.`);
-  else if (next === NOT_RECORDED) parts.push("Its next change may be in turns that were not recorded: next change looks there.");
-  else parts.push(`No change ${last ? "after this" : "in this run"} so far.`);
-  setText(byId("chosen-text"), parts.join(" "));
+  const { last, previous, next, isFirst, cut } = changesAround(), by = (moment) => `by ${makerText(moment, place.places[0])}.`;
+  const unknown = (which, button) => `Its ${which} change may be in turns that were not recorded: ${button} change looks there.`;
+  const before = last > 0 ? `${last === film.at ? "Changed here" : `Last change: ${whenText(last)}`}, ${by(last)}`
+    : last === NOT_RECORDED ? unknown("last", "previous") : "";
+  const after = next > 0 ? `${isFirst ? "First" : "Next"} change: ${whenText(next)}, ${by(next)}`
+    : cut ? `No change before the line ${lineText(cut)}, which goes back.` : next === NOT_RECORDED ? unknown("next", "next")
+      : `No change ${last ? "after this" : "in this run"} so far.`;
+  fill(byId("chosen-text"), [`${place.name} is ${textAt(place)}.`, before, after].filter(Boolean).join(" "));
   byId("previous-change").disabled = !previous;
-  setText(byId("next-change"), `${first && next > 0 ? "first" : "next"} change`);
+  fill(byId("next-change"), `${isFirst && next > 0 ? "first" : "next"} change`);
 }
 
 const whenText = (moment) => (isTurn(moment) ? `turn ${octal(film.turn[moment])}` : `before turn ${octal(film.turn[moment] + 1)}`);
 
 function moveToChange(direction) {
-  if (!shown.chosen) return;
-  const [last, previous] = changesBack(), target = direction > 0 ? changeAhead(last).next : previous;
+  const { previous, next } = changesAround(), target = direction > 0 ? next : previous;
   if (target > 0) moveTo(target);
   else if (target < 0 || direction > 0) findChange(direction);
 }
 
-const HAVE_CHANGES = ["M", "A", "P", "Q", "C", "H"]; // the kinds of places of which a condition may say that they change
-
 // To a change of the chosen number that the film does not have: in turns that were not recorded, or in turns to come.
 function findChange(direction) {
-  const { kind, name, numbers } = shown.chosen;
+  const { kind, name, numbers } = shown.chosen || {};
   if (kind === "STATE") engine.until([`H ${octal(numbers[0])} changes state`], direction < 0);
-  else if (HAVE_CHANGES.includes(kind)) engine.until([`${name} changes`], direction < 0);
+  else if (SETTABLE.includes(kind)) engine.until([`${name} changes`], direction < 0);
 }
 
 // ---- the page as a whole
 
 function show() {
-  showProcessors();
-  showChannels();
+  shown.changed = new Set(changesIn(film.at));
   showMemory();
-  showSource();
-  showPictures();
-  showCentral();
-  showReader();
-  showPrinter();
-  showWatches();
-  showNumbers();
-  showScript();
-  showChosen();
-  showPosition();
-  showSigns();
-  showBarrel();
-  if (setView() || !lanes.isDrawn) drawLanes();
-  showHead();
+  fillRows("processors", range(PROCESSORS).map(processorRow));
+  fillRows("channels", range(CHANNELS + 1).map(channelRow));
+  for (const part of [showSource, showPictures, showWords, showReader, showPrinter, showWatches, showScript, showChosen, showOrigin,
+    showPosition, showLanes, showBarrel, showSigns]) part();
 }
 
 function showPosition() {
-  const turn = octal(film.turn[film.at]), line = film.lineAt[film.at];
-  setText(byId("position"), `After turn ${turn}. Moment ${octal(film.at)} of ${octal(film.count - 1)}.`
-    + (line >= 0 ? ` Line ${octal(line + 1)} of the script: ${lineOf(film.at).text.trim()}` : ""));
-  showAction();
-  const slider = byId("slider");
-  slider.value = film.at;
+  const turn = octal(film.turn[film.at]), line = film.lineAt[film.at], slider = byId("slider"), changes = changesOf(film.at);
+  fill(byId("position"), `After turn ${turn}. Moment ${octal(film.at)} of ${octal(lastMoment())}.`
+    + (line >= 0 ? ` Line ${octal(line + 1)} of the script: ${lineText(film.at)}` : ""));
+  fill(byId("action"), `${actionText(film.at)}${changes.length ? ":" : "."}`,
+    changes.slice(0, 12).map(({ name, text }) => [" ", make("span", {}, `${name} ${text}`)]), changes.length > 12 ? " .." : "");
+  Object.assign(slider, { max: lastMoment(), value: film.at });
   slider.setAttribute("aria-valuetext", `turn ${turn}`);
-  if (document.activeElement !== byId("turn")) byId("turn").value = turn;
+  byId("leave-branch").hidden = !engine.branches.length;
+  setField("turn", turn);
 }
 
-function showAction() {
-  const action = byId("action"), changes = film.at && film.kinds[film.at] !== JUMP ? changesOf(film.at) : [];
-  action.textContent = `${actionText(film.at)}${changes.length ? ":" : "."}`;
-  for (const { name, text } of changes.slice(0, 12)) action.append(" ", make("span", { textContent: `${name} ${text}` }));
-  if (changes.length > 12) action.append(" ..");
-}
+const setField = (id, text) => { if (document.activeElement !== byId(id)) byId(id).value = text; };
 
 // Goes to a moment, as a hand asked for it.
 function moveTo(moment) {
@@ -113,96 +86,105 @@ function moveTo(moment) {
   setAddress();
 }
 
+const placeInAddress = () => (shown.chosen ? `&place=${shown.chosen.name.replace(/ /g, "+")}` : "");
+
 // Keeps the moment and the chosen place in the address, so that a link leads to them; and fills in what was skipped at the moment. Both
 // wait until nothing was asked for a while.
 function setAddress() {
   clearTimeout(shown.timer);
   shown.timer = setTimeout(() => {
-    const place = shown.chosen ? `&place=${shown.chosen.name.replace(/ /g, "+")}` : "";
-    history.replaceState(null, "", `#${engine.fragment}moment=${octal(film.at)}${place}`);
+    history.replaceState(null, "", `#${engine.fragment}moment=${octal(film.at)}${placeInAddress()}`);
     if (isAtSkipped() && !engine.isBusy) engine.unskip();
   }, 300);
 }
 
 function followAddress() {
-  const words = new URLSearchParams(location.hash.slice(1));
-  const moment = words.get("moment"), turn = words.get("turn"), place = words.get("place");
-  if (/^[0-7]+$/.test(moment)) goTo(parseInt(moment, 8));
-  else if (/^[0-7]+$/.test(turn)) goToTurn(parseInt(turn, 8));
+  const words = new URLSearchParams(location.hash.slice(1)), place = words.get("place");
+  const [moment, turn] = ["moment", "turn"].map((name) => octalIn(words.get(name) || ""));
+  if (moment !== null) goTo(moment);
+  else if (turn !== null) goToTurn(turn);
   choose(place ? placeNamed(place) : shown.chosen);
-  accept("turn", turn === null ? "" : wrongTurn(turn));
+  accept("turn", words.has("turn") ? wrongTurn(words.get("turn")) : "");
   if (place && !shown.chosen) accept("place", "no such place");
 }
 
 // Where a film without an address opens: the moment, and the name of a place or "". If the script ends in a BACK W, the turn that it has
 // found; if in a watch, or in turns that a watch has ended, the latest change of the watched number; else the end.
 function opening() {
-  const line = film.lines.findLast((one) => one.acts), end = film.count - 1, found = line && foundBy(line);
-  if (found) return [found.moment, found.name];
-  const words = line ? line.text.trim().toUpperCase().split(/\s+/) : [];
-  return words[0] === "WATCH" ? latestChange([words.slice(1).join(" ")], end, end) : [end, ""];
+  const line = film.lines.findLast(({ acts }) => acts), found = line && foundBy(line), [command, ...words] = line ? wordsIn(line.text) : [];
+  return found || (command === "WATCH" && latestChange([words.join(" ")], lastMoment())) || { moment: lastMoment(), name: "" };
 }
 
 // What a line found that ended at a watched number: the moment of the change, the name of its place, and who changed it; or null.
-function foundBy(line) {
-  const hit = line.answer.find((text) => text.startsWith("HIT ")), words = line.text.trim().toUpperCase().split(/\s+/);
-  if (hit) return { moment: line.moment, name: hit.split(" ").slice(1, hit.startsWith("HIT M") ? 4 : 3).join(" "), text: turnText(line.moment) };
-  if (words[0] !== "BACK" || words[1] !== "W" || !line.acts) return null;
-  const here = film.at, [moment, name] = latestChange(watchesAt(line.first - 1), line.first - 1, line.moment), turn = isTurn(moment);
-  goTo(here);
-  return { moment, name, text: name && `the next ${turn ? "turn" : "line"}, ${makerText(moment, placeNamed(name).places[0])}, changes ${name}` };
+function foundBy({ text, answer, first, moment, acts }) {
+  const hit = answer.find((line) => line.startsWith("HIT ")), [command, word] = wordsIn(text);
+  if (hit) return { moment, name: hit.split(" ").slice(1, hit.startsWith("HIT M") ? 4 : 3).join(" "), text: `: ${turnText(moment)}` };
+  const found = command === "BACK" && word === "W" && acts ? latestChange(atMoment(first - 1, watched), first - 1) : null;
+  if (!found) return null;
+  const maker = makerText(found.moment, placeNamed(found.name).places[0]);
+  return { ...found, text: `: the next ${isTurn(found.moment) ? "turn" : "line"}, ${maker}, changes ${found.name}` };
 }
 
-function watchesAt(moment) { goTo(moment); return watched(); }
-
-// The latest change of the places that is in effect at a moment, and the place that changed; without one the last moment.
-function latestChange(names, moment, end) {
-  const changes = names.map((name) => [changeBefore(momentsThatChanged(placeNamed(name).places), moment), placeNamed(name).name]);
-  const [change, name] = changes.reduce((one, other) => (other[0] > one[0] ? other : one), [-1, ""]);
-  return [change > 0 ? change : end, name];
+// The latest change of the places that is in effect at a moment, and the place that changed, or one that has not.
+function latestChange(names, moment) {
+  const changes = names.map(placeNamed).map(({ name, places }) => ({ name, moment: changeBefore(momentsThatChanged(places), moment) }));
+  const [found] = changes.filter((one) => one.moment !== NOT_RECORDED).sort((one, other) => other.moment - one.moment);
+  return found && { ...found, moment: found.moment > 0 ? found.moment : lastMoment() };
 }
+
+// ---- turns
 
 // The first moment after so many turns, or the last moment.
-function momentOfTurn(turn) { const moment = film.turn.indexOf(turn); return moment >= 0 ? moment : film.count - 1; }
+function momentOfTurn(turn) { const moment = film.turn.indexOf(turn); return moment >= 0 ? moment : lastMoment(); }
 
 // What is wrong with the number of a turn, or "".
 function wrongTurn(text) {
-  if (!/^[0-7]+$/.test(text)) return "not an octal number";
-  const turn = parseInt(text, 8);
+  const turn = octalIn(text);
+  if (turn === null) return "not an octal number";
   if (film.turn.includes(turn)) return "";
-  if (turn < film.highestTurn) return `turn ${text} was not recorded`;
-  return `no turn ${text}: the highest is ${octal(film.highestTurn)}`;
+  return turn < film.highestTurn ? `turn ${text} was not recorded` : `no turn ${text}: the highest is ${octal(film.highestTurn)}`;
 }
+
+// Goes to the moment after so many turns. Turns that were skipped are recorded for it.
+async function goToTurn(turn) {
+  const hasIt = (after, at) => film.kinds[at] === SKIP && after > turn && film.turn[at - 1] < turn;
+  const skip = film.turn.includes(turn) ? -1 : film.turn.findIndex(hasIt);
+  if (skip >= 0) await engine.unskip(skip, turn);
+  else moveTo(momentOfTurn(turn));
+}
+
+// Says beside a field what is wrong with its text, and marks it; "" if it is right.
+function accept(name, wrong) { fill(byId(`no-${name}`), wrong); byId(name).setAttribute("aria-invalid", wrong !== ""); }
 
 // ---- playing
 
 function play(on) {
-  shown.playing = on && film.at < film.count - 1 ? { since: performance.now(), from: film.at } : null;
-  byId("play").textContent = shown.playing ? "Pause" : "Play";
+  shown.playing = on && film.at < lastMoment() ? { since: performance.now(), from: film.at } : null;
+  fill(byId("play"), shown.playing ? "Pause" : "Play");
   byId("action").setAttribute("aria-live", shown.playing ? "off" : "polite");
   if (shown.playing) requestAnimationFrame(playOn);
 }
 
 function playOn(now) {
-  if (!shown.playing) return;
-  const { since, from } = shown.playing, moment = from + Math.floor(((now - since) / 1000) * RATES[byId("rate").value]);
+  if (!shown.playing) return null;
+  const { since, from } = shown.playing, moment = from + Math.floor(((now - since) / 1000) * Number(byId("rate").value));
   if (moment > film.at) {
     goTo(moment);
     show();
   }
-  if (film.at >= film.count - 1) {
-    play(false);
-    setAddress();
-  } else requestAnimationFrame(playOn);
+  if (film.at < lastMoment()) return requestAnimationFrame(playOn);
+  play(false);
+  return setAddress();
 }
 
 function changeRate(step) {
   const rate = byId("rate");
-  rate.value = Math.max(0, Math.min(RATES.length - 1, Number(rate.value) + step));
+  rate.selectedIndex = Math.max(0, Math.min(rate.options.length - 1, rate.selectedIndex + step));
   if (shown.playing) play(true);
 }
 
-// The look for a projector: large, and without what a whole class can't read.
+// ---- the look for a projector: large, and without what a whole class can't read
+
 const isProjected = () => document.body.classList.contains("projector");
 
 function project() {
@@ -212,24 +194,66 @@ function project() {
   memory.as = isProjected() && memory.as === "numbers" ? "instructions" : shown.before.as;
   if (isProjected()) source.scrolled = "";
   byId("barrel-picture").removeAttribute("viewBox"); // else its old size makes its column wider
-  window.dispatchEvent(new Event("resize"));
   show();
   if (isProjected()) return;
   scrollTo(0, shown.before.scrolled);
   box.scrollTop = shown.before.scrolledSource;
 }
 
+// ---- what there is from the beginning
+
+// In one column, and with a source, sections come in another order than that of the two columns.
+const NARROW = "(max-width: 999px)";
+
+function placeSections() {
+  const [left, right] = document.querySelectorAll(".column"), isNarrow = matchMedia(NARROW).matches;
+  const [run, own, ...others] = ["lanes", "source", "memory", "central", "frame"].map(byId);
+  if (film.sources || isNarrow) left.prepend(run);
+  else document.querySelector("main").before(run);
+  right.prepend(own, ...others);
+  if (!isNarrow) return;
+  run.after(own);
+  byId("watches").after(...others);
+}
+
+// Lets a function act on the text of a form's field. If it returns what is wrong with it, this is said beside the field, which else is left.
+function onSubmit(form, field, act) {
+  byId(form).onsubmit = async (event) => {
+    event.preventDefault();
+    play(false);
+    const wrong = await act(byId(field).value.trim());
+    if (wrong !== undefined) accept(field, wrong);
+    if (wrong === "") byId(field).blur();
+    setAddress();
+  };
+}
+
+async function goToTyped(text) {
+  if (octalIn(text) !== null) await goToTurn(octalIn(text));
+  return wrongTurn(text);
+}
+
+function chooseTyped(text) {
+  const place = placeNamed(text);
+  if (place) choose(place);
+  return place ? "" : "no such place";
+}
+
+const fillSelect = (id, texts, values) => fill(byId(id), texts.map((text, at) => make("option", { value: values[at] }, text)));
+
 function buildControls() {
-  const slider = byId("slider");
-  slider.oninput = byHand(() => moveTo(Number(slider.value)));
-  RATES.forEach((rate, at) => byId("rate").add(new Option(rate === 1 ? "1 turn a second" : `${octal(rate)} turns a second`, at)));
-  byId("rate").value = 1;
+  fillSelect("memory-of", ["", ...range(PROCESSORS).map((n) => `PP ${two(n)}`)], ["", ...range(PROCESSORS)]);
   byId("rate").onchange = () => changeRate(0);
-  byId("go-turn").onsubmit = (event) => { event.preventDefault(); goToTyped(); };
+  byId("slider").oninput = byHand(() => moveTo(Number(byId("slider").value)));
+  byId("memory-of").onchange = ({ target: { value } }) => (value ? chooseMemory(Number(value)) : followTurns());
+  for (const part of ["from", "as"]) byId(`memory-${part}`).onchange = ({ target }) => showMemoryAs({ [part]: target.value });
+  onSubmit("memory-form", "memory-at", (text) => showCell(memory.processor, (octalIn(text) ?? memory.first) % CELLS, true));
+  onSubmit("central-form", "central-at", (text) => showCentralWord(octalIn(text) ?? central.first, true));
+  onSubmit("go-turn", "turn", goToTyped);
+  onSubmit("go-place", "place", chooseTyped);
+  onSubmit("set-form", "set-to", setChosen);
   byId("set-to").onblur = endEditing;
   document.addEventListener("dblclick", (event) => event.target.closest("button.number") && edit());
-  byId("set-form").onsubmit = (event) => { event.preventDefault(); setChosen(); };
-  byId("go-place").onsubmit = (event) => { event.preventDefault(); chooseTyped(); };
   document.addEventListener("click", (event) => {
     const button = event.target.closest("button.number");
     if (button) choose(button.place);
@@ -237,80 +261,24 @@ function buildControls() {
   });
 }
 
-// Says beside a field what is wrong with its text, and marks it; "" if it is right.
-function accept(name, wrong) { setText(byId(`no-${name}`), wrong); byId(name).setAttribute("aria-invalid", wrong !== ""); }
-
-async function goToTyped() {
-  const field = byId("turn"), text = field.value.trim();
-  play(false);
-  if (/^[0-7]+$/.test(text)) await goToTurn(parseInt(text, 8));
-  const wrong = wrongTurn(text);
-  accept("turn", wrong);
-  if (!wrong) field.blur();
-}
-
-// Goes to the moment after so many turns. Turns that were skipped are recorded for it.
-async function goToTurn(turn) {
-  const skip = film.turn.includes(turn) ? -1 : film.turn.findIndex((after, at) => film.kinds[at] === SKIP && after > turn && film.turn[at - 1] < turn);
-  if (skip >= 0) await engine.unskip(skip, turn);
-  else moveTo(momentOfTurn(turn));
-}
-
-function chooseTyped() {
-  const place = placeNamed(byId("place").value);
-  if (!place) return accept("place", "no such place");
-  byId("place").blur();
-  choose(place);
-  setAddress();
-}
-
-// In one column, and with a source, sections come in another order than that of the two columns.
-const NARROW = "(max-width: 999px)";
-
-function placeSections() {
-  const [left, right] = document.querySelectorAll(".column"), isNarrow = matchMedia(NARROW).matches;
-  const first = film.sources || isNarrow ? ["lanes"] : [], second = ["source", "memory", "central", "frame"];
-  const sections = (names) => names.map(byId);
-  left.prepend(...sections(isNarrow ? [...first, "source"] : first));
-  if (!first.length) document.querySelector("main").before(byId("lanes"));
-  if (isNarrow) byId("watches").after(...sections(second.slice(1)));
-  else right.prepend(...sections(second));
-}
-
 function build() {
-  for (const part of [buildControls, buildKeys, buildProcessors, buildChannels, buildMemory, buildProgram, buildSource, buildPictures, buildCentral,
-    buildFrame, buildReader, buildPrinter, buildFiles, buildLanes, buildSigns, buildExercises, buildMeanings, buildConsole, buildAssembler]) part();
+  for (const part of [buildControls, buildKeys, buildSource, buildPictures, buildLanes, buildExercises, buildMeanings, buildConsole,
+    buildAssembler]) part();
+  showFiles();
   placeSections();
-  const redraw = () => { drawLegend(); drawLanes(); showHead(); showSigns(); showBarrel(); };
-  for (const query of ["(prefers-color-scheme: dark)", "print"]) matchMedia(query).addEventListener("change", redraw);
+  for (const box of document.querySelectorAll(".wide")) {
+    box.insertAdjacentHTML("beforebegin", '<p class="sign"></p>');
+    box.addEventListener("scroll", () => showSign(box));
+  }
   matchMedia(NARROW).addEventListener("change", placeSections);
-  window.addEventListener("resize", redraw);
-  window.addEventListener("beforeprint", redraw);
-  window.addEventListener("afterprint", redraw);
+  for (const kind of ["resize", "beforeprint", "afterprint"]) window.addEventListener(kind, show);
   window.addEventListener("hashchange", followAddress);
 }
 
-// Shows what has come to the film after so many moments.
+// Takes in what has come to the film after so many moments; with 0 it is another one.
 function grew(first) {
-  byId("slider").max = film.count - 1;
-  addLines();
-  showParts(first);
-  growLanes(first);
-  findChannels(first);
-  growSource(first);
-  if (shown.chosen) addChanges(shown.changes, shown.chosen.places, Math.max(first, 1));
-}
-
-// Shows a session that takes the place of another one.
-function rebuild() {
-  forgetLanes();
-  forgetTimes();
-  forgetLines();
-  showPanel();
-  buildReader();
-  channelRows.forEach(({ row }, c) => c < CHANNELS && setText(row.cells[4], film.devices[c] || ""));
-  Object.assign(shown, { chosen: null, origin: null });
-  byId("chosen").hidden = byId("origin").hidden = true;
+  for (const part of [showParts, growLanes, findChannels, growSource]) part(first);
+  if (shown.chosen) shown.changes.push(...momentsThatChanged(shown.chosen.places, Math.max(first, 1)));
 }
 
 async function openFilm() {
@@ -323,15 +291,11 @@ async function openFilm() {
   if (reply.isFault) throw new Error(reply.said);
   build();
   engine.isBuilt = true;
-  forgetLanes();
   grew(0);
-  showPanel();
-  setView();
-  drawLegend();
-  const [start, place] = opening();
-  goTo(start);
+  const { moment, name } = opening();
+  goTo(moment);
   if (location.hash.length > 1) followAddress();
-  else choose(placeNamed(place));
+  else choose(placeNamed(name));
   if (location.hash.length < 2 && film.opens !== null) await goToTurn(film.opens);
   say(reply.said || "", reply.isWrong);
   offerKept();
@@ -340,5 +304,5 @@ async function openFilm() {
 
 openFilm().catch((error) => {
   byId("fault").hidden = false;
-  byId("fault").textContent = `This film can't be shown: ${error.message}`;
+  fill(byId("fault"), `This film can't be shown: ${error.message}`);
 });

@@ -1,46 +1,12 @@
-// ---- breakpoints and running to a cell; a number edited in its place; and what instructions and directives do
+// ---- a number edited in its place, and what instructions and directives do
 
-const breakpoints = new Map(); // conditions, by the processor and the address
-const keyOfBreakpoint = (n, address) => `${n} ${address}`;
-
-// Makes a button of a text, by which a breakpoint is set and taken away: showBreakpoint() says where.
-function addBreakpoint(cell, text = "") {
-  return addTo(cell, makeButton("plain name break", text, ({ currentTarget }) => {
-    const { n, address } = currentTarget.dataset, key = keyOfBreakpoint(n, address);
-    if (!breakpoints.delete(key)) breakpoints.set(key, `P ${octal(Number(n))} = ${octal(Number(address))}`);
-    show();
-  }));
-}
-
-function showBreakpoint(button, n, address) {
-  Object.assign(button.dataset, { n, address });
-  button.title = `a breakpoint of PP ${two(n)} at ${four(address)}`;
-  button.setAttribute("aria-pressed", breakpoints.has(keyOfBreakpoint(n, address)));
-}
-
-// On to the next breakpoint or to where P is at the chosen cell, or back to the one before.
-function runTo(back) {
-  const { kind, numbers } = shown.chosen || {}, cell = kind === "M" ? [`P ${octal(numbers[0])} = ${octal(numbers[1])}`] : [];
-  if (breakpoints.size + cell.length) engine.until([...breakpoints.values(), ...cell], back);
-  else say("choose a cell, or click the number of a line or the address of an instruction, to run there", true);
-}
-
-// ---- editing
-
-const SETTABLE = ["M", "A", "P", "Q", "C", "H"]; // the kinds of numbers that a SET takes
-const canSet = (place) => Boolean(place) && SETTABLE.includes(place.kind) && place.name !== "H 14";
-const isSeen = (element) => element.offsetParent !== null;
-
-function showSetting() {
-  byId("set").hidden = !canSet(shown.chosen);
-  byId("run-to").hidden = byId("run-back").hidden = shown.chosen.kind !== "M";
-}
+const canSet = (place) => place !== null && SETTABLE.includes(place.kind) && place.name !== "H 14";
 
 // Opens a field over the chosen number, or if this is not seen over the line that has it.
 function edit() {
   const place = shown.chosen, form = byId("set-form"), field = byId("set-to");
   if (!canSet(place)) return;
-  const all = numberButtons.filter((button) => button.dataset.place === place.name && isSeen(button));
+  const all = buttonsSeen().filter((button) => button.place.name === place.name);
   const one = all.find((button) => button === document.activeElement) || all.find((button) => button.closest("#memory")) || all[0];
   const box = (one || byId("chosen-text")).getBoundingClientRect();
   form.hidden = false;
@@ -53,10 +19,9 @@ function edit() {
 
 function endEditing() { byId("set-form").hidden = true; byId("set-to").blur(); }
 
-// Sets the chosen number to what the field has. If it is refused, the field stays.
-async function setChosen() {
-  const { kind, name, numbers } = shown.chosen, text = byId("set-to").value.trim();
-  const state = kind === "H" ? `${film.states[film.numbers[layout.states + numbers[0]]][0]} ` : "";
+// Sets the chosen number to a text. If it is refused, the field stays.
+async function setChosen(text) {
+  const { kind, name, numbers } = shown.chosen, state = kind === "H" ? `${textAt(placeWith("STATE", ...numbers))} ` : "";
   try {
     const words = kind === "M" && /^[a-z]/i.test(text) ? wordsOf(text.toUpperCase(), ...numbers).map(four).join(" ") : text;
     if (await engine.act([`SET ${name} ${state}${words}`])) endEditing();
@@ -69,7 +34,8 @@ async function setChosen() {
 function wordsOf(text, n, address) {
   const [name, ...all] = text.replace(/^(\w+) +[0-7]+ +TO /, "$1 TO ").split(/[\s,]+/), code = film.names.indexOf(name);
   if (code < 0) throw new Error(`${name} is no instruction, such as LDN 5, IAM 12 60 or UJN TO 105`);
-  const numbers = all.filter((word) => word !== "TO").map((word) => addressNamed(n, word)), most = film.two_words.includes(code) ? 2 : 1;
+  const most = film.two_words.includes(code) ? 2 : 1;
+  const numbers = all.filter((word) => word !== "TO").map((word) => addressIn(word, film.labels[n]));
   if (numbers.includes(null) || numbers.length > most) throw new Error(`${name} takes ${most} octal numbers or labels`);
   if (text.includes(",")) numbers.reverse();
   if (film.relative_jumps.includes(code) && (all[0] === "TO" || !/^[0-7]{1,2}$/.test(all[0]))) numbers[0] = distance(address, numbers[0]);
@@ -100,8 +66,6 @@ const operationIn = (line) => (/^ ?[^*\s]?\S*\s+(\S+)/.exec(line) || [])[1];
 // The table of the codes, and below it the directives: a click says what one does, as pointing at it does.
 function buildMeanings() {
   const directives = Object.keys(film.meanings).filter((name) => !film.names.includes(name) && !/^\dx$/.test(name));
-  for (const [list, names] of [["codes", film.names], ["directives", directives]]) {
-    const say = (name) => setText(byId("meaning"), meaningOf(name));
-    byId(list).append(...names.map((name) => makeButton("plain", name, () => say(name), { title: meaningOf(name) })));
-  }
+  const buttonOf = (name) => makeButton("plain", name, () => fill(byId("meaning"), meaningOf(name)), { title: meaningOf(name) });
+  for (const [list, names] of [["codes", film.names], ["directives", directives]]) fill(byId(list), names.map(buttonOf));
 }

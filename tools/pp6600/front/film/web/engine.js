@@ -1,23 +1,28 @@
 // ---- the worker of this page, which has the session: what is typed goes to it, and what comes of it is added to the film
 
-const engine = { worker: null, requests: new Map(), count: 0, chain: Promise.resolve(), isBusy: false, isBuilt: false, isOpening: false,
-  isHeld: false, doing: Promise.resolve(), given: null, branches: [], fragment: "", page: `<!DOCTYPE html>\n${document.documentElement.outerHTML}` };
+const engine = {
+  worker: null, requests: [], chain: Promise.resolve(), doing: Promise.resolve(), isBuilt: false, isHeld: false, opening: null,
+  given: null, branches: [], fragment: "", page: `<!DOCTYPE html>\n${document.documentElement.outerHTML}`,
+  get isBusy() { return this.requests.length > 0; },
+};
 
 const textOfBytes = (bytes) => new TextDecoder("latin1").decode(bytes);
-const bytesOfText = (text) => Uint8Array.from(text, (letter) => letter.charCodeAt(0) & 0xff);
-const bytesOfBase64 = (text) => Uint8Array.from(atob(text.replace(/\s/g, "")), (letter) => letter.charCodeAt(0));
-
-async function through(stream, bytes) {
-  return new Uint8Array(await new Response(new Blob([bytes]).stream().pipeThrough(stream)).arrayBuffer());
-}
+const through = async (stream, bytes) => new Uint8Array(await new Response(new Blob([bytes]).stream().pipeThrough(stream)).arrayBuffer());
 
 async function inflated(text, format = "deflate") {
   if (!window.DecompressionStream) throw new Error("this browser is too old, one of 2023 or later can");
   try {
-    return await through(new DecompressionStream(format), bytesOfBase64(text));
+    return await through(new DecompressionStream(format), bytesOfText(atob(text.replace(/\s/g, ""))));
   } catch {
     throw new Error("it is damaged: a part of it is missing");
   }
+}
+
+async function packed(bytes, format) {
+  const all = await through(new CompressionStream(format), bytes);
+  let letters = "";
+  for (let at = 0; at < all.length; at += 8192) letters += String.fromCharCode(...all.subarray(at, at + 8192));
+  return btoa(letters);
 }
 
 // Starts the worker, from the scripts of this page.
@@ -33,33 +38,27 @@ function startWorker(module) {
 
 // Asks the worker, and returns its reply. What was asked for before comes first.
 function ask(request, words = {}) {
-  const id = ++engine.count;
-  engine.worker.postMessage({ id, request, ...words });
-  setBusy(true);
-  return new Promise((done) => engine.requests.set(id, done));
+  byId("stop").hidden = false;
+  engine.worker.postMessage({ request, ...words });
+  return new Promise((done) => engine.requests.push(done));
 }
 
 function failed(text) {
-  for (const done of engine.requests.values()) done({ said: text, isWrong: true, isFault: true });
-  engine.requests.clear();
-  setBusy(false);
+  for (const done of engine.requests.splice(0)) done({ said: text, isWrong: true, isFault: true });
+  byId("stop").hidden = true;
   say(text, true);
 }
-
-function setBusy(isBusy) { engine.isBusy = isBusy; byId("stop").hidden = !isBusy; }
 
 // Takes what the worker has delivered. While the pointer drags, the film does not change: another moment would be under the hand.
 async function received(data) {
   engine.chain = engine.chain.then(async () => {
     while (engine.isHeld) await new Promise((done) => setTimeout(done, 50));
-    if (data.rows && engine.isOpening && data.rows.kinds.length) openAnew();
+    if (engine.opening && data.rows && data.rows.kinds.length) openAnew(engine.opening);
     if (data.rows) taken(data);
-    if (data.isPart) return showProgress();
-    if (data.isWorking) return say("searching ..", false);
-    const done = engine.requests.get(data.id);
-    engine.requests.delete(data.id);
-    if (!engine.requests.size) setBusy(false);
-    return done && done(data);
+    if (data.isWorking) say("searching ..", false);
+    if (data.isPart || data.isWorking) return;
+    engine.requests.shift()(data);
+    byId("stop").hidden = !engine.isBusy;
   });
 }
 
@@ -68,33 +67,32 @@ function taken(data) {
   grow(data);
   if (before && film.count === before) goTo(here);
   if (engine.isBuilt) grew(before);
+  if (data.isPart) say(`turn ${octal(film.turn[lastMoment()])} ..`, false);
 }
 
-function showProgress() { say(`turn ${octal(film.turn[film.count - 1])} ..`, false); }
-function say(text, isWrong) { setText(byId("said"), text); byId("said").classList.toggle("wrong", Boolean(isWrong)); }
+function say(text, isWrong) { fill(byId("said"), text); byId("said").className = isWrong ? "wrong" : ""; }
 
 // ---- the session
 
 // A film without moments takes the place of the one that is shown, when the first moments of another session have come.
-function openAnew() {
-  engine.isOpening = false;
-  openRows({ ...engine.about, ...engine.parts });
-  if (engine.isBuilt) rebuild();
+function openAnew({ options, deck, panel }) {
+  engine.opening = null;
+  openRows({ ...engine.about, ...options, deck: linesOfOctals(deck), panel: linesOfOctals(panel).flat() });
+  if (!engine.isBuilt) return;
+  Object.assign(shown, { chosen: null, changes: [], origin: null, originLines: new Set(), columns: [] });
+  byId("chosen").hidden = true;
+  showFiles();
 }
 
 // Performs a script from the beginning, with the files of a run. The film is that of the new session only if this could be opened.
-engine.open = async (given, more = {}) => {
-  const octals = (text) => linesOfOctals(text || "");
-  engine.parts = { ...given.options, deck: octals(given.deck), panel: octals(given.panel).flat() };
-  engine.isOpening = true;
-  const reply = await ask(more.request || "open", { given, about: engine.about, module: engine.module, ...more.words });
-  engine.module = null; // the worker has it
-  engine.isOpening = false;
-  if (!reply.isFault) Object.assign(engine, { given });
+engine.open = async (given, request = "open", words = {}) => {
+  engine.opening = given;
+  const reply = await ask(request, { given, about: engine.about, module: engine.module, ...words });
+  Object.assign(engine, { module: null, opening: null, given: reply.isFault ? engine.given : given }); // the worker has the module
   return reply;
 };
 
-const linesOfOctals = (text) => text.split("\n").map((line) => line.trim()).filter((line) => line && line[0] !== "*")
+const linesOfOctals = (text) => (text || "").split("\n").map((line) => line.trim()).filter((line) => line && line[0] !== "*")
   .map((line) => line.split(/\s+/).map((word) => parseInt(word, 8)));
 
 // What is asked for while something is performed comes after it.
@@ -104,87 +102,72 @@ const inTurn = (action) => (...words) => {
   return done;
 };
 
-// Performs lines where the page is. If another action has taken the place of one before that moment, they begin a branch.
+// Performs lines where the page is, and shows what they led to. If another action has taken the place of that moment, they begin a branch.
 async function act(lines) {
-  const end = film.count - 1;
-  const reply = await ask("act", { lines, at: film.at });
-  if (reply.isGone) return (await branch()) && act(lines);
-  if (film.count - 1 > end) {
-    moveTo(film.count - 1);
-    const found = foundBy(film.lines.at(-1));
-    if (found) choose(placeNamed(found.name));
-    if (found && found.text) reply.said += `: ${found.text}`;
-  }
-  say(reply.said, reply.isWrong);
+  const end = lastMoment(), reply = await ask("act", { lines, at: film.at, labels: film.labels });
+  if (reply.isGone) return (await begin(inEffect(film.at))) && act(lines);
+  const isNew = lastMoment() > end, [, , condition] = UNTIL.exec(lines.at(-1)) || [];
+  if (isNew) moveTo(lastMoment());
+  else show(); // the line and its answer
+  const found = !isNew || reply.isWrong ? null : condition === undefined ? foundBy(film.lines.at(-1)) : changeFound(condition);
+  if (found) choose(placeNamed(found.name));
+  say(reply.said + (found ? found.text : ""), reply.isWrong);
   keepTyped();
   return !reply.isWrong;
 }
 
-async function until(texts, back) {
-  const reply = await ask("until", { texts, back, at: film.at, labels: film.labels });
-  if (reply.isGone) return (await branch()) && until(texts, back);
-  moveTo(film.count - 1);
-  const [, name, kind] = /^(.*) changes( state)?$/i.exec(texts.join(" or ")) || [], moment = resolve(film.at);
-  const place = name && !reply.isWrong && moment > 0 ? placeNamed(kind ? name.replace(/^h/i, "STATE") : name) : null;
-  if (place) choose(place);
-  say(reply.said + (place ? `, by ${makerText(moment, place.places[0])}` : ""), reply.isWrong);
-  keepTyped();
-  return !reply.isWrong;
+// Of a search for a change: the place that changed, and who changed it; else null.
+function changeFound(condition) {
+  const [, name, kind] = /^(.*) changes( state)?$/i.exec(condition) || [], moment = resolve(film.at);
+  const place = name && moment > 0 ? placeNamed(kind ? name.replace(/^h/i, "STATE") : name) : null;
+  return place && { name: place.name, text: `, by ${makerText(moment, place.places[0])}` };
 }
 
-// A branch: a session with what was in effect at the moment that is shown.
-const branch = () => begin({ ...engine.given, script: linesInEffect(film.at).map((line) => `${line}\n`).join(""), isTrusted: true });
+// Opens a session in the place of the one that is shown, and shows its end and the place that was chosen.
+async function replace(...session) {
+  const place = shown.chosen ? shown.chosen.name : "", reply = await engine.open(...session);
+  if (!reply.isFault) choose(placeNamed(place));
+  if (!reply.isFault) moveTo(lastMoment());
+  return reply;
+}
 
 // Begins another session. The one before it is kept, to be gone back to.
 async function begin(given) {
-  const { typed } = await ask("script"), before = { ...engine.given, script: typed, isTrusted: true };
-  const reply = await engine.open(given);
-  if (!reply.isFault) {
-    engine.branches.push(before);
-    endOpening(shown.chosen && shown.chosen.name);
-  }
-  byId("leave-branch").hidden = !engine.branches.length;
+  const { typed: script } = await ask("script");
+  engine.branches.push({ ...engine.given, script, isTrusted: true });
+  const reply = await replace(given);
+  if (reply.isFault) engine.branches.pop();
   if (reply.said) say(reply.said, reply.isWrong);
   return !reply.isFault;
 }
 
-Object.assign(engine, { act: inTurn(act), until: inTurn(until), begin: inTurn(begin) });
-
-engine.leaveBranch = inTurn(async () => {
-  const place = shown.chosen && shown.chosen.name;
-  await engine.open(engine.branches.pop());
-  endOpening(place);
-  byId("leave-branch").hidden = !engine.branches.length;
+async function leaveBranch() {
+  await replace(engine.branches.pop());
   say("the session before", false);
-});
+}
 
-// The lines that lead to a moment, without what was taken back.
+Object.assign(engine, { act: inTurn(act), begin: inTurn(begin), leaveBranch: inTurn(leaveBranch) });
+engine.until = (texts, back) => engine.act([`${back ? "back " : ""}until ${texts.join(" or ")}`]);
+
+// The session with what is in effect at a moment, without what was taken back.
+const inEffect = (moment) => ({ ...engine.given, script: ofLines(linesInEffect(moment)), isTrusted: true });
+
 function linesInEffect(moment) {
-  const script = [];
-  let turns = 0;
-  const end = () => { for (; turns; turns -= Math.min(turns, 0o1000000)) script.push(`STEP ${octal(Math.min(turns, 0o1000000))}`); };
+  const parts = []; // from the end: lines, and counts of turns
   for (let at = resolve(moment); at > 0; at = resolve(at - 1)) {
-    if (isTurn(at)) turns++;
-    else if (film.kinds[at] === SKIP) turns += film.skips.get(at);
-    else {
-      end();
-      script.push(lineOf(at).text);
-    }
+    const turns = isTurn(at) ? 1 : film.skips.get(at);
+    if (film.kinds[at] === LINE) parts.push(lineOf(at).text);
+    else if (typeof parts.at(-1) === "number") parts.push(parts.pop() + turns);
+    else parts.push(turns);
   }
-  end();
-  return script.reverse();
+  return parts.reverse().flatMap((part) => (typeof part === "number" ? stepsOf(part) : [part]));
 }
 
 const isAtSkipped = () => film.kinds[film.at] === SKIP;
 
 // Records the last of the turns that were skipped at a moment, or those up to one of them, and shows the last of these.
 engine.unskip = async (at = film.at, turn = film.turn[at]) => {
-  const place = shown.chosen && shown.chosen.name;
-  const reply = await engine.open(engine.given, { request: "unskip", words: { at, before: film.turn[at] - turn } });
-  if (reply.isFault) return say(reply.said, true);
-  endOpening(place);
-  return moveTo(momentOfTurn(turn));
+  const reply = await replace(engine.given, "unskip", { at, before: film.turn[at] - turn });
+  if (reply.isFault) say(reply.said, true);
+  else moveTo(momentOfTurn(turn));
 };
-
-// Shows the session that was opened anew at its end.
-function endOpening(place) { choose(place ? placeNamed(place) : null); moveTo(film.count - 1); }

@@ -5,7 +5,7 @@ const exercises = { all: [], now: null };
 function buildExercises() {
   exercises.all = film.exercises || [];
   byId("exercise").hidden = !exercises.all.length;
-  exercises.all.forEach(({ name }, at) => byId("exercise-of").add(new Option(`${at + 1}. ${name}`, name)));
+  fillSelect("exercise-of", exercises.all.map(({ name }, at) => `${at + 1}. ${name}`), exercises.all.map(({ name }) => name));
   byId("exercise").onsubmit = (event) => { event.preventDefault(); beginExercise(); };
   byId("exercise-of").onchange = () => showTask(exerciseNamed(byId("exercise-of").value));
   byId("check").onclick = checkExercise;
@@ -18,7 +18,7 @@ const exerciseNamed = (name) => exercises.all.find((one) => one.name === name);
 function showTask(exercise) {
   if (!exercise) return;
   byId("exercise-of").value = exercise.name;
-  setText(byId("task"), exercise.task);
+  fill(byId("task"), exercise.task);
   byId("panel-text").hidden = !exercise.files.panel;
   byId("panel-text").value = exercise.files.panel;
 }
@@ -28,7 +28,7 @@ function showExercise() {
   const [, name] = /^\* EXERCISE (\S+)\s*$/m.exec(engine.given.script) || [];
   exercises.now = exerciseNamed(name) || null;
   byId("check").disabled = !exercises.now;
-  setText(byId("checked"), "");
+  fill(byId("checked"), "");
   if (!exercises.now) return;
   showTask(exercises.now);
   if (engine.given.panel) byId("panel-text").value = engine.given.panel;
@@ -44,7 +44,8 @@ function withExercise(given) {
 
 function beginExercise() {
   const { name, files } = exerciseNamed(byId("exercise-of").value), panel = linesOfOctals(byId("panel-text").value).flat();
-  if (files.panel && (panel.length !== 12 || panel.some((word) => !(word < CELLS)))) return say("a panel is twelve words of four octal digits", true);
+  const isPanel = panel.length === 12 && panel.every((word) => word < CELLS);
+  if (files.panel && !isPanel) return say("a panel is twelve words of four octal digits", true);
   const notes = [`* EXERCISE ${name}`, ...(files.panel ? [`* PANEL ${panel.map(four).join(" ")}`] : [])];
   return beginAnew({ script: `${notes.join("\n")}\n${files.script}` }, "the exercise begins");
 }
@@ -60,7 +61,8 @@ async function checkExercise() {
   const given = { ...options, deck: files.deck, panel: engine.given.panel };
   const { answers } = await ask("answers", { given, lines: answerTo(exercise), check });
   const wanted = expected.split("\n").slice(0, -1), found = answers.slice(-wanted.length);
-  const wrong = wanted.flatMap((line, at) => (line === found[at] ? [] : [`expected ${isHidden ? "another line" : line}`, `written  ${found[at] ?? ""}`]));
-  setText(byId("checked"), [`${name}: ${wrong.length ? "not solved" : "solved"}`, ...wrong.slice(0, 8)].join("\n"));
+  const difference = (line, at) => [`expected ${isHidden ? "another line" : line}`, `written  ${found[at] ?? ""}`];
+  const wrong = wanted.flatMap((line, at) => (line === found[at] ? [] : difference(line, at)));
+  fill(byId("checked"), [`${name}: ${wrong.length ? "not solved" : "solved"}`, ...wrong.slice(0, 8)].join("\n"));
   byId("checked").classList.toggle("wrong", wrong.length > 0);
 }

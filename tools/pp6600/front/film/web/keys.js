@@ -1,14 +1,9 @@
 // ---- what keys and buttons do. Which key does what is in the table of the tools, which comes with the page
 
 const byHand = (move) => (count = 1, digits = "") => { play(false); return move(count, digits); };
-const lastMoment = () => film.count - 1;
 
-// The next moment in a direction that is a turn of the chosen processor; -1 if there is none.
-function turnBeside(direction) {
-  let at = film.at + direction;
-  while (at > 0 && at < film.count && !(isTurn(at) && film.processor[at] === memory.processor)) at += direction;
-  return at > 0 && at < film.count ? at : -1;
-}
+const isTurnOfChosen = (moment) => isTurn(moment) && film.processor[moment] === memory.processor;
+const beforeTurn = () => (film.at ? Math.max(0, (isTurn(film.at) ? film.at : nearest(-1, isTurn)) - 1) : -1);
 
 // On so many times to where find() says; from the end of the film on by turns.
 function onwards(count, find, turns) {
@@ -26,22 +21,26 @@ async function backwards(count, find) {
 
 // Chooses a number beside the chosen one: of cells and words that with the address beside, of others the nearest on the page.
 function chooseBeside(right, down) {
-  const place = shown.chosen, row = place && place.kind === "M" && memory.as === "numbers" ? 8 : 1;
-  if (!place) return choose(placeNamed(`M ${octal(memory.processor)} ${octal(film.numbers[register(memory.processor, 0)])}`));
-  if (place.kind === "M" || place.kind === "C") {
-    const numbers = [...place.numbers], last = numbers.length - 1, size = place.kind === "M" ? CELLS : layout.size;
-    numbers[last] = (numbers[last] + right + row * down + size) % size;
-    return choose(placeNamed([place.kind, ...numbers.map((one) => octal(one))].join(" ")));
-  }
-  const middle = (one) => { const box = one.getBoundingClientRect(); return [box.left + box.width / 2, box.top + box.height / 2]; };
-  const here = numberButtons.find((one) => one.place.name === place.name && isSeen(one));
-  if (!here) return null;
-  const [x, y] = middle(here), far = ([left, top]) => { const [along, aside] = right ? [(left - x) * right, top - y] : [(top - y) * down, left - x];
-    return along > 2 ? along + 4 * Math.abs(aside) : Infinity; };
-  const found = numberButtons.filter(isSeen).map((one) => [far(middle(one)), one]).reduce((one, other) => (other[0] < one[0] ? other : one));
-  return found[0] < Infinity ? choose(found[1].place) : null;
+  const { kind, numbers, name } = shown.chosen || {}, far = kind === "M" && memory.as === "numbers" ? 8 : 1;
+  if (!kind) return choose(placeWith("M", memory.processor, numberOf("P", memory.processor)));
+  if (kind !== "M" && kind !== "C") return chooseNearest(name, right, down);
+  const size = KINDS[kind].sizes.at(-1), address = (numbers.at(-1) + right + far * down + size) % size;
+  return choose(placeWith(kind, ...numbers.slice(0, -1), address));
 }
 
+function chooseNearest(name, right, down) {
+  const all = buttonsSeen(), here = all.find((one) => one.place.name === name);
+  const middle = (one) => { const box = one.getBoundingClientRect(); return [box.left + box.width / 2, box.top + box.height / 2]; };
+  const [x, y] = here ? middle(here) : [0, 0], distance = (one) => {
+    const [left, top] = middle(one), [along, aside] = right ? [(left - x) * right, top - y] : [(top - y) * down, left - x];
+    return along > 2 ? along + 4 * Math.abs(aside) : Infinity;
+  };
+  const near = all.map((one) => [distance(one), one]).filter(([far]) => far < Infinity).sort(([one], [other]) => one - other);
+  if (here && near.length) choose(near[0][1].place);
+}
+
+const isSeen = (element) => element.offsetParent !== null;
+const buttonsSeen = () => [...document.querySelectorAll("button.number")].filter(isSeen);
 const chooseProcessor = (distance) => chooseMemory((memory.processor + distance % PROCESSORS + PROCESSORS) % PROCESSORS);
 function typeLine(text) { byId("typed").value = text; byId("typed").focus(); }
 
@@ -50,13 +49,13 @@ function searchAgain(back) {
   else say("no condition was looked for", true);
 }
 
-const watched = () => watchesIn(film.numbers).map(({ name }) => name);
+const watched = () => watchesIn(film.numbers).map(nameOf);
 
 // To before a watched number changed; if none is watched, the chosen one.
 function backToChange() {
   if (watched().length || !shown.chosen) return engine.act(["BACK W"]);
-  const [last] = changesBack();
-  return last > 0 ? moveTo(last - 1) : findChange(true);
+  const { last } = changesAround();
+  return last > 0 ? moveTo(last - 1) : findChange(-1);
 }
 
 function watch() {
@@ -68,31 +67,27 @@ const showAs = (form, other) => showMemoryAs({ as: memory.as === form ? other : 
 
 const ACTIONS = {
   on: byHand((count) => onwards(count, () => film.at + 1, (left) => left)), back: byHand((count) => backwards(count, () => film.at - 1)),
-  "round-on": byHand((count) => onwards(count, () => aRound(1), (left) => left * ROUND)),
-  "round-back": byHand((count) => backwards(count, () => (film.at ? aRound(-1) : -1))),
-  "next-turn": byHand((count) => onwards(count, () => turnBeside(1),
-    (left) => ((memory.processor - film.numbers[layout.slot] + PROCESSORS) % PROCESSORS) + 1 + ROUND * (left - 1))),
-  "turn-before": byHand((count) => backwards(count, () => turnBeside(-1))),
+  "round-on": byHand((count) => onwards(PROCESSORS * count, () => nearest(1, isTurn), (left) => left)),
+  "round-back": byHand((count) => backwards(PROCESSORS * count, beforeTurn)),
+  "next-turn": byHand((count) => onwards(count, () => nearest(1, isTurnOfChosen),
+    (left) => ((memory.processor - numberOf("SLOT") + PROCESSORS) % PROCESSORS) + 1 + PROCESSORS * (left - 1))),
+  "turn-before": byHand((count) => backwards(count, () => nearest(-1, isTurnOfChosen))),
   beginning: byHand(() => moveTo(0)), newest: byHand(() => moveTo(lastMoment())), "back-to-change": byHand(backToChange), watch,
-  turn: byHand(async (count, digits) => {
-    if (!digits) return byId("turn").select();
-    await goToTurn(count);
-    return accept("turn", wrongTurn(digits));
-  }),
+  turn: byHand(async (count, digits) => (digits ? accept("turn", await goToTyped(digits)) : byId("turn").select())),
   until: () => typeLine("until "), "back-until": () => typeLine("back until "),
   again: byHand(() => searchAgain(false)), "back-again": byHand(() => searchAgain(true)),
   "next-change": byHand(() => moveToChange(1)), "change-before": byHand(() => moveToChange(-1)),
   "next-line": byHand(() => moveByLine(1)), "line-before": byHand(() => moveByLine(-1)),
   Left: () => chooseBeside(-1, 0), Right: () => chooseBeside(1, 0), Up: () => chooseBeside(0, -1), Down: () => chooseBeside(0, 1),
   "processor-before": (count) => chooseProcessor(-count), "next-processor": (count) => chooseProcessor(count),
-  "processor-in-slot": () => chooseMemory(film.numbers[layout.slot]), follow: () => followTurns(),
+  "processor-in-slot": () => chooseMemory(numberOf("SLOT")), follow: () => followTurns(),
   instructions: () => showAs("numbers", "instructions"), "display-code": () => showAs("text", "instructions"),
   place: () => byId("place").select(), origin: () => findOrigin(), line: () => byId("typed").focus(),
   help: () => showHelp(byId("help").hidden), forget: () => (byId("help").hidden ? chooseNone() : showHelp(false)),
   play: () => play(!shown.playing), faster: () => changeRate(1), slower: () => changeRate(-1),
   "script-line-before": byHand(() => moveLine(-1)), "next-script-line": byHand(() => moveLine(1)),
   "run-to": byHand(() => runTo(false)), "run-back": byHand(() => runTo(true)), set: byHand(() => edit()),
-  barrel: () => foldBarrel(), projector: () => project(),
+  barrel: () => { barrel.folded = !barrel.folded; show(); }, projector: () => project(),
 };
 
 // The key of an action, as the help names it.
@@ -113,7 +108,7 @@ function pressed(event) {
     if (key === "Escape") target.blur();
     return;
   }
-  const isOwn = target.matches("button:not(.number), summary") ? key === " " || key === "Enter" : isOnSlider && /^(Arrow|Home|End)/.test(key);
+  const isOwn = isOnSlider ? /^(Arrow|Home|End)/.test(key) : target.matches("button:not(.number), summary") && /^( |Enter)$/.test(key);
   if (isOwn || (key.length === 1 && key !== " " && !byId("letters").checked)) return;
   const action = film.keys.actions[key], digits = shown.count || "";
   if (!action && !/^\d$/.test(key)) return;
@@ -131,6 +126,6 @@ function buildKeys() {
     button.onclick = () => ACTIONS[button.dataset.action](1);
     button.title = `${button.title} (${keyOf(button.dataset.action)})`.trim();
   }
-  for (const [names, text] of film.keys.help) addRow(byId("keys"), [names.join(" "), text]);
+  fill(byId("keys"), film.keys.help.map(([names, text]) => row("", names.join(" "), text)));
   document.addEventListener("keydown", pressed);
 }

@@ -3,8 +3,8 @@
 const PROCESSORS = 10, CHANNELS = 12, CLOCK = 12, CELLS = 4096, FRAME_WORDS = 16, WATCHES = 8, COLUMNS = 80;
 const CENTRAL_ADDRESSES = 0o1000000, HALF = 30; // a number of 60 bits is kept in halves
 
-// The first place of each part. Behind the library's places come the upper halves of the numbers of 60 bits; and the columns of the deck,
-// which have no number but are where one came from.
+// The first place of each part; the clock is the last of the words. Behind the library's places come the upper halves of the numbers of 60
+// bits; and the columns of the deck, which have no number but are where one came from.
 const layout = {
   cells: 0, A: 40960, P: 40970, Q: 40980, phase: 40990, states: 41000, words: 41012, clock: 41024, frame: 41025, reader: 41041,
   printer: 41044, paper: 41047, slot: 106583, watches: 106584, central: 106592,
@@ -14,6 +14,7 @@ const layout = {
 function setLayout(size) {
   const high = layout.central + size, deck = high + FRAME_WORDS + size;
   Object.assign(layout, { size, high, deck });
+  KINDS.C.sizes = [size];
   return deck;
 }
 
@@ -23,14 +24,89 @@ const register = (processor, index) => REGISTERS[index] + processor; // P, A, Q,
 const isFrame = (place) => place >= layout.frame && place < layout.reader;
 const isCentral = (place) => place >= layout.central && place < layout.high;
 const isWord = (place) => isFrame(place) || isCentral(place); // whether its number has 60 bits
+const isUpper = (place) => place >= layout.high && place < layout.deck;
 const upperOf = (place) => layout.high + (isFrame(place) ? place - layout.frame : FRAME_WORDS + place - layout.central);
 const wordOfUpper = (place) => (place - layout.high < FRAME_WORDS ? layout.frame + place - layout.high : place - FRAME_WORDS - layout.size);
+const range = (count) => Array.from({ length: count }, (_, at) => at);
 const octal = (number, digits = 1) => number.toString(8).padStart(digits, "0");
 const two = (number) => octal(number, 2);
 const four = (number) => octal(number, 4);
 
+// ---- the kinds of numbers that have a name, in the order of their places: how many there are, by their indices; how many digits these and
+// the number are written with; and which modes the number is one of
+
+const kindOfNumber = (first, sizes, widths, digits, modes) => ({ first, sizes, widths, digits, modes });
+const ofProcessors = (first, digits) => kindOfNumber(first, [PROCESSORS], [2], digits);
+const KINDS = {
+  M: kindOfNumber(layout.cells, [PROCESSORS, CELLS], [2, 4], 4),
+  A: ofProcessors(layout.A, 6), P: ofProcessors(layout.P, 4), Q: ofProcessors(layout.Q, 4), PHASE: ofProcessors(layout.phase, 4),
+  STATE: kindOfNumber(layout.states, [CHANNELS], [2], 1), H: kindOfNumber(layout.words, [CHANNELS + 1], [2], 4),
+  XP: kindOfNumber(layout.frame, [FRAME_WORDS], [2], 20),
+  CARD: kindOfNumber(layout.reader, [], [], 4), "CARD-COLUMN": kindOfNumber(layout.reader + 1, [], [], 3),
+  "CARD-MODE": kindOfNumber(layout.reader + 2, [], [], 0, "reader"),
+  SYMBOLS: kindOfNumber(layout.printer, [], [], 6), "PAPER-COLUMN": kindOfNumber(layout.printer + 1, [], [], 3),
+  "PAPER-MODE": kindOfNumber(layout.printer + 2, [], [], 0, "printer"),
+  SLOT: kindOfNumber(layout.slot, [], [], 2), C: kindOfNumber(layout.central, [], [6], 20),
+};
+const SETTABLE = ["M", "A", "P", "Q", "C", "H"]; // what a SET takes, and what is watched, in the order of the watch entries' kinds
+
+// The place of a number by its kind and its indices.
+const placeOf = (kind, ...indices) => indices.reduce((at, index, one) => at * KINDS[kind].sizes[one] + index, 0) + KINDS[kind].first;
+const nameWith = (kind, indices) => [kind, ...indices.map((index, at) => octal(index, KINDS[kind].widths[at]))].join(" ");
+
+// The kind and the indices of the number at a place, its upper half too; or null if it has no name.
+function kindAt(place) {
+  const word = isUpper(place) ? wordOfUpper(place) : place;
+  const [kind, { first, sizes }] = Object.entries(KINDS).findLast(([, one]) => one.first <= word);
+  const last = sizes.at(-1), at = word - first, indices = [[], [at], [Math.floor(at / last), at % last]][sizes.length];
+  return at < sizes.reduce((count, size) => count * size, 1) ? { kind, indices } : null;
+}
+
+// The name of the number at a place, as M 00 0106; "" of one that has none.
+function nameOf(place) {
+  const found = kindAt(place);
+  return found ? nameWith(found.kind, found.indices) : "";
+}
+
+// A number of the machine by its kind and its indices: its name, and its places, of 60 bits that of the upper half first.
+function placeWith(kind, ...numbers) {
+  const at = placeOf(kind, ...numbers);
+  return { kind, numbers, name: nameWith(kind, numbers), places: isWord(at) ? [upperOf(at), at] : [at] };
+}
+
+// The number with a name, as answers have it; null if there is none. A label of the processor may be in the place of an address.
+function placeIn(text, labels) {
+  const [first, ...words] = text.trim().split(/\s+/), kind = first.toUpperCase(), sizes = KINDS[kind] ? KINDS[kind].sizes : [];
+  const numbers = words.map((word, at) => (at ? addressIn(word, labels[octalIn(words[0])]) : octalIn(word)));
+  const isRight = KINDS[kind] && words.length === sizes.length && numbers.every((number, at) => number !== null && number < sizes[at]);
+  return isRight ? placeWith(kind, ...numbers) : null;
+}
+
+const octalIn = (word) => (/^[0-7]+$/.test(word) ? parseInt(word, 8) : null);
+
+// An address by its octal digits or by a label, as START or START+3; or null.
+const addressIn = (word, labels) => (labels && labels.addresses[word]) ?? octalIn(word);
+
+// The places that are watched, by the codes of the watch entries: the kind, and the processor and address.
+function watchesIn(numbers) {
+  return [...numbers.subarray(layout.watches, layout.watches + WATCHES)].filter(Boolean).map((code) => {
+    const kind = SETTABLE[Math.floor(code / 0o10000000) - 1], rest = code % 0o10000000;
+    return kind === "M" ? rest : placeOf(kind, rest); // the rest of a cell's code is its place
+  });
+}
+
+// ---- moments
+
 // The kinds of a moment: what a processor did in a turn; another action; a BACK or FORWARD; turns that were not recorded.
 const IDLE = 0, WAITING = 1, BUSY = 2, BLOCK = 3, LINE = 4, JUMP = 5, SKIP = 6;
+
+// What the page gets of the moments: of each its kind, and of a turn its processor, P and the number of its instruction; where its changes
+// begin among the places, with the numbers there before and after it; and where its writes begin, with the places that each read. In what
+// the recorder delivers the starts are those of the next one.
+const ROWS = {
+  kinds: Uint8Array, processor: Uint8Array, p: Uint16Array, turned: Int32Array, starts: Uint32Array, places: Int32Array, was: Int32Array,
+  now: Int32Array, writeStarts: Uint32Array, writes: Int32Array, whats: Int32Array, readStarts: Uint32Array, reads: Int32Array,
+};
 
 // Returns the first of so many numbers from 0 on for which something no longer holds; it holds for all before.
 function firstNot(count, holds) {
@@ -43,17 +119,18 @@ function firstNot(count, holds) {
   return low;
 }
 
-// The watched places, by the codes of the watch entries: the kind, and the processor and address.
-function watchesIn(numbers) {
-  const watches = [];
-  for (let entry = 0; entry < WATCHES && numbers[layout.watches + entry]; entry++) {
-    const code = numbers[layout.watches + entry], kind = Math.floor(code / 0o10000000), rest = code % 0o10000000, n = rest >> 12;
-    watches.push([
-      () => ({ name: `M ${two(n)} ${four(rest & 0o7777)}`, place: n * CELLS + (rest & 0o7777) }),
-      () => ({ name: `A ${two(rest)}`, place: register(rest, 1) }), () => ({ name: `P ${two(rest)}`, place: register(rest, 0) }),
-      () => ({ name: `Q ${two(rest)}`, place: register(rest, 2) }), () => ({ name: `C ${octal(rest, 6)}`, place: layout.central + rest }),
-      () => ({ name: `H ${two(rest)}`, place: rest === CLOCK ? layout.clock : layout.words + rest }),
-    ][kind - 1]());
-  }
-  return watches;
+// ---- lines of the console, and bytes as the characters of a text
+
+const bytesOfText = (text) => Uint8Array.from(text, (letter) => letter.charCodeAt(0) & 0xff);
+const linesIn = (text) => text.replace(/\n$/, "").split("\n").map((line) => line.replace(/\r$/, "")).slice(text ? 0 : 1);
+
+const MOST_TURNS = 0o1000000; // of one STEP
+const UNTIL = /^\s*(back\s+)?until\s+(.*)$/i; // a line of the page that is a search
+const wordsIn = (line) => line.trim().toUpperCase().split(/\s+/);
+const ofLines = (lines) => lines.map((line) => `${line}\n`).join("");
+
+// Lines that make so many turns.
+function stepsOf(turns) {
+  const last = turns % MOST_TURNS;
+  return [...Array(Math.floor(turns / MOST_TURNS)).fill(`STEP ${octal(MOST_TURNS)}`), ...(last ? [`STEP ${octal(last)}`] : [])];
 }

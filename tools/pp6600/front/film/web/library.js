@@ -86,7 +86,7 @@ class LibrarySession extends Rooms {
     throw new LibraryError(status);
   }
 
-  // Performs lines, a text or bytes, by as many calls as it takes. Returns their answers, how many lines there were, and how many were rejected.
+  // Performs lines, a text or bytes. Returns their answers, how many lines there were, and how many were rejected.
   answer(typed) {
     const bytes = typeof typed === "string" ? new TextEncoder().encode(typed) : typed, done = { text: "", lines: 0, refused: 0 };
     const [from] = this.given("typed", bytes);
@@ -110,22 +110,13 @@ class LibrarySession extends Rooms {
     return this.view(BigUint64Array, into, count).slice();
   }
 
-  // Makes turns, or performs actions again. Returns the status; for each its processor, 10 if it is no turn, and how many old numbers it
-  // has; and these, a place and the number that was there.
-  turns = (...rooms) => this.recorded("turns", ...rooms);
-  again = (...rooms) => this.recorded("again", ...rooms);
-  recorded(call, most, room = 4096, oldRoom = 8 * room) {
+  // Makes turns, or by another call performs actions again. Returns the status; for each its processor, 10 if it is no turn, and how many
+  // old numbers it has; and these, a place and the number that was there.
+  turns(most, room = 4096, oldRoom = 8 * room, call = "turns") {
     const made = this.room("made", 8 * room), olds = this.room("olds", 16 * oldRoom);
     const status = this.call(call, checked32(most), made, BigInt(room), olds, BigInt(oldRoom), ...this.outs(2));
     const [turns, used] = this.results(2);
     return { status, made: this.view(Uint32Array, made, 2 * turns).slice(), olds: this.view(BigUint64Array, olds, 2 * used).slice() };
-  }
-
-  // Makes turns. Returns the status, and the numbers at these places after each.
-  looks(most, places, room = 4096 * places.length) {
-    const into = this.room("looks", 8 * room), given = this.given("places", Uint32Array.from(places, checked32));
-    const status = this.call("looks", checked32(most), ...given, into, BigInt(room), ...this.outs(1));
-    return { status, numbers: this.view(BigUint64Array, into, places.length * this.results(1)[0]).slice() };
   }
 
   back = (count) => this.call("back", checked32(count));

@@ -1,142 +1,44 @@
-// ---- numbers on the page
+// ---- the machine: processors, channels, memory, devices, and the script
 
-const numberButtons = []; // each a button with the place that it shows
-
-// Makes an element, with what is in it.
-function make(kind, properties, ...parts) {
-  const element = Object.assign(document.createElement(kind), properties);
-  element.append(...parts);
-  return element;
+// A number as a button, which chooses it.
+function number(place, more = "") {
+  const isChanged = place.places.some((at) => shown.changed.has(at)), isChosen = shown.chosen !== null && shown.chosen.name === place.name;
+  const className = classes({ number: true, changed: isChanged, [more]: more });
+  return makeButton(className, textAt(place), null, { title: place.name, place, "data-place": place.name, "aria-pressed": isChosen });
 }
 
-const makeButton = (className, textContent, onclick, more = {}) => make("button", { type: "button", className, textContent, onclick, ...more });
-const addTo = (parent, element) => { parent.append(element); return element; };
-const setText = (element, text) => { if (element.textContent !== text) element.textContent = text; };
-const tableOf = (id) => document.querySelector(`#${id} table`);
-const addHead = (table, words) => table.createTHead().insertRow().append(...words.map((word) => make("th", { scope: "col", textContent: word })));
+const numberWith = (kind, ...indices) => number(placeWith(kind, ...indices));
 
-// Adds a button that shows the number at a place.
-function addNumber(parent, name) {
-  const button = addTo(parent, makeButton("number", "", null));
-  numberButtons.push(button);
-  setPlace(button, name);
-  return button;
-}
+// A text in which a word after @ is the name of a number.
+const withNumbers = (text) => text.split(" ").map((word) => [word[0] === "@" ? number(placeNamed(word.slice(1))) : word, " "]);
 
-function setPlace(button, name) {
-  if (button.dataset.place === name) return;
-  button.dataset.place = name;
-  button.place = placeNamed(name);
-  button.title = button.place.name;
-}
-
-// Shows an instruction; what it does is said to who points at it.
-function setInstruction(element, text) {
-  if (element.textContent !== text) Object.assign(element, { textContent: text, title: meaningOf(text.slice(0, 3)) });
-}
-
-function showNumbers() {
-  const changed = new Set(film.places.subarray(film.starts[film.at], film.starts[film.at + 1])), chosen = shown.chosen && shown.chosen.name;
-  for (const button of numberButtons) {
-    if (button.hidden) continue;
-    setText(button, textAt(button.place));
-    button.classList.toggle("changed", button.place.places.some((place) => changed.has(place)));
-    button.setAttribute("aria-pressed", button.place.name === chosen);
-  }
-}
-
-// Adds a row of texts to a table; those of these cells are names.
-function addRow(table, cells, ...names) {
-  const row = table.insertRow();
-  for (const text of cells) row.insertCell().textContent = text;
-  for (const at of names) row.cells[at].className = "name";
-  return row;
-}
+// A cell with an instruction; what it does is said to who points at it.
+const instructionCell = (text) => cell("", text, { title: meaningOf(text.slice(0, 3)) });
+const heading = (text, more = {}) => cell("name", text, more);
 
 // ---- processors and channels
 
-const PROCESSOR_HEADS = ["", "", "P", "at P", "instruction", "A", "Q", "phase", "waits for"];
-const processorRows = [], channelRows = [];
-
-function buildProcessors() {
-  const table = tableOf("processors");
-  addHead(table, PROCESSOR_HEADS);
-  const body = table.createTBody();
-  for (let n = 0; n < PROCESSORS; n++) {
-    const row = addRow(body, ["", `PP ${two(n)}`, "", "", "", "", "", "", ""], 1), cells = [...row.cells];
-    cells.forEach((cell, at) => { cell.dataset.head = PROCESSOR_HEADS[at]; });
-    cells[1].onclick = () => chooseMemory(n);
-    addNumber(cells[2], `P ${two(n)}`);
-    const words = [0, 1].map((at) => addNumber(cells[3], `M ${two(n)} ${four(at)}`));
-    [["A", 5], ["Q", 6], ["PHASE", 7]].forEach(([name, at]) => addNumber(cells[at], `${name} ${two(n)}`));
-    processorRows.push({ row, words, mark: cells[0], name: cells[4], wait: cells[8] });
-  }
+function processorRow(n) {
+  const p = numberOf("P", n), next = nextOf(n), is = { next: numberOf("SLOT") === n, acted: hasTurn(n), chosen: n === memory.processor };
+  const words = (next.second ? [p, (p + 1) % CELLS] : [p]).map((at) => numberWith("M", n, at));
+  const name = instructionCell(next.block ? `${next.name} in its block` : next.name);
+  return row(classes(is), is.next ? ">" : "", heading(`PP ${two(n)}`, { onclick: () => chooseMemory(n) }), numberWith("P", n), words, name,
+    ...["A", "Q", "PHASE"].map((kind) => numberWith(kind, n)), next.waits);
 }
 
-function showProcessors() {
-  processorRows.forEach(({ row, words, mark, name, wait }, n) => {
-    const p = film.numbers[register(n, 0)], next = nextOf(n), isNext = film.numbers[layout.slot] === n;
-    words.forEach((button, at) => setPlace(button, `M ${two(n)} ${four((p + at) % CELLS)}`));
-    words[1].hidden = !next.second;
-    setText(mark, isNext ? ">" : "");
-    setInstruction(name, next.block ? `${next.name} in its block` : next.name);
-    setText(wait, next.waits);
-    row.classList.toggle("next", isNext);
-    row.classList.toggle("acted", isTurn(film.at) && film.processor[film.at] === n);
-    row.classList.toggle("chosen", n === memory.processor);
-  });
-}
+const hasTurn = (n) => isTurn(film.at) && film.processor[film.at] === n; // whether this moment is a turn of it
+const stateOf = (c) => (c === CLOCK ? 2 : numberOf("STATE", c)); // the clock is always full
 
-function buildChannels() {
-  const table = tableOf("channels");
-  addHead(table, ["", "state", "", "register", ""]);
-  const body = table.createTBody();
-  for (let c = 0; c <= CHANNELS; c++) {
-    const row = addRow(body, [`H ${two(c)}`, c < CHANNELS ? "" : "F", "", "", c === CLOCK ? "clock" : film.devices[c] || ""], 0);
-    if (c < CHANNELS) addNumber(row.cells[1], `STATE ${two(c)}`);
-    addNumber(row.cells[3], `H ${two(c)}`);
-    channelRows.push({ row, state: row.cells[2] });
-  }
-}
-
-function showChannels() {
-  channelRows.forEach(({ row, state }, c) => {
-    const number = c < CHANNELS ? film.numbers[layout.states + c] : 2;
-    setText(state, film.states[number][1]);
-    row.classList.toggle("quiet", number === 0);
-  });
+function channelRow(c) {
+  const state = stateOf(c), letter = c === CLOCK ? "F" : numberWith("STATE", c);
+  return row(state ? "" : "quiet", heading(`H ${two(c)}`), letter, film.states[state][1], numberWith("H", c), deviceOf(c));
 }
 
 // ---- memory
 
-// The window of memory; it follows the turns until a processor or a cell is chosen.
-const memory = { rows: [], processor: 0, follows: true, from: "P", first: 0, at: 0, as: "numbers" };
+// The window of memory; it follows the turns until a processor or a cell is chosen. `top` is where its rows of instructions begin.
+const memory = { processor: 0, follows: true, from: "P", first: 0, at: 0, top: 0, as: "numbers" };
 const MEMORY_ROWS = 16, CENTRAL_ROWS = 8;
-
-// Calls a function with the octal number that is typed in a field, if it has at most so many digits.
-function onOctal(form, field, digits, act) {
-  byId(form).onsubmit = (event) => {
-    event.preventDefault();
-    if (new RegExp(`^[0-7]{1,${digits}}$`).test(byId(field).value)) act(parseInt(byId(field).value, 8));
-  };
-}
-
-const setField = (id, text) => { if (document.activeElement !== byId(id)) byId(id).value = text; };
-
-function buildMemory() {
-  const table = tableOf("cells"), body = table.createTBody(), select = byId("memory-of");
-  addHead(table, ["", ..."01234567", "display code"]);
-  for (let at = 0; at < MEMORY_ROWS; at++) {
-    const row = addRow(body, Array(10).fill(""), 0);
-    row.cells[9].className = "text";
-    memory.rows.push({ row, buttons: [...row.cells].slice(1, 9).map((cell) => addNumber(cell, "M 00 0000")) });
-  }
-  select.add(new Option("", ""));
-  for (let n = 0; n < PROCESSORS; n++) select.add(new Option(`PP ${two(n)}`, n));
-  select.onchange = () => (select.value ? chooseMemory(Number(select.value)) : followTurns());
-  byId("memory-from").onchange = () => showMemoryAs({ from: byId("memory-from").value });
-  onOctal("memory-form", "memory-at", 4, (at) => showCell(memory.processor, at, true));
-}
 
 const showMemoryAs = (changed) => { Object.assign(memory, changed); show(); };
 const chooseMemory = (processor) => showMemoryAs({ processor, follows: false });
@@ -150,204 +52,152 @@ function showCell(processor, address, always) {
   showMemoryAs({ processor, follows: false, from: "at", at: address });
 }
 
-// The processor whose cell or register a line has set, or -1.
-function processorSet(moment) {
-  const place = film.starts[moment] < film.starts[moment + 1] ? film.places[film.starts[moment]] : layout.states;
-  if (place < layout.A) return place >> 12;
-  return place < layout.states ? (place - layout.A) % PROCESSORS : -1;
+// The processor that memory follows: that of the latest turn that did not pass, if its lane is not quiet; or one that a line has set.
+function followed() {
+  for (let at = resolve(film.at); at > 0; at = resolve(at - 1)) {
+    const n = film.processor[at], kind = film.kinds[at], isLoud = isTurn(at) && kind !== IDLE && !lanes.processors[n].quiet;
+    const set = kind === LINE && changesIn(at).length ? kindAt(changesIn(at)[0]) : null;
+    if (isLoud) return n;
+    if (set && ["M", "A", "P", "Q", "PHASE"].includes(set.kind)) return set.indices[0];
+  }
+  return 0;
 }
 
 function showMemory() {
-  if (memory.follows) memory.processor = film.follows[film.at];
-  const n = memory.processor, p = film.numbers[register(n, 0)];
+  if (memory.follows) memory.processor = followed();
+  const n = memory.processor, p = numberOf("P", n), asNumbers = memory.as === "numbers";
   if (memory.from === "P") memory.first = (p - 0o40 + CELLS) & 0o7740;
-  byId("memory-of").value = memory.follows ? "" : n;
-  byId("memory-from").value = memory.from;
-  setField("memory-at", four(memory.first));
-  setText(document.querySelector("#memory .on-paper"), ` of PP ${two(n)}`);
-  setText(byId("memory-of").options[0], memory.follows ? `PP ${two(n)}, follows the turns` : "follow the turns");
-  memory.rows.forEach(({ row, buttons }, at) => {
-    const first = (memory.first + 8 * at) % CELLS, addresses = buttons.map((_, index) => (first + index) % CELLS);
-    setText(row.cells[0], four(first));
-    buttons.forEach((button, index) => {
-      button.hidden = memory.as !== "numbers";
-      setPlace(button, `M ${two(n)} ${four(addresses[index])}`);
-      button.classList.toggle("at-p", addresses[index] === p);
-    });
-    setText(row.cells[9], addresses.map((address) => displayCode(cellOf(n, address))).join(""));
-  });
-  showProgram();
+  const values = { of: memory.follows ? "" : n, from: memory.from, as: memory.as, at: four(memory.first) };
+  for (const [name, value] of Object.entries(values)) setField(`memory-${name}`, value);
+  fill(document.querySelector("#memory .on-paper"), ` of PP ${two(n)}`);
+  fill(byId("memory-of").options[0], memory.follows ? `PP ${two(n)}, follows the turns` : "follow the turns");
+  byId("cells").hidden = !asNumbers;
+  byId("program").hidden = asNumbers;
+  fill(byId("sentence"), asNumbers ? "" : `PP ${two(n)} ${sentenceOf(n)}`);
+  const marked = (address) => number(placeWith("M", n, address), address === p ? "at-p" : "");
+  if (asNumbers) showCells(n, marked);
+  else showProgram(n, p, marked);
 }
 
-const central = { rows: [], first: 0 };
-
-function buildCentral() {
-  const body = tableOf("central").createTBody();
-  for (let at = 0; at < CENTRAL_ROWS; at++) {
-    const row = addRow(body, ["", ""], 0);
-    central.rows.push({ row, button: addNumber(row.cells[1], "C 000000") });
-  }
-  onOctal("central-form", "central-at", 6, (at) => showCentralWord(at, true));
+function showCells(n, marked) {
+  fillRows("cells", range(MEMORY_ROWS).map((at) => {
+    const all = range(8).map((one) => (memory.first + 8 * at + one) % CELLS), text = all.map((address) => displayCode(cellOf(n, address)));
+    return row("", heading(four(all[0])), ...all.map(marked), cell("text", text.join("")));
+  }));
 }
+
+// Memory as instructions.
+function showProgram(n, p, marked) {
+  const { address, back } = nextOf(n).block || { address: p, back: null }, isText = memory.as === "text";
+  const rows = programWindow(n, memory.top, memory.from === "P" ? address ?? p : memory.at, MEMORY_ROWS, [p, address, back]);
+  memory.top = rows[0].address;
+  fill(document.querySelector("#program th:last-child"), isText ? "display code" : "");
+  fillRows("program", rows.map(({ address: at, words }) => {
+    const numbers = words.map((_, one) => marked((at + one) % CELLS));
+    const texts = [textOfListing(n, at, words[0]) || addressName(n, at), isText ? words.map(displayCode).join("") : ""];
+    return row("", at === p ? ">" : at === back ? "r" : "", breakpoint(n, at, four(at)), numbers, instructionCell(wordsText(at, words)),
+      ...texts.map((text) => cell("text", text)));
+  }));
+}
+
+const central = { first: 0 };
 
 function showCentralWord(address, always) {
-  if (always || address < central.first || address >= central.first + CENTRAL_ROWS) central.first = Math.min(address, layout.size - CENTRAL_ROWS);
+  const isShown = address >= central.first && address < central.first + CENTRAL_ROWS;
+  if (always || !isShown) central.first = Math.min(address, layout.size - CENTRAL_ROWS);
   byId("central").hidden = false;
   show();
 }
 
-function showCentral() {
+function showWords() {
+  const words = range(CENTRAL_ROWS).map((at) => central.first + at), half = FRAME_WORDS / 2;
   setField("central-at", octal(central.first, 6));
-  central.rows.forEach(({ row, button }, at) => {
-    setText(row.cells[0], octal(central.first + at, 6));
-    setPlace(button, `C ${octal(central.first + at, 6)}`);
-  });
+  fillRows("central", words.map((at) => row("", heading(octal(at, 6)), numberWith("C", at))));
+  const frameRow = (at) => row("", ...[at, at + half].flatMap((word) => [heading(two(word)), numberWith("XP", word)]));
+  fillRows("frame", range(half).map(frameRow));
 }
 
-function buildFrame() {
-  for (let at = 0; at < FRAME_WORDS / 2; at++) {
-    const row = addRow(tableOf("frame"), [two(at), "", two(at + 8), ""], 0, 2);
-    [at, at + 8].forEach((word, half) => addNumber(row.cells[1 + 2 * half], `XP ${two(word)}`));
-  }
-}
-
-// The parts of the machine that the film uses, of those that not every run uses.
-let parts;
-
-// Shows those that the moments from a first one on use; with 0 the film is another one.
+// Shows the parts of the machine that the moments from a first one on use, of those that not every run uses; with 0 the film is another one.
 function showParts(first) {
-  if (!first) parts = { frame: false, reader: false, printer: false, central: -1 };
-  for (let at = film.starts[first]; at < film.places.length; at++) {
-    const place = film.places[at];
-    if (place < layout.frame || place === layout.slot) continue;
-    if (place < layout.reader) parts.frame = true;
-    else if (place < layout.printer) parts.reader = true;
-    else if (place < layout.slot) parts.printer = true;
-    else if (isCentral(place) && parts.central < 0) parts.central = place - layout.central;
+  const { frame, reader, printer, slot, high } = layout, places = film.places.subarray(film.starts[first]);
+  const all = { frame: [frame, reader], reader: [reader, printer], printer: [printer, slot], central: [layout.central, high] };
+  for (const [name, [from, end]] of Object.entries(all)) {
+    const section = byId(name), place = places.find((one) => one >= from && one < end);
+    if (!first) section.hidden = name !== "reader" || !film.deck.length;
+    if (name === "central" && section.hidden) central.first = Math.min(((place ?? from) - from) & ~7, layout.size - CENTRAL_ROWS);
+    if (place !== undefined) section.hidden = false;
   }
-  byId("frame").hidden = !parts.frame;
-  byId("reader").hidden = film.deck.length === 0 && !parts.reader;
-  byId("printer").hidden = !parts.printer;
-  if (first && (parts.central < 0 || !byId("central").hidden)) return;
-  central.first = Math.min(Math.max(parts.central, 0) & ~7, layout.size - CENTRAL_ROWS);
-  byId("central").hidden = parts.central < 0;
 }
 
 // ---- devices and watches
 
-// Fills a line of text and numbers; a word after @ is the name of a place.
-function addLine(parent, text) {
-  for (const word of text.split(" ")) {
-    if (word[0] === "@") addNumber(parent, word.slice(1));
-    else parent.append(word);
-    parent.append(" ");
-  }
-}
-
-const cardRows = [], columnCells = [];
-
-function showPanel() {
-  byId("panel").hidden = !film.panel.length;
-  document.querySelector("#panel p").textContent = film.panel.map(four).join(" ");
-}
-
-function buildReader() {
-  const [cards, columns, line] = [".cards", ".columns", ".device"].map((name) => document.querySelector(`#reader ${name}`));
-  cards.textContent = columns.textContent = line.textContent = "";
-  cardRows.length = columnCells.length = 0;
-  addLine(line, `H ${two(film.reader)} CARD @CARD OF ${four(film.deck.length)} COLUMN @CARD-COLUMN MODE @CARD-MODE`);
-  film.deck.forEach((card, at) => {
-    const title = `${four(at)} ${card.map(displayCode).join("").trimEnd()}`; // all of a text that is cut
-    cardRows.push(addTo(cards, make("div", { title, textContent: `  ${title}` })));
-  });
-  for (let at = 0; at < (film.deck.length ? COLUMNS : 0); at++) {
-    columnCells.push(addTo(columns, make("span", {})));
-    columns.append(" ");
-  }
-}
+const deviceOf = (c) => (c === CLOCK ? "clock" : film.devices[c] || "");
 
 function showReader() {
-  const card = film.numbers[layout.reader], column = film.numbers[layout.reader + 1];
-  cardRows.forEach((row, at) => {
-    if (row.classList.contains("present") === (at === card)) return;
-    row.classList.toggle("present", at === card);
-    row.textContent = (at === card ? ">" : " ") + row.textContent.slice(1);
-    if (at === card) row.parentElement.scrollTop = row.offsetTop - row.parentElement.offsetTop - 20;
-  });
-  columnCells.forEach((cell, at) => {
-    setText(cell, film.deck[card] ? four(film.deck[card][at] || 0) : "");
-    cell.className = film.deck[card] && at === column ? "next-column" : at < column ? "past-column" : "";
-    cell.classList.toggle("origin", isOriginColumn(card, at));
-  });
-}
-
-function buildPrinter() {
-  addLine(document.querySelector("#printer .device"), `H ${two(film.printer)} SYMBOLS @SYMBOLS COLUMN @PAPER-COLUMN MODE @PAPER-MODE`);
+  const card = numberOf("CARD"), column = numberOf("CARD-COLUMN"), words = film.deck[card];
+  const [line, cards, columns] = document.querySelectorAll("#reader h2 ~ :not(.sign)");
+  fill(line, withNumbers(`H ${two(film.reader)} CARD @CARD OF ${four(film.deck.length)} COLUMN @CARD-COLUMN MODE @CARD-MODE`));
+  film.cards ??= film.deck.map((all, at) => `${four(at)} ${all.map(displayCode).join("").trimEnd()}`);
+  fill(cards, film.cards.map((title, at) => {
+    const isPresent = at === card;
+    return make("div", { title, className: classes({ present: isPresent }) }, `${isPresent ? ">" : " "} ${title}`);
+  }));
+  fill(columns, range(film.deck.length ? COLUMNS : 0).map((at) => {
+    const is = { "next-column": words && at === column, "past-column": at < column, origin: isOriginColumn(card, at) };
+    return [make("span", { className: classes(is) }, words ? four(words[at] || 0) : ""), " "];
+  }));
+  if (film.cardSeen !== card && words) cards.scrollTop = cards.children[card].offsetTop - cards.offsetTop - 20;
+  film.cardSeen = card;
 }
 
 function showPrinter() {
   const paper = document.querySelector("#printer .paper"), text = paperText();
+  const line = `H ${two(film.printer)} SYMBOLS @SYMBOLS COLUMN @PAPER-COLUMN MODE @PAPER-MODE`;
+  fill(document.querySelector("#printer .device"), withNumbers(line));
   if (paper.textContent === text) return;
-  paper.textContent = text;
+  fill(paper, text);
   paper.scrollTop = paper.scrollHeight;
 }
 
-let watchesShown = null;
-
 function showWatches() {
-  const names = watched(), text = names.join(", ") || "NONE", list = document.querySelector("#watches .list");
+  const names = watched(), lines = names.map((name) => make("div", {}, `${name}  `, number(placeNamed(name))));
   byId("watches").hidden = !names.length && !film.lines.some((line) => /^\s*watch\b/i.test(line.text));
-  if (text === watchesShown) return;
-  watchesShown = text;
-  list.textContent = names.length ? "" : "NONE";
-  for (let at = numberButtons.length - 1; at >= 0; at--) if (numberButtons[at].isWatch) numberButtons.splice(at, 1);
-  for (const name of names) addNumber(addTo(list, make("div", {}, `${name}  `)), name).isWatch = true;
+  fill(document.querySelector("#watches .list"), names.length ? lines : "NONE");
 }
 
 // ---- the script and the other files of the run
 
-const lineRows = [];
-let lineShown = -1;
+// Shows the lines with their answers. The description of a line is kept until it is the present one, or one from which a number came.
+function showScript() {
+  const list = document.querySelector("#script ol"), at = film.lineAt[film.at];
+  fill(list, film.lines.map((line, index) => {
+    const isPresent = index === at, isOrigin = shown.originLines.has(index), key = `${isPresent} ${isOrigin}`;
+    if (line.key !== key) Object.assign(line, { key, row: scriptRow(line, isPresent, isOrigin) });
+    return line.row;
+  }));
+  if (film.lineSeen !== at && at >= 0) list.scrollTop = list.children[at].offsetTop - list.clientHeight / 3;
+  film.lineSeen = at;
+}
 
-// Adds the lines that are not in the list yet.
-function addLines() {
-  film.lines.slice(lineRows.length).forEach((line) => {
-    const answer = line.answer.length ? [make("pre", { textContent: line.answer.join("\n") })] : [];
-    const className = line.text.trim().startsWith("*") ? "note" : line.acts ? "acts" : "";
-    const item = make("li", { className }, makeButton("line", line.text || " ", () => moveTo(line.moment)), ...answer);
-    lineRows.push(addTo(document.querySelector("#script ol"), item));
-  });
+function scriptRow(line, isPresent, isOrigin) {
+  const isNote = line.text.trim().startsWith("*"), className = classes({ note: isNote, acts: line.acts && !isNote, origin: isOrigin });
+  return make("li", { className, "aria-current": isPresent || null }, makeButton("line", line.text || " ", () => moveTo(line.moment)),
+    line.answer.length ? make("pre", {}, line.answer.join("\n")) : null);
 }
 
 // A button for each file of the run, which saves it; and how one runs them again.
-function buildFiles() {
-  for (const file of film.files) {
-    const text = file.name === file.kind ? `save ${file.kind}` : `save ${file.kind}: ${file.name}`;
-    byId("files").append(makeButton("", text, () => saveBytes(bytesOfText(file.bytes), file.name)));
-  }
-  setText(byId("again"), film.again && `To run it again: ${film.again}`);
+function showFiles() {
+  fill(byId("panel").lastElementChild, film.panel.map(four).join(" "));
+  byId("panel").hidden = !film.panel.length;
+  fill(byId("files"), film.files.map(({ name, kind, bytes }) => makeButton("", name === kind ? `save ${kind}` : `save ${kind}: ${name}`,
+    () => saveBytes(bytesOfText(bytes), name))));
+  fill(byId("again"), film.again && `To run it again: ${film.again}`);
 }
 
 function saveBytes(bytes, download) {
   const href = URL.createObjectURL(new Blob([bytes], { type: "application/octet-stream" }));
-  make("a", { href, download }).click();
+  Object.assign(document.createElement("a"), { href, download }).click();
   setTimeout(() => URL.revokeObjectURL(href), 60000);
-}
-
-function forgetLines() {
-  lineRows.length = 0;
-  lineShown = -1;
-  document.querySelector("#script ol").textContent = "";
-}
-
-function showScript() {
-  const at = film.lineAt[film.at], row = lineRows[at];
-  if (at === lineShown) return;
-  if (lineRows[lineShown]) lineRows[lineShown].removeAttribute("aria-current");
-  lineShown = at;
-  if (!row) return;
-  row.setAttribute("aria-current", "true");
-  row.parentElement.scrollTop = row.offsetTop - row.parentElement.clientHeight / 3;
 }
 
 // To the line of the script before or after that does something.
@@ -361,18 +211,10 @@ function moveLine(direction) {
 // ---- what is cut
 
 // Above each part that may be wider or higher than its room a line says on which sides there is more.
-function buildSigns() {
-  for (const box of document.querySelectorAll(".wide")) {
-    box.before(make("p", { className: "sign" }));
-    box.addEventListener("scroll", () => showSign(box));
-  }
-}
-
 function showSign(box) {
-  const sides = [["←", box.scrollLeft > 1], ["→", box.scrollLeft + box.clientWidth < box.scrollWidth - 1],
-    ["↑", box.scrollTop > 1], ["↓", box.scrollTop + box.clientHeight < box.scrollHeight - 1]];
-  const arrows = sides.filter(([, more]) => more).map(([arrow]) => arrow);
-  setText(box.previousElementSibling, arrows.length ? `more ${arrows.join(" ")}` : "");
+  const arrows = classes({ "←": box.scrollLeft > 1, "→": box.scrollLeft + box.clientWidth < box.scrollWidth - 1,
+    "↑": box.scrollTop > 1, "↓": box.scrollTop + box.clientHeight < box.scrollHeight - 1 });
+  fill(box.previousElementSibling, arrows && `more ${arrows}`);
 }
 
 const showSigns = () => document.querySelectorAll(".wide").forEach(showSign);

@@ -1,17 +1,13 @@
 // ---- what devices of one's own show in the script of the file, at each of its moments
 
-const pictures = []; // of each device its element, the line below it, and the lines of the picture that is seen
+const pictures = []; // of each device the description of what is seen, and its text
+const devicesShown = () => (film.pictures ? film.pictures.devices : []);
 
 function buildPictures() {
-  const devices = film.pictures ? film.pictures.devices : [];
-  byId("pictures").hidden = !devices.length;
-  document.body.classList.toggle("pictured", devices.length > 0);
-  document.body.style.setProperty("--pictures", devices.length);
-  for (const { name, channel } of devices) {
-    const element = make("div", {}), line = make("p", {});
-    byId("pictures").append(make("figure", {}, make("figcaption", { textContent: `${name} on channel ${two(channel)}` }), line, element));
-    pictures.push({ element, line, lines: null });
-  }
+  const { length } = devicesShown();
+  byId("pictures").hidden = !length;
+  document.body.classList.toggle("pictured", length > 0);
+  document.body.style.setProperty("--pictures", length);
 }
 
 // Whether a script begins with the one whose pictures are in this file.
@@ -20,15 +16,13 @@ const hasPictures = (script) => Boolean(engine.about.pictures)
 
 // The page has no device of one's own: beyond the script of the file, and in another session, it says so.
 function showPictures() {
-  const moment = resolve(film.at);
-  pictures.forEach((picture, number) => {
-    const { devices, lines, moments } = film.pictures, isOwn = hasPictures(engine.given.script);
-    const [, seen] = isOwn ? devices[number].shown.findLast(([from]) => from <= moment) || [0, []] : [0, []], name = devices[number].name;
-    const isBeyond = isOwn && moment >= moments, without = `this page has no ${name}`;
-    setText(picture.line, !isOwn ? `${without}: it is known for the script of the file alone` : isBeyond
-      ? `${without}: this is what it showed at the end of the script` : "");
-    if (seen === picture.lines) return;
-    picture.lines = seen;
-    picture.element.innerHTML = seen.map((line) => lines[line]).join("");
-  });
+  const moment = resolve(film.at), isOwn = hasPictures(engine.given.script), isBeyond = isOwn && moment >= film.pictures.moments;
+  const why = !isOwn ? "it is known for the script of the file alone" : isBeyond ? "this is what it showed at the end of the script" : "";
+  fill(byId("pictures"), devicesShown().map(({ name, channel, shown: all }, at) => {
+    const [, seen] = (isOwn && all.findLast(([from]) => from <= moment)) || [0, []];
+    const html = seen.map((line) => film.pictures.lines[line]).join("");
+    if (!pictures[at] || pictures[at].html !== html) pictures[at] = { html, picture: make("div", { innerHTML: html }) };
+    return make("figure", {}, make("figcaption", {}, `${name} on channel ${two(channel)}`),
+      make("p", {}, why && `this page has no ${name}: ${why}`), pictures[at].picture);
+  }));
 }

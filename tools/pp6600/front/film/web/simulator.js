@@ -1,14 +1,14 @@
 // ---- the simulator with its numbers: each action that it performs is told with what it overwrote
 
-const MOST_RECORDED = 4096, OLD_NUMBERS = 8 * MOST_RECORDED, NO_TURN = 10;
+const MOST_AT_ONCE = 1 << 18, MOST_RECORDED = 4096, OLD_NUMBERS = 8 * MOST_RECORDED, NO_TURN = 10;
 const OLD_WORDS = 4, LOW = 2, HIGH = 3; // an old number: its place and the number itself, each of 64 bits as two words
 
 class Simulator {
   constructor(calls, options) {
     this.session = new LibrarySession(calls, options);
-    const count = setLayout(options.central);
-    this.numbers = new Int32Array(count);
-    this.left = { words: new Uint32Array(2 * layout.high), batch: new Uint32Array(layout.high), latest: 0 };
+    this.numbers = new Int32Array(setLayout(options.central));
+    // Of the places that the latest batch of turns overwrote: the numbers that the action before left, and the number of the batch.
+    Object.assign(this, { left: new Uint32Array(2 * layout.high), batch: new Uint32Array(layout.high), latest: 0 });
     this.readAll(() => {});
   }
 
@@ -19,9 +19,16 @@ class Simulator {
     return lines;
   }
 
+  // Performs a line, and tells the observer, if there is one.
+  perform(text, observer) {
+    this.ask(text);
+    if (observer) this.readAfter(wordsIn(text), observer);
+  }
+
   // Makes turns, at most `most`. Each is told to the observer: begin(processor), then tell(place, was, now), then end(processor). Returns
   // how many, and whether a watch ended them.
   turns(most, observer) {
+    if (!observer) return this.turnsUntold(Math.min(most, MOST_AT_ONCE));
     const { status, made, olds } = this.session.turns(Math.min(most, MOST_RECORDED), MOST_RECORDED, OLD_NUMBERS);
     const old = new Uint32Array(olds.buffer, olds.byteOffset, 2 * olds.length), now = this.newNumbers(made, old);
     for (let at = 0, pair = 0; at < made.length; at += 2) {
@@ -32,58 +39,58 @@ class Simulator {
     return { count: made.length / 2, isWatched: status === STATUS.WATCHED };
   }
 
+  // Makes turns by one line, of which nobody is told.
+  turnsUntold(most) {
+    const [made, ...hits] = this.ask(`STEP ${octal(most)}`);
+    return { count: parseInt(made.split(" ")[1], 8), isWatched: hits.length > 0 };
+  }
+
   // Tells the observer what a line has changed that is an action but no turn, whose processor is NO_TURN: besides the places that it
   // writes only registers, channels, devices or watches.
   readAfter(words, observer) {
     observer.begin(NO_TURN);
-    if (words[0] === "DEADSTART") this.readAll((place, was, now) => observer.tell(place, was, now));
-    else {
-      for (const [place] of placesOfSetting(words)) if (place < layout.A || place >= layout.central) this.read(place, 1, observer);
-      this.read(layout.A, layout.paper - layout.A, observer);
-      this.read(layout.slot, layout.central - layout.slot, observer);
-    }
+    for (const [place] of placesOfSetting(words)) if (place < layout.A || place >= layout.central) this.read(place, 1, observer);
+    this.read(layout.A, layout.paper - layout.A, observer);
+    this.read(layout.slot, layout.central - layout.slot, observer);
     observer.end(NO_TURN);
   }
 
   // Reads the numbers of some places in a row.
   read(first, count, observer) {
-    const words = new Uint32Array(this.session.numbers(first, count).buffer);
+    const words = this.words(first, count);
     for (let at = 0; at < count; at++) this.put(first + at, words[2 * at], words[2 * at + 1], observer);
   }
 
   // The number that its action left at each place of these old numbers, as two words: the old number of the next action that overwrote it,
   // or the number that is there now. If an action names a place twice, the first old number is the one that was there.
   newNumbers(made, old) {
-    const now = new Uint32Array(old.length / 2), { words, batch } = this.left, latest = ++this.left.latest;
+    const now = new Uint32Array(old.length / 2), { left } = this, latest = ++this.latest;
     for (let at = made.length - 2, end = now.length / 2; at >= 0; at -= 2) {
       const first = end - made[at + 1];
       for (let pair = first; pair < end; pair++) {
         const place = old[OLD_WORDS * pair];
-        if (batch[place] !== latest) this.readLeft(place, latest);
-        now[2 * pair] = words[2 * place];
-        now[2 * pair + 1] = words[2 * place + 1];
+        if (this.batch[place] !== latest) left.set(this.words(place, 1), 2 * place);
+        this.batch[place] = latest;
+        now[2 * pair] = left[2 * place];
+        now[2 * pair + 1] = left[2 * place + 1];
       }
       for (let pair = end - 1; pair >= first; pair--) {
         const place = old[OLD_WORDS * pair];
-        words[2 * place] = old[OLD_WORDS * pair + LOW];
-        words[2 * place + 1] = old[OLD_WORDS * pair + HIGH];
+        left[2 * place] = old[OLD_WORDS * pair + LOW];
+        left[2 * place + 1] = old[OLD_WORDS * pair + HIGH];
       }
       end = first;
     }
     return now;
   }
 
-  readLeft(place, latest) {
-    const number = new Uint32Array(this.session.numbers(place, 1).buffer);
-    this.left.words.set(number, 2 * place);
-    this.left.batch[place] = latest;
-  }
+  // The numbers at places in a row, each as two words.
+  words(first, count) { return new Uint32Array(this.session.numbers(first, count).buffer); }
 
   // Puts a number, which comes as two words of 32 bits.
   put(place, low, high, observer) {
-    if (!isWord(place)) return this.note(place, low, observer);
-    this.note(place, low & 0x3fffffff, observer);
-    return this.note(upperOf(place), high * 4 + (low >>> HALF), observer);
+    this.note(place, isWord(place) ? low & 0x3fffffff : low, observer);
+    if (isWord(place)) this.note(upperOf(place), high * 4 + (low >>> HALF), observer);
   }
 
   note(place, number, observer) {

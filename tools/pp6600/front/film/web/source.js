@@ -1,28 +1,23 @@
-// ---- the source of a processor: its lines, the one where the processor is, and those that have been overwritten
+// ---- the source of a processor: whose line a cell is, the line where the processor is, and lines that have been overwritten
 
-// What is shown of each source by its processor, with the line that was clicked last and the moment to which this led; and the processor
-// whose source is seen, and where it was scrolled.
+const NO_LINE = { number: 0, note: "" };
+
+// The sources by their processors: the lines, the words by where they are, and the moments at which each line was performed; the line that
+// was clicked last and the moment to which this led; and the processor whose source is seen, and where it was scrolled.
 const source = { of: new Map(), processor: -1, scrolled: "" };
-
-// The line of a source where a processor is, as ", count.pp:8"; or "".
-function lineOfSource(n, { number, note }) {
-  if (!number) return "";
-  const text = `${film.sources[n].name}:${number}`;
-  return note === "was" ? `, was ${text}` : `, ${text} ${note}`.trimEnd();
-}
 
 function buildSource() {
   if (!film.sources) return;
-  for (const one of Object.values(film.sources)) one.index = indexOfWords(one.words);
   byId("source").hidden = false;
-  for (const [text, { name, lines }] of Object.entries(film.sources)) {
-    const n = Number(text), body = tableOf("source").createTBody();
-    const one = { processor: n, name, body, times: lines.map(() => []), last: 0, line: 0, led: -1 };
-    one.rows = lines.map((line, at) => addSourceRow(one, at + 1, ...line));
-    source.of.set(n, one);
-    byId("source-of").add(new Option(`PP ${two(n)}`, n));
+  source.of.clear();
+  for (const [text, { name, lines, words }] of Object.entries(film.sources)) {
+    const one = { processor: Number(text), name, line: 0, ...indexOfWords(words) };
+    const wordsOf = (line) => (one.ofLine.get(line) || []).filter(({ isSecondWord }) => !isSecondWord);
+    one.lines = lines.map(([written, address], at) => ({ number: at + 1, text: written, address, words: wordsOf(at + 1) }));
+    source.of.set(one.processor, one);
   }
   source.processor = source.of.keys().next().value;
+  fillSelect("source-of", [...source.of.keys()].map((n) => `PP ${two(n)}`), [...source.of.keys()]);
   byId("source-of").hidden = source.of.size < 2;
   byId("source-of").onchange = () => chooseMemory(Number(byId("source-of").value));
   byId("previous-time").onclick = () => moveToTime(source.of.get(source.processor), -1);
@@ -31,140 +26,187 @@ function buildSource() {
 
 // Shows the source that a processor has now.
 function rebuildSource(n) {
-  for (const { body } of source.of.values()) body.remove();
-  source.of.clear();
-  byId("source-of").replaceChildren();
   buildSource();
   source.processor = n;
   growSource(0);
 }
 
-// Notes the times of the moments that came to the film after so many.
-function growSource(first) { for (const one of source.of.values()) addTimes(one, Math.max(first, 1)); noteLoaded(first); }
+// ---- words
 
-function forgetTimes() {
-  for (const one of source.of.values()) {
-    Object.assign(one, { times: one.rows.map(() => []), last: 0, led: -1 });
-    for (const row of one.rows) row.loadedAt = -1;
+// Makes the tables of a source from its words, each with its line, its location, its origin, its number in the line, itself, and if an
+// instruction begins there that has two words the second one, else null.
+function indexOfWords(words) {
+  const made = { atLocation: new Map(), atOrigin: new Map(), ofLine: new Map() };
+  const add = (map, key, word) => map.set(key, [...(map.get(key) || []), word]);
+  let before = null;
+  for (const [line, location, origin, at, word, second] of words) {
+    const one = { line, at, word, second, location: (location + at) % CELLS, origin: (origin + at) % CELLS };
+    one.isSecondWord = Boolean(before && before.line === line && before.second !== null && !before.isSecondWord && at === before.at + 1);
+    add(made.ofLine, line, one);
+    add(made.atLocation, one.location, one);
+    made.atOrigin.set(one.origin, one);
+    before = one;
   }
+  return made;
+}
+
+// The word of a source that is in a cell, or was before it was overwritten; or null. First come those whose location it is.
+function wordIn({ atOrigin, atLocation }, address, cell) {
+  const loaded = atOrigin.get(address), all = [...(atLocation.get(address) || []), ...(loaded ? [loaded] : [])];
+  const found = all.filter(({ word }) => word === cell(address)), after = cell((address + 1) % CELLS);
+  const best = found.find(({ second }) => second === null || second === after) || found[0];
+  return best ? { ...best, isThere: true } : loaded ? { ...loaded, isThere: false } : null;
+}
+
+// The line at an address of a processor, and if it does not perform its instruction, why not.
+function lineAt(n, address, cell) {
+  const one = source.of.get(n), found = one && address !== null ? wordIn(one, address, cell) : null;
+  return found ? { number: found.line, note: !found.isThere ? "was" : found.at ? `word ${found.at + 1}` : "" } : NO_LINE;
+}
+
+// The line of a processor's next turn; in a block transfer that which began it.
+function lineOfNext(n) {
+  const { block } = nextOf(n);
+  return lineAt(n, block ? block.address ?? issuedAt(n, film.at) : numberOf("P", n), (address) => cellOf(n, address));
+}
+
+// The line of a turn that was made; its words are those of its instruction.
+function lineOfMoment(moment) {
+  const { word, second, isBlock } = turnOf(moment), p = film.p[moment];
+  if (isBlock) return NO_LINE;
+  return lineAt(film.processor[moment], p, (address) => (address === p ? word : second === "" ? -1 : parseInt(second, 8)));
+}
+
+// The line of a source where a processor is, as ", count.pp:8"; or "".
+function lineOfSource(n, { number, note }) {
+  if (!number) return "";
+  const text = `${source.of.get(n).name}:${number}`;
+  return note === "was" ? `, was ${text}` : `, ${text} ${note}`.trimEnd();
+}
+
+// The mark of a line at the moment that is shown: its text, and the address of the cell that has another word.
+function markOf(one, words) {
+  const marks = words.map((word) => markOfWord(one, word)).filter(Boolean);
+  return marks.find(([text]) => text === "now") || marks[0] || ["", null];
+}
+
+function markOfWord(one, word) {
+  const at = (address) => cellOf(one.processor, address);
+  let mark = ["now", (word.origin + (at(word.origin) === word.word ? 1 : 0)) % CELLS];
+  for (const address of new Set([word.location, word.origin])) {
+    const isFirst = at(address) === word.word, second = (address + 1) % CELLS, found = wordIn(one, address, at);
+    if (isFirst && (word.second === null || word.second === at(second))) return null;
+    if (isFirst && found.line === word.line && found.at === word.at) mark = ["m is", second];
+  }
+  return mark;
+}
+
+// ---- the moments of lines
+
+// Notes what the moments that came to the film after so many are for the sources; with 0 the film is another one.
+function growSource(first) {
+  for (const one of source.of.values()) {
+    if (!first) Object.assign(one, { times: one.lines.map(() => []), begun: [], last: 0, led: -1 });
+    if (!first) for (const line of one.lines) line.loadedAt = -1;
+    addTimes(one, Math.max(first, 1));
+  }
+  noteLoaded(first);
 }
 
 // Notes from which moment on each line is loaded: a line of the script loads it.
 function noteLoaded(first) {
-  const here = film.at, all = [...source.of.values()].flatMap((one) => one.rows.map((row) => [one.processor, row]));
-  let open = all.filter(([, row]) => row.words.length && row.loadedAt < 0);
-  for (let moment = first; moment < film.count && open.length; moment++) {
-    if (film.kinds[moment] !== LINE && film.kinds[moment] !== SKIP) continue;
+  const isOpen = ([, line]) => line.words.length > 0 && line.loadedAt < 0;
+  let open = [...source.of.values()].flatMap((one) => one.lines.map((line) => [one, line])).filter(isOpen);
+  const note = (moment) => {
     goTo(moment);
-    for (const [n, row] of open) if (markOf(n, row.words)[0] === "") row.loadedAt = moment;
-    open = open.filter(([, row]) => row.loadedAt < 0);
-  }
-  goTo(here);
+    for (const [one, line] of open) if (markOf(one, line.words)[0] === "") line.loadedAt = moment;
+    open = open.filter(isOpen);
+  };
+  atMoment(film.at, () => {
+    for (let moment = first; moment < film.count && open.length; moment++) {
+      if (film.kinds[moment] === LINE || film.kinds[moment] === SKIP) note(moment);
+    }
+  });
 }
 
-// Notes for each line at which moments from the first one on it was begun: a line that waits, or that is in its block, only goes on. A line
-// can be clicked if it was performed.
+// Notes for each line at which moments from the first one on it was begun: a line that waits, or that is in its block, only goes on.
 function addTimes(one, first) {
   for (let moment = first; moment < film.count; moment++) {
     if (!isTurn(moment) || film.processor[moment] !== one.processor) continue;
-    const { isBlock } = turnOf(moment), waited = film.kinds[one.last] === WAITING && film.p[one.last] === film.p[moment];
-    const line = isBlock || waited ? NO_LINE : lineOfMoment(moment);
-    if (line.number && !line.note) one.times[line.number - 1].push(moment);
+    const waited = film.kinds[one.last] === WAITING && film.p[one.last] === film.p[moment];
+    const line = waited ? NO_LINE : lineOfMoment(moment);
+    if (line.number && !line.note) for (const moments of [one.begun, one.times[line.number - 1]]) moments.push(moment);
     one.last = moment;
   }
-  one.rows.forEach(({ button }, at) => { button.disabled = !one.times[at].length; });
 }
 
-// A row of a line: of one with words the address of the first too, which chooses its cell.
-function addSourceRow(one, number, text, address) {
-  const element = addRow(one.body, ["", "", "", "", ""], 1, 2), [at, count, cell, mark, line] = element.cells, written = text.trimStart();
-  const button = addTo(line, makeButton("line", text ? text.slice(0, text.length - written.length) : " ", (event) => {
-    one.line = number;
-    moveToTime(one, event.shiftKey ? -1 : 1);
-  }, { title: meaningOf(operationIn(text)) }));
-  button.append(make("span", { textContent: written }));
-  const point = address === undefined ? null : addBreakpoint(count, number), place = `M ${octal(one.processor)} ${octal(address || 0)}`;
-  if (point) cell.append(makeButton("plain name", four(address), () => choose(placeNamed(place))));
-  else count.textContent = number;
-  mark.className = "mark";
-  mark.append("", " ");
-  element.classList.toggle("note", written.startsWith("*"));
-  const words = (film.sources[one.processor].index.ofLine.get(number) || []).filter(({ isSecondWord }) => !isSecondWord);
-  return { element, button, at, text: mark.firstChild, mark, words, point, address, loadedAt: -1, number: null, shown: "" };
-}
+// ---- on the page
 
 // It is that of the chosen processor, if this has one.
 function showSource() {
   if (!film.sources) return;
   if (!memory.follows && source.of.has(memory.processor)) source.processor = memory.processor;
-  const one = source.of.get(source.processor), n = one.processor, line = lineOfNext(n);
+  const n = source.processor, one = source.of.get(n), here = lineOfNext(n), table = tableOf("source");
+  const did = hasTurn(n) ? lineOfMoment(film.at) : NO_LINE, performed = did.note ? 0 : did.number;
   document.body.classList.toggle("sourced", n === memory.processor);
-  for (const other of source.of.values()) other.body.hidden = other !== one;
   byId("source-of").value = n;
-  setText(document.querySelector("#source h2"), `Source of PP ${two(n)}: ${one.name}`);
-  const did = isTurn(film.at) && film.processor[film.at] === n ? lineOfMoment(film.at) : NO_LINE, performed = did.note ? 0 : did.number;
-  one.rows.forEach((row, at) => showSourceRow(row, n, line.number === at + 1 ? line : null, performed === at + 1));
+  fill(document.querySelector("#source h2"), `Source of PP ${two(n)}: ${one.name}`);
+  fillRows("source", one.lines.map((line) => sourceRow(one, line, line.number === here.number ? here : null, line.number === performed)));
+  byId("source").classList.toggle("marked", one.lines.some(({ mark }) => mark));
   showTimes(one);
-  byId("source").classList.toggle("marked", one.rows.some(({ text }) => text.data));
-  if (source.scrolled !== `${n} ${film.at}`) keepInView(one.rows[(film.at === one.led ? one.line : line.number) - 1], !source.scrolled);
+  if (source.scrolled !== `${n} ${film.at}`) keepInView(table.rows[(film.at === one.led ? one.line : here.number) - 1], !source.scrolled);
   source.scrolled = `${n} ${film.at}`;
 }
 
-function showSourceRow(row, n, here, performed) {
-  if (row.point) showBreakpoint(row.point, n, row.address);
-  const isLoaded = row.loadedAt >= 0 && resolve(film.at) >= row.loadedAt;
-  const [text, address] = !row.words.length ? ["", null] : isLoaded ? markOf(n, row.words) : ["not yet", null];
-  const shownNow = [text, address, here ? `> ${here.note}` : "", performed].join();
-  if (row.shown === shownNow) return;
-  row.shown = shownNow;
-  setText(row.at, here ? ">" : "");
-  row.text.data = text || (here ? here.note : "");
-  row.element.classList.toggle("present", here !== null);
-  row.element.classList.toggle("acted", performed);
-  row.element.classList.toggle("overwritten", text === "now");
-  row.element.classList.toggle("quiet", text === "not yet");
-  if (address === null && !row.number) return;
-  row.number = row.number || addNumber(row.mark, `M ${two(n)} ${four(address)}`);
-  row.number.hidden = address === null;
-  if (address !== null) setPlace(row.number, `M ${two(n)} ${four(address)}`);
+// The row of a line. Its description is kept as long as it stays the same, if no number is in it.
+function sourceRow(one, line, here, isPerformed) {
+  const { number: count, text, address, words } = line, n = one.processor, isPoint = breakpoints.has(conditionAt(n, address ?? CELLS));
+  const isLoaded = line.loadedAt >= 0 && resolve(film.at) >= line.loadedAt, disabled = !one.times[count - 1].length;
+  const [mark, at] = !words.length ? ["", null] : isLoaded ? markOf(one, words) : ["not yet", null];
+  const key = [mark, here ? here.note : "-", isPerformed, isPoint, disabled, n].join();
+  if (line.key === key && at === null) return line.row;
+  Object.assign(line, { key: at === null ? key : "", mark: mark || (here ? here.note : "") });
+  const written = text.trimStart(), onclick = (event) => { one.line = count; moveToTime(one, event.shiftKey ? -1 : 1); };
+  const button = makeButton("line", [text.slice(0, text.length - written.length) || (text ? "" : " "), make("span", {}, written)], onclick,
+    { disabled, title: meaningOf(operationIn(text)) });
+  const isIn = { present: here, acted: isPerformed, overwritten: mark === "now", quiet: mark === "not yet", note: written.startsWith("*") };
+  const cells = address === undefined ? [heading(count), heading("")]
+    : [breakpoint(n, address, count), heading(makeButton("plain name", four(address), () => choose(placeWith("M", n, address))))];
+  const marks = cell("mark", [line.mark, " ", at === null ? null : numberWith("M", n, at)]);
+  line.row = row(classes(isIn), here ? ">" : "", ...cells, marks, button);
+  return line.row;
 }
 
 function showTimes(one) {
-  const times = one.times[one.line - 1] || [], count = times.findIndex((moment) => moment > film.at);
+  const times = one.times[one.line - 1] || [], text = `time ${octal(countUpTo(times, film.at))} of ${octal(times.length)}`;
   byId("times").hidden = !times.length;
-  setText(byId("times-text"), `line ${one.line} (decimal), time ${octal(count < 0 ? times.length : count)} of ${octal(times.length)}`);
+  fill(byId("times-text"), `line ${one.line} (decimal), ${text}`);
 }
 
 // To the next time that the line that was clicked was performed, or to the time before; after the last comes the first.
 function moveToTime(one, direction) {
-  const times = one.times[one.line - 1];
-  const next = times.find((moment) => moment > film.at) ?? times[0], before = times.findLast((moment) => moment < film.at) ?? times.at(-1);
-  one.led = direction > 0 ? next : before;
-  byHand(() => moveTo(one.led))();
+  const times = one.times[one.line - 1], next = countUpTo(times, film.at), before = countUpTo(times, film.at - 1) - 1;
+  one.led = (direction > 0 ? times[next] ?? times[0] : times[before] ?? times.at(-1));
+  play(false);
+  moveTo(one.led);
 }
 
 // Scrolls the lines, not the page, so that a row is seen, and some rows around it.
-function keepInView(row, anew) {
-  if (!row) return;
-  const box = tableOf("source").parentElement, { offsetTop: top, offsetHeight: height } = row.element;
+function keepInView(line, anew) {
+  if (!line) return;
+  const box = tableOf("source").parentElement, { offsetTop: top, offsetHeight: height } = line;
   if (!anew && top - 2 * height >= box.scrollTop && top + 3 * height <= box.scrollTop + box.clientHeight) return;
-  box.scrollTop = [...row.element.parentElement.rows].findLast((one) => one.offsetTop <= Math.max(0, top - box.clientHeight / 3)).offsetTop;
+  box.scrollTop = [...line.parentElement.rows].findLast((one) => one.offsetTop <= Math.max(0, top - box.clientHeight / 3)).offsetTop;
 }
 
 // To where the processor of the source that is seen begins its next line, or back to where it began a line; at the end of the film turns are
 // made until it does.
 function moveByLine(direction) {
-  if (!film.sources) return;
-  const one = source.of.get(source.processor), begun = one.times.flatMap((times) => nearest(times, direction));
-  if (begun.length) return moveTo((direction > 0 ? Math.min(...begun) : Math.max(...begun)) - 1);
-  if (direction < 0) return moveTo(0);
-  const n = octal(one.processor), { number } = lineOfNext(one.processor), words = film.sources[one.processor].index.ofLine.get(number);
-  const p = film.numbers[register(one.processor, 0)], all = words ? words.map(({ location }) => location) : [p];
-  return engine.until([`P ${n} outside ${octal(Math.min(...all))} ${octal(Math.max(...all))} and PP ${n} not in a block`], false);
-}
-
-// The first time after the next moment, or the last one up to this, if there is one.
-function nearest(times, direction) {
-  const found = direction > 0 ? times.find((moment) => moment > film.at + 1) : times.findLast((moment) => moment <= film.at);
-  return found === undefined ? [] : [found];
+  const one = source.of.get(source.processor);
+  if (!one) return null;
+  const { begun, processor } = one, target = direction > 0 ? begun[countUpTo(begun, film.at + 1)] : lastUpTo(begun, film.at) || 1;
+  if (target) return moveTo(target - 1);
+  const words = one.ofLine.get(lineOfNext(processor).number) || [{ location: numberOf("P", processor) }], n = octal(processor);
+  const [first, last] = [Math.min, Math.max].map((most) => octal(most(...words.map(({ location }) => location))));
+  return engine.until([`P ${n} outside ${first} ${last} and PP ${n} not in a block`], false);
 }

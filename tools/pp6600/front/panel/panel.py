@@ -4,7 +4,7 @@ from ...language.symbol_options import add_symbols, symbols_of
 from ...shell.command_line import Failure, arguments, octal, script_lines, simulator, words_after
 from ...shell.device_options import add_devices, devices_of
 from .app import Panel
-from .session import Session
+from .logged_session import LoggedSession
 
 DESCRIPTION = """Shows the live machine on a full screen: processors, channels, devices, memories, watches. It performs
 SCRIPT, then waits for keys, which step it forward and back; ? shows them all. Each key sends lines of the console, and
@@ -26,9 +26,6 @@ def main():
     terminal.check()
     symbols = symbols_of(asked)
     lines = symbols.loading([] if script is None else script_lines(script))
-    panel = Panel(Session(simulator(asked), devices_of(asked)), symbols)
-    ended_by = terminal.run(panel, lines, asked.turn)
-    if panel.fault:
-        raise Failure(panel.fault)
+    panel = Panel(LoggedSession(simulator(asked), devices_of(asked)), symbols)
+    terminal.run(panel, lines, asked.turn)
     panel.session.close()
-    return 128 + ended_by if ended_by else 0

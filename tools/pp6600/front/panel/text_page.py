@@ -1,12 +1,12 @@
 """Text to be read over the whole screen: all keys, or all lines and answers."""
 
 from .screen import Screen, is_too_small, small_screen
-from .text import HEAD, TITLE, Line, in_height
+from .text import HEAD, TITLE, MarkedLine, in_height
 
 CLOSES = ("q", "Enter", "Escape", "Ctrl-C")
 
 
-class Page:
+class TextPage:
     def __init__(self, title, lines, at_end=False):
         self.title, self.lines = title, lines
         self.first = len(lines) if at_end else 0
@@ -26,6 +26,6 @@ class Page:
         self.first = max(min(self.first, len(self.lines) - height), 0)
         shown = in_height(self.lines[self.first:self.first + height], height)
         more = "arrows and Page Up/Down move; " if len(self.lines) > height else ""
-        bottom = Line(f"{more}q, Escape or Enter closes this page", HEAD)
-        whole = [Line(f" {self.title}".ljust(columns), TITLE), *shown, bottom]
+        bottom = MarkedLine(f"{more}q, Escape or Enter closes this page", HEAD)
+        whole = [MarkedLine(f" {self.title}".ljust(columns), TITLE), *shown, bottom]
         return Screen([line.fit(columns) for line in whole], (rows - 1, 0))

@@ -1,4 +1,4 @@
-"""The session of the panel: lines sent to the simulator, what they answered, and the machine's state after them."""
+"""The session of the panel: lines sent to the simulator, a log of these and of their answers, and the machine's state after them."""
 
 import os
 from contextlib import closing
@@ -8,14 +8,14 @@ from ...failure import Failure
 from ...run.forms import hit_of, is_refusal
 from ...run.searches import MOST_NEW
 from ...run.console import Console, has_no_answer
+from ...run.session import Session, without_history
 from ...run.state import state_of
 from ...run.tape import ScriptLine, SourceLine
 from ...shell.device_options import timeline
+from ...shell.keyboard import place_of
 
 NEW = ("OK", "TURNS")  # the first words of answers to lines that discard what is ahead
 LOG_LENGTH = 10000  # decimal, lines and answers
-SEARCHED_AT_ONCE = 0o10000  # central words
-ALLOWANCE = 0o100  # central words asked for on either side of those that are shown
 
 
 class Outcome(NamedTuple):
@@ -40,7 +40,7 @@ def never(done, total):
     return False
 
 
-class Session:
+class LoggedSession:
     """A simulator, all lines that it was sent, and its state. The lines that ask for the state are not among them."""
 
     def __init__(self, words, devices=()):
@@ -51,7 +51,6 @@ class Session:
         self.saved = (0, 0)  # the lines that are in a file
         self.log = []
         self.logged = 0  # lines of the log
-        self.central = (0, 0)
         self.state = self.before = self.read()
 
     @property
@@ -65,30 +64,19 @@ class Session:
 
     def read(self):
         """Returns the machine's state."""
-        first, last = self.central
-        state = state_of(self.simulator, (max(first - ALLOWANCE, 0), min(last + ALLOWANCE, self.size - 1)))
-        for address in state.missing_central():
-            state.add_central(self.simulator.central(address, address))
-        return state
+        return state_of(self.simulator, with_central=True)
+
+    def search(self):
+        """Returns a session on the same tape, whose position is its own. It is used in a `with` block."""
+        return Session(without_history(self.simulator.words), self.simulator.tape, is_search=True)
 
     def watched(self):
         return [place.short for place in self.state.watched]
 
-    def look_at_central(self, first, rows):
-        """Sees that the state has so many central words from the first on."""
-        self.central = (first, first + rows - 1)
-        if any(address not in self.state.central for address in self.central):
-            self.state = self.read()
-
     def find_central(self, word, first):
         """Returns the first address, from `first` on and round to it, of a central word; or None."""
-        for start, end in ((first, self.size), (0, min(first, self.size))):
-            for address in range(start, end, SEARCHED_AT_ONCE):
-                words = self.simulator.central(address, min(address + SEARCHED_AT_ONCE, end) - 1)
-                for line in words:
-                    if line.endswith(word):
-                        return int(line.split()[1], 8)
-        return None
+        words = [*self.state.central[first:], *self.state.central[:first]]
+        return (words.index(word) + first) % self.size if word in words else None
 
     def would_refuse(self, line):
         """Returns whether a new action would be refused: whether another simulator, which watches the same places, refuses it."""
@@ -163,7 +151,7 @@ class Session:
             else:
                 self.send(line)
         else:
-            self.saved = self.place
+            self.saved = place_of(self.simulator)
             return True
         self.look_again()
         return False
@@ -195,12 +183,7 @@ class Session:
             raise Failure(f"{path} exists; w! {path} writes over it") from None
         except (OSError, ValueError) as error:
             raise Failure(f"can't write {path}: {getattr(error, 'strerror', None) or error}") from error
-        self.saved = self.place
-
-    @property
-    def place(self):
-        """How often actions were replayed, and how many lines were sent since."""
-        return self.simulator.replays, len(self.sent)
+        self.saved = place_of(self.simulator)
 
     def is_saved(self):
-        return self.saved == self.place
+        return self.saved == place_of(self.simulator)

@@ -1,6 +1,6 @@
 """The names of a listing."""
 
-from ..language.listing import Symbols, complain_of
+from ..language.listing import ListingSymbols, complain_of
 from ..language.printed import Columns
 from ..shell.command_line import Failure, Parser, write_lines
 from ..shell.text_files import named
@@ -18,7 +18,7 @@ def main() -> None:
     parser.add_argument("--trust", action="store_true", help="write the names of what is readable, and say what is in doubt")
     parser.add_argument("file", nargs="?", metavar="FILE", help="without it, standard input is the listing")
     asked = parser.parse()
-    symbols = Symbols.of_file(asked.file, asked.columns, asked.trust)
+    symbols = ListingSymbols.of_file(asked.file, asked.columns, asked.trust)
     complain_of(asked.file, symbols.listing)
     if not len(symbols.names):
         raise Failure(f"{named(asked.file)} has no label")

@@ -3,10 +3,10 @@
 from ...devices.pictures import braille
 from ...run.device import Device, DeviceFailure, drawn
 from ..keys import PANEL
-from .keys import LINES
-from .page import Page
+from .key_lines import LINES
 from .screen import Screen, is_too_small
-from .text import HEAD, Line
+from .text import HEAD, MarkedLine
+from .text_page import TextPage
 
 RUNS = {*(key for key, action in PANEL.items() if action in LINES), *"01234567"}
 HINT = "s, b and other keys that step do so here; v, Escape or Enter closes this page"
@@ -20,12 +20,12 @@ def devices_that(session, method):
 
 def line_of(text):
     """Returns a line of a text that is not all ASCII."""
-    line = Line()
+    line = MarkedLine()
     line.text = text
     return line
 
 
-class PicturePage(Page):
+class PicturePage(TextPage):
     def __init__(self, panel):
         super().__init__("", [])
         self.panel, self.devices = panel, devices_that(panel.session, "picture")
@@ -54,5 +54,5 @@ class PicturePage(Page):
             self.title = f"Turn {self.panel.session.history.turns:o}"
             self.lines = [line_of(text) for text in self.rows(columns, rows)]
         shown = super().screen(columns, rows)
-        shown.lines[-1] = Line(self.panel.message or HINT, HEAD).fit(columns)
+        shown.lines[-1] = MarkedLine(self.panel.message or HINT, HEAD).fit(columns)
         return Screen(shown.lines, shown.cursor)
