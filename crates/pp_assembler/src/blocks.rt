@@ -293,8 +293,8 @@ impl Pass {
         let word = statement.operation.of(here.text);
         let name = statement.location.of(here.text);
         if word == outer.end().as_bytes() {
-            self.open_names
-                .truncate(opened_by(lines, &self.open_names, name));
+            let index = opened_by(lines, &self.open_names, name);
+            self.open_names.truncate(index);
             return Ok(false);
         }
         match operation_of(word) {

@@ -4,7 +4,6 @@ use crate::fields::{Statement, length_without_blanks};
 use crate::lines::{Call, Line, Lines, Span};
 use crate::message::{Argument, Fault, Field, Stop};
 use crate::pass::{Here, Pass, too_many_statements};
-use crate::performing::is_known;
 use crate::symbols::end_of_name;
 use crate::texts::{after_blanks, end_of_word, find, is_alphanumeric};
 use crate::vocabulary::{Macro, Meaning, Vocabulary};
@@ -320,7 +319,6 @@ impl Pass {
             Ok(None) => return Ok(()),
             Err(_) => return Ok(self.vocabulary.replace(here.text)?),
         };
-        is_known(&here, statement)?;
         let label = statement.location.of(here.text);
         let name = statement.operation.of(here.text);
         let operand = statement.operand.of(here.text);

@@ -201,7 +201,7 @@ impl Pass {
         if let Some(called) = self.called(lines, statement) {
             return self.call(lines, statement, called);
         }
-        match operation_of(lines.part_of(self.at, statement.operation)) {
+        match self.operation(lines, statement) {
             Operation::Block(opening) => self.block(lines, statement, opening),
             Operation::Lines(directive) => self.elsewhere(lines, statement, directive),
             Operation::End => {
@@ -232,6 +232,11 @@ impl Pass {
     fn called(&self, lines: &Lines, statement: Statement) -> Option<Macro> {
         let name = lines.part_of(self.at, statement.operation);
         self.vocabulary.macro_of(name)
+    }
+
+    fn operation(&self, lines: &Lines, statement: Statement) -> Operation {
+        let name = lines.part_of(self.at, statement.operation);
+        operation_of(name)
     }
 
     /// Performs the present line, which makes no others.

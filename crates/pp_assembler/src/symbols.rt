@@ -187,7 +187,13 @@ impl Symbols {
         match self.meant(name) {
             Some(Symbol { seen: Some(_), .. }) => true,
             _ => match self.index_of(b"", name) {
-                Some(index) => self.all[index].before.is_some(),
+                Some(index) => matches!(
+                    self.all.get(index),
+                    Some(Symbol {
+                        before: Some(_),
+                        ..
+                    })
+                ),
                 None => false,
             },
         }
