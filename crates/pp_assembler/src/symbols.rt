@@ -231,14 +231,23 @@ impl Symbols {
         }
     }
 
+    /// Adds a text that is kept to the text of all names.
+    fn copy(&mut self, kept: Span) -> Result<(), AllocError> {
+        for at in kept.first..kept.end {
+            if let Some(symbol) = self.text.get(at).copied() {
+                self.text.push(symbol)?;
+            }
+        }
+        Ok(())
+    }
+
     /// Adds a name with the present qualifier.
     fn add(&mut self, name: &[u8], definition: Definition) -> Result<(), Stop> {
         let first = self.text.len();
         if let Some(qualifier) = self.qualifiers.last().copied() {
             if qualifier.first < qualifier.end {
                 self.text.push(b'/')?;
-                self.text
-                    .extend_from_within(qualifier.first..qualifier.end)?;
+                self.copy(qualifier)?;
                 self.text.push(b'/')?;
             }
         }
