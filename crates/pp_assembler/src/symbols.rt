@@ -184,19 +184,19 @@ impl Symbols {
 
     /// Returns whether a line above or the pass before has defined a name.
     pub fn is_named(&self, name: &[u8]) -> bool {
-        match self.meant(name) {
-            Some(Symbol { seen: Some(_), .. }) => true,
-            _ => match self.index_of(b"", name) {
-                Some(index) => matches!(
-                    self.all.get(index),
-                    Some(Symbol {
-                        before: Some(_),
-                        ..
-                    })
-                ),
-                None => false,
-            },
+        if matches!(self.meant(name), Some(Symbol { seen: Some(_), .. })) {
+            return true;
         }
+        let Some(index) = self.index_of(b"", name) else {
+            return false;
+        };
+        matches!(
+            self.all.get(index),
+            Some(Symbol {
+                before: Some(_),
+                ..
+            })
+        )
     }
 
     /// Gives a name of a line its meaning.
