@@ -1,10 +1,11 @@
 """Text as words of display code, and dumped cells as SET lines."""
 
+import re
 from argparse import Namespace
 from typing import List, Optional, Sequence
 
 from ..language.display_code import text_of, words_of
-from ..run.forms import CELLS, ROW, form
+from ..run.forms import CELLS, ROW
 from ..shell.command_line import Failure, Parser, cell, processor, read_lines, words_after, write_lines
 from .cells import in_rows, set_lines, word_of
 
@@ -13,13 +14,15 @@ capitals, and an odd text ends in a blank. With --at N A it writes them as SET M
 With --back the words given are turned into text. With --dump N the answer to a DUMP M, from FILE or standard input, is
 turned into SET M lines for processor N. All numbers are octal."""
 
+ROW_OF_DUMP = re.compile(f"[0-7]{{4}}( [0-7]{{4}}){{1,{ROW}}}")
+
 
 def set_lines_of_dump(processor: int, lines: Sequence[str]) -> List[str]:
     """Returns the SET lines of the answer to a DUMP M. Rows that do not continue one another are words without addresses."""
     result: List[str] = []
     following: Optional[int] = None
     for number, line in enumerate(lines, 1):
-        if not form("M").fullmatch(line):
+        if not ROW_OF_DUMP.fullmatch(line):
             raise Failure(f"line {number} (decimal) is no row of a DUMP M")
         address, *words = line.split()
         first = int(address, 8)

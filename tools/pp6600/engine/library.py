@@ -1,4 +1,4 @@
-"""The proved simulator as a library of C, called in this process by ctypes: `Session` has its calls, and `LibraryEngine` is the engine of the
+"""The proved simulator as a library of C, called in this process by ctypes: `LibrarySession` has its calls, and `LibraryEngine` is the engine of the
 tools over one. docs/LIBRARY.md and the header, pp6600.h, say what each call does."""
 
 from __future__ import annotations
@@ -14,14 +14,14 @@ from ..failure import Failure
 from . import interface
 from .choice import HOME
 from .interface import Records, Rejection
-from .plain.console import Rejected
+from .plain.lines import Rejected
 from .plain.program import FILE_BYTES, pieces, read_options, read_words
 
 DONE, ROOM, WATCHED, CLOSED, OPEN, NO_MEMORY, REFUSED, LIMIT = range(8)
 MOST_OLDS = 76  # the most places that an action overwrites
 PAIRS_OF_TURN = 6  # more than most turns overwrite
 LEAST_ROOM = 96  # bytes that the answer to a line that is no DUMP always fits in
-TEXT_ROOM, ANSWER_ROOM, MOST_AT_ONCE = 112, 1 << 16, 1 << 20  # bytes
+TEXT_ROOM, ANSWER_ROOM = 112, 1 << 16  # bytes
 MOST_OF_BYTE, MOST_OF_WORD = 1 << 8, 1 << 32
 
 
@@ -41,7 +41,7 @@ class Answers(NamedTuple):
     taken: int
 
 
-class Counts(NamedTuple):
+class SessionCounts(NamedTuple):
     """How many actions can be undone, are ahead, and are kept; and whether the newest changed a watched number."""
     kept: int
     ahead: int
@@ -86,31 +86,35 @@ def loaded(path: str) -> Any:
     return library
 
 
-class Session:
+def open_status(status: int) -> int:
+    """Returns the status of a call on a session that is open."""
+    if status == CLOSED:
+        raise Failure("the session is closed")
+    return status
+
+
+class LibrarySession:
     """A session: a machine with its undo history. It is used in a `with` block, or closed."""
 
     def __init__(self, history: int = 10000, central: int = 131072, reader: int = 0o12, printer: int = 0o13, deck: bytes = b"",
                  panel: bytes = b"", path: Optional[str] = None) -> None:
         self._handle = Handle()
         library, self._at = load(path), byref(self._handle)
-        self._calls = {name: getattr(library, f"pp6600_{name}") for name in CALLS}
+        self.calls = {name: functools.partial(getattr(library, f"pp6600_{name}"), self._at) for name in CALLS}
         text, count, status = ctypes.create_string_buffer(TEXT_ROOM), c_size_t(), c_uint32()
         if not all(0 <= number < MOST_OF_BYTE for number in (reader, printer)) or \
                 not all(0 <= number < MOST_OF_WORD for number in (history, central)):
             raise Refused("pp6600: BAD ARGUMENTS", 2)
-        opened = self._calls["open"](
+        opened = library.pp6600_open(
             c_uint32(history), c_uint32(central), c_uint8(reader), c_uint8(printer), deck, c_size_t(len(deck)), panel, c_size_t(len(panel)),
             self._at, text, c_size_t(len(text)), byref(count), byref(status))
         if opened != DONE:
             raise Refused(text.raw[:count.value].decode("ascii"), status.value)
 
     def _call(self, name: str, *arguments: object) -> int:
-        status: int = self._calls[name](self._at, *arguments)
-        if status == CLOSED:
-            raise Failure("the session is closed")
-        return status
+        return open_status(self.calls[name](*arguments))
 
-    def __enter__(self) -> Session:
+    def __enter__(self) -> LibrarySession:
         return self
 
     def __exit__(self, *_: object) -> None:
@@ -119,7 +123,7 @@ class Session:
     def close(self) -> None:
         """Closes the session. To close it again does nothing."""
         if self._handle.at:
-            self._calls["close"](self._at)
+            self.calls["close"]()
 
     __del__ = close
 
@@ -142,11 +146,11 @@ class Session:
             raise Failure(f"the machine does not have the places {first} to {first + count - 1}")
         return into[:]
 
-    def counts(self) -> Counts:
+    def counts(self) -> SessionCounts:
         """Counts the actions that the session keeps."""
         found = [c_uint32() for _ in range(4)]
         self._call("counts", *map(byref, found))
-        return Counts(found[0].value, found[1].value, found[2].value, bool(found[3].value))
+        return SessionCounts(found[0].value, found[1].value, found[2].value, bool(found[3].value))
 
     def turns(self, most: int) -> Tuple[List[Moment], bool]:
         """Performs turns, up to the first that changes a watched number. Returns them, and whether the last one did."""
@@ -204,32 +208,35 @@ class LibraryEngine:
             status, text = rejected.args
             raise Rejection(f"pp6600: {text}", status) from None
         try:
-            self.session = Session(**options, path=path)
+            self.session = LibrarySession(**options, path=path)
         except Unloadable as failure:
             raise Failure(f"{path} is not the library of the simulator: {failure.__cause__}") from failure
+        self._answer, self._looks = self.session.calls["answer"], self.session.calls["looks"]  # which are called most often
         self.text: Any = ctypes.create_string_buffer(ANSWER_ROOM)
         self.size, self.room = c_size_t(), c_size_t(ANSWER_ROOM)
         self.answered = c_size_t(), c_size_t(), c_uint32(), c_uint32()
-        self.taken, self.count = self.answered[:2]
+        self.taken, self.count, _, self.refused = self.answered
         self.counted = tuple(map(byref, self.answered))
-        self.looked: Sequence[int] = ()  # the places of the latest looks, and how many numbers there is room for
-        self.most, self.width, self.seen_room = c_uint32(), c_size_t(), c_size_t()
+        self.looked: Sequence[int] = ()  # the places of the latest looks, and for how many turns there is room
+        self.most_seen, self.most = 0, c_uint32()
 
     def answer(self, text: str) -> List[str]:
-        typed = text.encode("latin-1")
-        found: List[bytes] = []
-        while typed:
-            end = len(typed) if len(typed) <= MOST_AT_ONCE else typed.rfind(b"\n", 0, MOST_AT_ONCE) + 1 or len(typed)
-            self.size.value = end
-            status = self.session._call("answer", typed, self.size, self.text, self.room, *self.counted)
-            if status == DONE and end == len(typed) and not found:
-                return str(self.text[:self.count.value], "ascii").splitlines()
-            found.append(self.text[:self.count.value])
+        typed, found = text.encode("latin-1"), b""
+        while True:
+            self.size.value = len(typed)
+            status = self._answer(typed, self.size, self.text, self.room, *self.counted)
+            found += self.text[:self.count.value]
+            if status == DONE:
+                return found.decode("ascii").splitlines()
             typed = typed[self.taken.value:]
-            if status == ROOM and not self.taken.value:
+            if open_status(status) == ROOM:
                 self.room.value *= 4
                 self.text = ctypes.create_string_buffer(self.room.value)
-        return b"".join(found).decode("ascii").splitlines()
+
+    def perform(self, text: str) -> bool:
+        typed = text.encode("latin-1")
+        self.size.value = len(typed)
+        return self._answer(typed, self.size, self.text, self.room, *self.counted) == DONE and not self.refused.value
 
     def numbers(self, first: int, count: int) -> Sequence[int]:
         return self.session.numbers(first, count)
@@ -247,18 +254,38 @@ class LibraryEngine:
         return records
 
     def looks(self, places: Sequence[int], most: int) -> Tuple[Sequence[int], int]:
-        if self.looked != places:
-            self.looked, self.looked_at, self.width.value = list(places), (c_uint32 * len(places))(*places), len(places)
-        numbers = most * len(places)
-        if self.seen_room.value < numbers:
-            self.seen, self.seen_room.value = (c_uint64 * numbers)(), numbers
-            self.seen_bytes = memoryview(self.seen).cast("B")
+        turns = self._look(places, most)
+        return array("Q", self.seen[:len(places) * turns].tobytes()), turns
+
+    def until(self, places: Sequence[int], numbers: Sequence[int], most: int) -> Tuple[int, Sequence[int]]:
+        made, width = self._look(places, most), len(places)
+        same = made
+        for at, number in enumerate(numbers):
+            column = self.seen[at:same * width:width].tolist()
+            if column.count(number) < same:
+                same = first_other(column, number)
+        count = same + (same < made)
+        if count < made:
+            self.back(made - count)
+        return count, self.seen[same * width:count * width].tolist()
+
+    def _look(self, places: Sequence[int], most: int) -> int:
+        """Makes turns. Returns how many; what was seen is in the room for it."""
+        if self.looked is not places or most > self.most_seen:
+            self._make_room(places, most)
         self.most.value = most
-        if self.session._call("looks", self.most, self.looked_at, self.width, self.seen, self.seen_room, self.counted[0]) == REFUSED:
+        status = self._looks(self.most, self.looked_at, self.width, self.seen_at, self.seen_room, self.counted[0])
+        if status > WATCHED:
+            open_status(status)
             raise Failure("the machine does not have these places")
-        found, turns = array("Q"), self.taken.value
-        found.frombytes(self.seen_bytes[:8 * len(places) * turns])
-        return found, turns
+        return int(self.taken.value)
+
+    def _make_room(self, places: Sequence[int], most: int) -> None:
+        """Makes room for the numbers at places after so many turns."""
+        width = len(places)
+        self.looked, self.most_seen, self.looked_at, self.width = places, most, (c_uint32 * width)(*places), c_size_t(width)
+        self.seen_at, self.seen_room = (c_uint64 * (most * width))(), c_size_t(most * width)
+        self.seen = memoryview(self.seen_at).cast("B").cast("Q")
 
     def back(self, count: int) -> None:
         if not self.session.back(count):
@@ -270,6 +297,14 @@ class LibraryEngine:
 
     def close(self) -> None:
         self.session.close()
+
+
+def first_other(column: List[int], number: int) -> int:
+    """Returns the index of the first number of a column that is another one than this. There is one."""
+    last = len(column) - 1
+    if column[last] != number and column.count(number) == last:
+        return last
+    return next(at for at, one in enumerate(column) if one != number)
 
 
 def bytes_of(path: str, name: str) -> bytes:

@@ -4,12 +4,12 @@ from __future__ import annotations
 
 import bisect
 from array import array
-from typing import List, Sequence, Tuple
+from typing import Iterator, List, Sequence, Tuple
 
 from . import interface as flat
 from .interface import Counts, Records, Rejection
 from .plain import places
-from .plain.console import Rejected
+from .plain.lines import Rejected
 from .plain.machine import Record
 from .plain.program import console_of, read_words
 
@@ -67,27 +67,34 @@ class PlainEngine:
         return Counts(len(self.machine.history), len(self.machine.ahead), self.machine.history.maxlen or 0)
 
     def turns(self, most: int) -> Records:
-        made: List[Record] = []
-        watches = self.console.watches()
-        is_watched = False
-        while len(made) < most and not is_watched:
-            record = self.machine.turn()
-            made.append(record)
-            is_watched = bool(watches) and self.console.hit(record, watches) is not None
-        return records_of(made, is_watched)
+        made = list(self._made(most))
+        return records_of(made, self.is_watched)
 
-    def looks(self, looked: Sequence[int], most: int) -> Tuple[Sequence[int], int]:
-        own = [own_place(place) for place in looked]
-        machine, watches, turns = self.machine, self.console.watches(), 0
-        numbers = machine.numbers
+    def looks(self, places: Sequence[int], most: int) -> Tuple[Sequence[int], int]:
+        own, numbers = [own_place(place) for place in places], self.machine.numbers
         found = array("Q")
-        while turns < most:
-            record = machine.turn()
-            turns += 1
+        for _ in self._made(most):
             found.extend([numbers[place] for place in own])
-            if watches and self.console.hit(record, watches):
-                break
-        return found, turns
+        return found, len(found) // len(places)
+
+    def until(self, places: Sequence[int], numbers: Sequence[int], most: int) -> Tuple[int, Sequence[int]]:
+        own, machine = [own_place(place) for place in places], self.machine.numbers
+        for made, _ in enumerate(self._made(most), 1):
+            if any(machine[place] != number for place, number in zip(own, numbers)):
+                return made, [machine[place] for place in own]
+        return made, []
+
+    def _made(self, most: int) -> Iterator[Record]:
+        """Makes turns, at most so many, up to a change of a watched number. Yields what each overwrote."""
+        watches, self.is_watched = self.console.watches(), False
+        while most and not self.is_watched:
+            record = self.machine.turn()
+            yield record
+            self.is_watched = bool(watches) and self.console.hit(record, watches) is not None
+            most -= 1
+
+    def perform(self, text: str) -> bool:
+        return all(answer == "OK" for answer in self.answer(text))
 
     def back(self, count: int) -> None:
         for _ in range(count):

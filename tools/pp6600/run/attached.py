@@ -165,7 +165,7 @@ class Attached(Session):
         past = self.pasts[number]
         begin, value = past.kept_before(entry)
         for at in past.at[begin + 1:entry + 1]:
-            end = Position(self.tape.after_units(Units(self.tape.units(at) - 1)) + 1)  # of the unit, without its replies
+            end = Position(self.tape.after_units(Units(self.tape.units(Position(at)) - 1)) + 1)  # of the unit, without its replies
             self.goto(end)
             if end in self.told:
                 value, _ = value_told(past, value, self.told[end][1], self._channel(past.device.channel), self.turn)
@@ -214,13 +214,13 @@ class Attached(Session):
         return [f"TURNS {new.turn - turn:o} SLOT {self.next_slot:02o}", *([hit] if hit else [])]
 
     def _new_turns(self) -> NewTurns:
-        return NewTurns(self.engine, self.pasts, self.history.room, self.position, self.turn)
+        return NewTurns(self.engine, self.pasts, self.history.room, self.tape, self.position)
 
     def _commit(self, new: NewTurns) -> None:
         """Takes what was made into the tape, in place of what is ahead."""
         new.flush()
         self.cut(self.position)
-        self.tape.extend(new.actions)
+        self.tape.go_on(new.tape)
         self.history.went(new.position, self.engine.counts().kept)
         self.plain.stops += new.stops
         for past, (at, values) in zip(self.pasts, new.new):

@@ -140,11 +140,11 @@ class Console:
 
     @functools.cached_property
     def reader_channel(self) -> int:
-        return int(fields("CR", self.reader())["channel"], 8)
+        return int(fields(self.reader())["H"], 8)
 
     @functools.cached_property
     def printer_channel(self) -> int:
-        return int(fields("LP", self.printer()[0])["channel"], 8)
+        return int(fields(self.printer()[0])["H"], 8)
 
     def frame(self) -> List[str]:
         """Returns a line of DUMP XP for each of the sixteen (decimal) words of the exchange package."""
@@ -165,13 +165,12 @@ class Console:
     def number_at(self, place: Place) -> str:
         """Returns the digits of the number at a place of any kind but a symbol of the paper."""
         kind, numbers = place
-        if kind == "M":
-            return self.cells(numbers[0], numbers[1], numbers[1])[0]
         if kind == "C":
-            return fields("C", self.central(numbers[0], numbers[0])[0])["word"]
-        if kind == "XP":
-            return fields("XP", self.frame()[numbers[0]])["word"]
-        return self.channel(numbers[0])[2:] if kind == "H" else self.registers(numbers[0])[kind]
+            return self.central(numbers[0], numbers[0])[0].split()[2]
+        if not place.exists:  # which is refused
+            look = {"M": lambda: self.cells(numbers[0], numbers[1], numbers[1]), "H": lambda: self.channel(numbers[0])}
+            look.get(kind, lambda: self.registers(numbers[0]))()
+        return f"{self.engine.numbers(place.number, 1)[0]:0{place.digits}o}"
 
     def _repr_html_(self) -> str:
         """Returns the machine as a small table, which a notebook shows."""

@@ -1,13 +1,9 @@
-"""The words of the console: the places of the machine, and the named fields of each answer.
-
-This is the one reader of answers. Each form of a line is written once, as `PP <number:nn> P <P:nnnn> ..`: n is an octal digit, s the
-state of a channel, and each field has a name. docs/CONSOLE.md describes the answers."""
+"""The words of the console: the places of the machine, and the named fields of answers, which docs/CONSOLE.md describes."""
 
 from __future__ import annotations
 
-import functools
 import re
-from typing import Dict, Iterable, List, NamedTuple, Optional, Pattern, Sequence, Tuple
+from typing import Dict, Iterable, List, NamedTuple, Optional, Sequence, Tuple
 
 from ..engine.interface import place_at, place_number
 from ..failure import Failure
@@ -119,57 +115,16 @@ class Place(NamedTuple):
         return all(number < size for number, size in zip(self.numbers, ALL_KINDS[self.kind].sizes))
 
 
-FIELD = re.compile(r"<(\w+):(.*?)>")
-
-
-def expression(body: str) -> str:
-    """Returns the regular expression of a field."""
-    return re.sub("n+", lambda digits: f"[0-7]{{{len(digits[0])}}}", body).replace("s", f"[{STATES}]")
-
-
-PLACES = "|".join(f"{kind} {' '.join('n' * width for width in one.widths)}" for kind, one in KINDS.items())
-FORMS = {
-    "OK": "OK",
-    "ERR": "ERR <code:nn> <text:[A-Z ]+>",
-    "TURNS": "(TURNS|BACK|FORWARD) <count:[1-7][0-7]{0,6}> SLOT <slot:nn>",
-    "HIT": f"HIT <place:{PLACES}> <was:[0-7]+> <now:[0-7]+>",
-    "M": f"<address:nnnn> <words:nnnn(?: nnnn){{0,{ROW - 1}}}>",
-    "PP": "PP <number:nn> P <P:nnnn> A <A:nnnnnn> Q <Q:nnnn> PHASE <PHASE:nnnn> SLOT <SLOT:nn>",
-    "H": "H <number:nn> <state:s> <register:nnnn>",
-    "C": f"C <address:nnnnnn> <word:{20 * 'n'}>",
-    "XP": f"XP <number:nn> <word:{20 * 'n'}>",
-    "CR": "CR H <channel:nn> CARD <CARD:nnnn> OF <OF:nnnn> COLUMN <COLUMN:nnn> MODE <MODE:[A-Z]+>",
-    "LP": "LP H <channel:nn> SYMBOLS <SYMBOLS:nnnnnn> COLUMN <COLUMN:nnn> MODE <MODE:[A-Z]+>",
-    "PAPER": "[|/].*",
-    "W": f"W <place:NONE|{PLACES}>",
-}
-KIND_OF_LINE = {"|": "PAPER", "/": "PAPER", **dict.fromkeys("01234567", "M")}  # by its first letter; else it is the first word
-
-
-def kind_of(line: str) -> str:
-    """Returns which form a line of an answer has; of TURNS, BACK and FORWARD the word."""
-    return KIND_OF_LINE.get(line[:1]) or line.split(" ", 1)[0]
-
-
-def fields(kind: str, line: str) -> Dict[str, str]:
-    """Returns the fields of a line of this form, by their names."""
-    found = form(kind).fullmatch(line)
-    if not found:
-        raise Failure(f"what is run is not the simulator: it answers {line[:60]!r}")
-    named: Dict[str, str] = found.groupdict()
-    return named
-
-
-@functools.lru_cache(maxsize=None)
-def form(kind: str) -> Pattern[str]:
-    """Returns the regular expression of the lines of a form, with the names of their fields."""
-    return re.compile(FIELD.sub(lambda field: f"(?P<{field[1]}>{expression(field[2])})", FORMS[kind]))
+def fields(line: str) -> Dict[str, str]:
+    """Returns the fields of a line of DUMP PP, CR or LP, by their names."""
+    words = line.split()
+    return dict(zip(words[len(words) % 2::2], words[len(words) % 2 + 1::2]))
 
 
 def registers_of(line: str) -> Registers:
     """Returns P, A, Q, PHASE and SLOT of an answer to DUMP PP."""
-    found = fields("PP", line)
-    del found["number"]
+    found = fields(line)
+    del found["PP"]
     return found
 
 

@@ -5,7 +5,7 @@ from __future__ import annotations
 from html import escape
 from typing import Iterable, Sequence
 
-from .forms import REGISTERS, fields
+from .forms import REGISTERS
 from .turn import Processor, states_of
 
 HEADS = ("", "PP", *REGISTERS, "instruction", "waits for")
@@ -22,8 +22,6 @@ def table_of(processors: Sequence[Processor], channels: Sequence[str], devices: 
     slot = int(processors[0].registers["SLOT"], 8)
     rows = [row((MARK if number == slot else "", f"{number:02o}", *(processor.registers[name] for name in REGISTERS),
                  processor.text, processor.waits_for(states))) for number, processor in enumerate(processors)]
-    found = [fields("H", line) for line in channels]
-    beside = [row(("H", *(channel["number"] for channel in found)), "th"),
-              row(("", *(f"{channel['state']} {channel['register']}" for channel in found)))]
+    beside = [row(("H", *(line[2:4] for line in channels)), "th"), row(("", *(line[5:] for line in channels)))]
     return (f"<table>{row(HEADS, 'th')}{''.join(rows)}</table><table>{''.join(beside)}</table>"
             f"<p>{'<br>'.join(map(escape, devices))}</p>")

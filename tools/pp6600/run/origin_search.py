@@ -5,9 +5,9 @@ from __future__ import annotations
 
 from typing import Any, Callable, Dict, List, Optional, Sequence, Set, Tuple
 
-from ..engine.interface import CARD, PAPER_LENGTH, place_number
+from ..engine.interface import CARD, PAPER_LENGTH
 from ..failure import Failure
-from .forms import CELLS, CLOCK, Place, fields
+from .forms import CELLS, CLOCK, Place
 from .recording import AT_ONCE, Recording, last_part_with
 from .session import Session
 from .tape import STEP, Position
@@ -150,7 +150,7 @@ class OriginSearch:
                 continue
             first = max(self.tape.starts[part], Position(position - size))
             if position - first > MOST_SIZE:
-                written = last_part_with(self.run, first, position, [place_number(*place) for place in self.asked], self.progress)
+                written = last_part_with(self.run, first, position, [place.number for place in self.asked], self.progress)
                 position, size = written, WIDER * size if written == first else AT_ONCE
                 continue
             self._look_at_turns(Recording(self.run, first, position))
@@ -169,7 +169,7 @@ class OriginSearch:
         at = recording.last - recording.first
         writes: Dict[Place, int] = {}
         while self.asked:
-            writes = {place: writes[place] if writes.get(place, at) < at else recording.last_write(place_number(*place), at)
+            writes = {place: writes[place] if writes.get(place, at) < at else recording.last_write(place.number, at)
                       for place in self.asked}
             at = max(writes.values())
             if at < 0:
@@ -178,7 +178,7 @@ class OriginSearch:
             for place in [place for place in self.asked if writes[place] == at and place.kind in ("H", "LP")]:
                 self._look_at_device(recording, at, place, position)
             for place in self.asked.keys() - writes.keys():  # the printer's word may have come in the same turn
-                writes[place] = recording.last_write(place_number(*place), at + 1)
+                writes[place] = recording.last_write(place.number, at + 1)
             if any(writes.get(place) == at for place in self.asked):
                 self._look_at_turn(recording.turn(at), position)
 
@@ -238,7 +238,7 @@ class OriginSearch:
     def _check_symbol(self, index: int, position: Position) -> None:
         """Sees that the paper has a symbol."""
         self.run.goto(position)
-        count = int(fields("LP", self.run.printer()[0])["SYMBOLS"], 8)
+        count, = self.run.engine.numbers(PAPER_LENGTH, 1)
         if index >= count:
             raise Failure(f"the paper has {count:o} symbols (octal), from LP 0 on" if count else "nothing is on the paper")
 

@@ -3,7 +3,7 @@
 from __future__ import annotations
 
 import bisect
-from typing import Dict, List, Optional, Tuple
+from typing import Dict, List, Optional, Sequence, Tuple
 
 from .device import Device, Reply, Value, value_at_start
 from .tape import Action, Position, ReplyLine
@@ -25,12 +25,12 @@ class Past:
         self.device, self.exact, self.every = device, exact, every
         self.value = value_at_start(device)
         self.entry = 0  # which one it is; -1 if it is none
-        self.at: List[Position] = [Position(0)]
+        self.at = [0]  # positions
         self.values: List[Optional[Value]] = [self.value]
         self.folded = 0  # so many of the first are not all kept
         self.replies: Dict[Tuple[Optional[str], Optional[int]], Action] = {}  # by the state and the word
 
-    def add(self, at: List[Position], values: List[Value]) -> None:
+    def add(self, at: Sequence[int], values: Sequence[Value]) -> None:
         """Adds values. The last one is at hand then."""
         self.at += at
         self.values += values

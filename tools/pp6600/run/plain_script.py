@@ -16,7 +16,7 @@ class PlainScript:
     def __init__(self, room: int, tape: Tape) -> None:
         """The simulator keeps so many actions."""
         self.history = History(room, tape)
-        self.stops: List[Position] = []  # the positions after turns with a HIT, where a STEP of the script ends
+        self.stops: List[int] = []  # the positions after turns with a HIT, where a STEP of the script ends
         self.times_anew = 0
         self.written: List[str] = []
         self.end = Position(0)  # the position up to which lines are written
@@ -32,7 +32,7 @@ class PlainScript:
     def part(self, first: Position, last: Position) -> Iterator[str]:
         """Yields the lines for the actions between two positions."""
         inside = self.stops[bisect.bisect_right(self.stops, first):bisect.bisect_left(self.stops, last)]
-        ends = [first, *inside, last]
+        ends = [first, *map(Position, inside), last]
         return with_notes(itertools.chain.from_iterable(itertools.starmap(self.history.tape.lines, zip(ends, ends[1:]))))
 
     def cut(self, position: Position) -> None:

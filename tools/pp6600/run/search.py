@@ -11,7 +11,7 @@ from collections import deque
 from typing import Callable, Dict, Iterator, List, NamedTuple, Optional, Sequence, Set, Tuple
 
 from ..engine import interface as flat
-from ..engine.interface import Records, place_number
+from ..engine.interface import Records
 from .forms import CELLS, CLOCK, PROCESSORS, REGISTERS, STATES, Place, Registers
 from .session import Session
 from .tape import Position
@@ -37,7 +37,7 @@ class Column(NamedTuple):
     @property
     def places(self) -> range:
         """Their places in the flat order of the engines."""
-        first = place_number(*self.place)
+        first = self.place.number
         return range(first, first + self.size)
 
     @property
@@ -47,14 +47,12 @@ class Column(NamedTuple):
 
     def shown(self, run: Session) -> Numbers:
         """Returns what is shown of them as they are: names and digits, and of a channel the state too."""
-        kind, numbers = self.place
-        digits = self.place.digits
-        found = run.engine.numbers(self.places[0], self.size)
-        if kind == "H" and numbers[0] < CLOCK:
-            (state,) = run.engine.numbers(flat.STATES + numbers[0], 1)
-            return [(self.place.text, f"{STATES[state]} {found[0]:0{digits}o}")]
-        places = (Place(kind, (*numbers[:-1], numbers[-1] + at)) for at in range(self.size))
-        return [(place.text, f"{number:0{digits}o}") for place, number in zip(places, found)]
+        found = [(Place.at(place).text, f"{number:0{self.place.digits}o}")
+                 for place, number in zip(self.places, run.engine.numbers(self.places[0], self.size))]
+        if self.place.kind == "H" and self.place.numbers[0] < CLOCK:
+            (state,) = run.engine.numbers(flat.STATES + self.place.numbers[0], 1)
+            found = [(name, f"{STATES[state]} {digits}") for name, digits in found]
+        return found
 
 
 class Looks:

@@ -95,9 +95,9 @@ class State:
         self.channels = [Channel(f"{number:02o}", state, register) for number, (state, register) in enumerate(zip(self.states(), registers))]
         self.watched = [Place.parse(line[2:]) for line in console.demand("DUMP W") if line != "W NONE"]
         printer, *paper = console.printer()
-        channel, symbols, column, mode = fields("LP", printer).values()
+        channel, symbols, column, mode = fields(printer).values()
         self.printer = Printer(channel, symbols, column, mode, paper)
-        self.reader = Reader(*fields("CR", console.reader()).values())
+        self.reader = Reader(*fields(console.reader()).values())
         self.central = central_of(console) if with_central else ()
 
     def _processor(self, number: int) -> Processor:

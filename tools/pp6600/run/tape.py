@@ -12,6 +12,7 @@ and forward without a limit."""
 from __future__ import annotations
 
 import bisect
+import functools
 import re
 from typing import Container, Dict, Iterable, Iterator, List, NamedTuple, NewType, Optional, Sequence, Tuple
 
@@ -116,6 +117,9 @@ class Action(NamedTuple):
         return self.word in WATCH_WORDS
 
 
+turns_of = functools.lru_cache(maxsize=4096)(functools.partial(Action, STEP))
+
+
 class Tape:
     """The actions of a run. A unit is an action as a user counts them: with the replies of devices after it."""
 
@@ -128,25 +132,53 @@ class Tape:
         for line, times in actions:
             self.append(line, times)
 
+    @classmethod
+    def after(cls, tape: Tape, position: Position) -> Tape:
+        """Returns an empty tape that goes on from a position of another one."""
+        new = cls()
+        new.starts, new.turns_before, new.units_before = [position], [tape.turn(position)], [tape.units(position)]
+        return new
+
     def append(self, line: str, times: int = 1) -> None:
         """Adds an action at the end, so many times."""
-        self.extend([Action(line, times)] * (times > 0))
+        if not times:
+            return
+        is_turn, is_reply = line == STEP, type(line) is ReplyLine
+        if is_turn and self.runs and self.runs[-1].line == STEP:
+            times += self._pop().times
+        self._add(Action(line, times), times * is_turn, times * (not is_reply))
+        if not is_turn and not is_reply:
+            self._note_kind(self.runs[-1].word)
 
-    def extend(self, actions: Sequence[Action]) -> None:
-        """Adds actions at the end, with no two runs of turns next to each other."""
-        if actions and self.runs and actions[0].line == self.runs[-1].line == STEP:
-            last = self.runs.pop()
-            del self.starts[-1], self.turns_before[-1], self.units_before[-1]
-            actions = [Action(STEP, last.times + actions[0].times), *actions[1:]]
-        for action in actions:
-            line, times = action
-            is_turn, is_reply = line == STEP, type(line) is ReplyLine
-            self.runs.append(action)
-            self.starts.append(Position(self.starts[-1] + times))
-            self.turns_before.append(self.turns_before[-1] + times * is_turn)
-            self.units_before.append(self.units_before[-1] + times * (not is_reply))
-            if not is_turn and not is_reply:
-                self._note_kind(action.word)
+    def append_replies(self, turns: int, replies: Sequence[Action]) -> None:
+        """Adds turns after which there are replies, or none, and the replies."""
+        if turns:
+            self._add(turns_of(turns), turns, turns)
+        self.runs += replies
+        for _ in replies:
+            self.starts.append(Position(self.starts[-1] + 1))
+            self.turns_before.append(self.turns_before[-1])
+            self.units_before.append(self.units_before[-1])
+
+    def _add(self, run: Action, turns: int, units: int) -> None:
+        self.runs.append(run)
+        self.starts.append(self.starts[-1] + run[1])  # type: ignore[arg-type]
+        self.turns_before.append(self.turns_before[-1] + turns)
+        self.units_before.append(self.units_before[-1] + units)
+
+    def go_on(self, new: Tape) -> None:
+        """Adds the actions of a tape that goes on from the end of this one."""
+        if new.runs and self.runs and new.runs[0].line == self.runs[-1].line == STEP:
+            new.runs[0] = Action(STEP, self._pop().times + new.runs[0].times)
+        self.runs += new.runs
+        self.starts += new.starts[1:]
+        self.turns_before += new.turns_before[1:]
+        self.units_before += new.units_before[1:]
+
+    def _pop(self) -> Action:
+        """Removes the last run, and returns it."""
+        del self.starts[-1], self.turns_before[-1], self.units_before[-1]
+        return self.runs.pop()
 
     def _note_kind(self, word: str) -> None:
         if word in WATCH_WORDS:
@@ -157,8 +189,7 @@ class Tape:
     def cut(self, position: Position) -> None:
         """Removes what is after a position."""
         while self.starts[-1] > position:
-            del self.starts[-1], self.turns_before[-1], self.units_before[-1]
-            action = self.runs.pop()
+            action = self._pop()
             self.watches -= action.is_watch
             self.append(action.line, max(position - self.end, 0))
         while self.dead_starts and self.dead_starts[-1] > position:
