@@ -262,8 +262,11 @@ class LibraryEngine:
         same = made
         for at, number in enumerate(numbers):
             column = self.seen[at:same * width:width].tolist()
-            if column.count(number) < same:
-                same = first_other(column, number)
+            alike = column.count(number)
+            if alike == same - 1 and column[alike] != number:  # mostly the last one
+                same = alike
+            elif alike < same:
+                same = next(turn for turn, one in enumerate(column) if one != number)
         count = same + (same < made)
         if count < made:
             self.back(made - count)
@@ -297,14 +300,6 @@ class LibraryEngine:
 
     def close(self) -> None:
         self.session.close()
-
-
-def first_other(column: List[int], number: int) -> int:
-    """Returns the index of the first number of a column that is another one than this. There is one."""
-    last = len(column) - 1
-    if column[last] != number and column.count(number) == last:
-        return last
-    return next(at for at, one in enumerate(column) if one != number)
 
 
 def bytes_of(path: str, name: str) -> bytes:
