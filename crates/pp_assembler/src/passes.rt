@@ -31,17 +31,26 @@ pub fn assemble(alloc: Global, source: &[u8]) -> Result<Assembly, AllocError>
 {
     let spans = cut_lines(alloc, source)?;
     let mut lines = read_lines(alloc, source, &spans)?;
+    let (pass, ending) = last_pass(alloc, &mut lines)?;
+    match ending {
+        Some(ending) => ended(alloc, lines, pass, &spans, ending),
+        None => assembly_of(alloc, lines, pass, &spans),
+    }
+}
+
+/// Returns the last pass over lines, and why it does not go on to their end, if so.
+fn last_pass(alloc: Global, lines: &mut Lines) -> Result<(Pass, Option<Ending>), AllocError> {
     let mut pass = Pass::new(alloc, Symbols::new(alloc), Blocks::new(alloc), false)?;
-    if let Err(ending) = pass.run(&mut lines) {
-        return ended(alloc, lines, pass, &spans, ending);
+    if let Err(ending) = pass.run(lines) {
+        return Ok((pass, Some(ending)));
     }
     for _ in 1..MOST_PASSES {
         pass = next_pass(alloc, pass)?;
-        if let Err(ending) = pass.run(&mut lines) {
-            return ended(alloc, lines, pass, &spans, ending);
+        if let Err(ending) = pass.run(lines) {
+            return Ok((pass, Some(ending)));
         }
         if pass.has_settled() {
-            return assembly_of(alloc, lines, pass, &spans);
+            return Ok((pass, None));
         }
     }
     pass.messages.push(Message {
@@ -50,7 +59,7 @@ pub fn assemble(alloc: Global, source: &[u8]) -> Result<Assembly, AllocError>
         statement: usize::MAX,
         fault: Fault::new(UNSETTLED),
     })?;
-    assembly_of(alloc, lines, pass, &spans)
+    Ok((pass, None))
 }
 
 /// Returns the pass after one, which knows what this one has found.
