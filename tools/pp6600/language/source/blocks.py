@@ -180,8 +180,8 @@ def echo(state: "Pass", statement: Statement, lines: Sequence[Line]) -> None:
     sizes = {len(items) for items in lists.values()}
     if len(sizes) > 1:
         state.warn("echo", statement.operation.column, "the lists of ECHO are of several lengths; the shortest one ends it")
-    items = [dict(zip(lists, values)) for values in zip(*lists.values())]
-    for made in [[echoed(state, statement, line, own) for line in lines] for own in items]:
+    rounds = [dict(zip(lists, values)) for values in zip(*lists.values())]
+    for made in [[echoed(state, statement, line, own) for line in lines] for own in rounds]:
         state.run(made)
 
 
