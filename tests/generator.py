@@ -7,7 +7,7 @@ import shlex
 
 from tests.support import TOP
 
-from pp6600.engine.plain.console import FORMS, Console
+from pp6600.engine.plain.lines import FORMS, PlainConsole
 from pp6600.engine.plain.instructions import TWO_WORDS
 from pp6600.engine.plain.machine import Machine
 
@@ -300,7 +300,7 @@ class Maker:
     def set_machine(self, history, central, *devices):
         """Sets the numbers of actions kept and of central words (in 1024), and the channels of the devices."""
         self.history, self.central = history, central * 1024
-        self.ranges = Console(Machine(central=self.central)).ranges
+        self.ranges = PlainConsole(Machine(central=self.central)).ranges
         self.channels += devices
 
     def deck(self):

@@ -69,7 +69,7 @@ class Record:
         self.place, self.cause, self.turn, self.number, self.sources, self.details = place, cause, turn, number, sources, details
 
 
-class Processor(instructions.Processor):
+class Processor(instructions.PlainProcessor):
     """A step of a processor. Words of its instruction, P and addresses are constants."""
 
     def look(self):

@@ -28,7 +28,7 @@ from tests.support import EXAMPLES, PATIENCE, TOP, Case, program, read, write
 from tests.ways import CaseTests
 
 from pp6600.engine import library
-from pp6600.engine.plain.console import Rejected
+from pp6600.engine.plain.lines import Rejected
 from pp6600.engine.plain.program import read_options, read_words
 
 FOLDER = os.path.abspath(os.environ.get("PP6600_ARTEFACTS") or os.path.join(TOP, "dist"))
@@ -237,7 +237,7 @@ def answer_in_python(options, room):
     *machine, deck, panel, script = struct.unpack_from("<7I", options)
     files = options[28:28 + deck], options[28 + deck:28 + deck + panel]
     try:
-        with library.Session(*machine, *files, path=artefact("libpp6600.so")) as session:
+        with library.LibrarySession(*machine, *files, path=artefact("libpp6600.so")) as session:
             done = session.answer(options[len(options) - script:], room)
         assert done.taken == script
         return done.text, b"", int(done.refused > 0)

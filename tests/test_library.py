@@ -11,7 +11,7 @@ from tests.generator import BUSY, WATCHED as WATCHING, Maker
 from tests.support import PATIENCE, TOP, Case, blocks, program, read
 
 from pp6600.engine import library
-from pp6600.engine.library import Refused, Session
+from pp6600.engine.library import LibrarySession, Refused
 from pp6600.failure import Failure
 
 CRATE = os.path.join(TOP, "crates", "pp_library")
@@ -28,7 +28,7 @@ class LibraryCase(Case):
     """A case with sessions of the library."""
 
     def open(self, **options):
-        session = Session(path=built(), **options)
+        session = LibrarySession(path=built(), **options)
         self.addCleanup(session.close)
         return session
 
@@ -162,9 +162,9 @@ class WrongHands(LibraryCase):
 
     def test_a_missing_library(self):
         with self.assertRaisesRegex(Failure, "the library of the simulator can't be loaded"):
-            Session(path=self.path("none.so"))
+            LibrarySession(path=self.path("none.so"))
         with self.assertRaisesRegex(Failure, "the library of the simulator can't be loaded"):
-            Session(path=self.file("not a library"))
+            LibrarySession(path=self.file("not a library"))
 
 
 @unittest.skipUnless(built() and shutil.which("gcc"), "dist/libpp6600.so was not built, or there is no gcc")

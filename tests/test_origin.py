@@ -12,7 +12,7 @@ from tests import tagged
 from tests.generator import Maker
 from tests.support import Case, names_of_codes, read, tool, write
 
-from pp6600.engine.plain.console import Rejected, reject_if
+from pp6600.engine.plain.lines import Rejected, reject_if
 from pp6600.engine.plain.devices import READING
 from pp6600.engine.plain.places import PAPER_LENGTH
 from pp6600.engine.plain.program import console_of, read_words

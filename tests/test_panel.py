@@ -13,7 +13,7 @@ from pp6600 import Console, Failure
 from pp6600.devices.console_display import ConsoleDisplay
 from pp6600.devices.paper_tape import PaperTape
 from pp6600.engine.plain import places
-from pp6600.engine.plain.console import SYMBOLS
+from pp6600.engine.plain.lines import SYMBOLS
 from pp6600.front import keys
 from pp6600.front.panel.screen import ScreenContent, layout, screen, small_screen
 from pp6600.front.panel.text import CHANGED, CURSOR, HERE, OVERWRITTEN as OVER, REFUSED

@@ -17,7 +17,7 @@ import unittest
 from tests.generator import WORDS, Maker, Session, commands, word_line
 from tests.support import Case, program
 
-from pp6600.engine.plain.console import FORMS, Console
+from pp6600.engine.plain.lines import FORMS, PlainConsole
 from pp6600.engine.plain.instructions import INSTRUCTIONS
 from pp6600.engine.plain.machine import Machine
 from pp6600.engine.plain.program import console_of
@@ -34,7 +34,7 @@ class CountedMachine(Machine):
         return writes
 
 
-class CountedConsole(Console):
+class CountedConsole(PlainConsole):
     def answer(self, line):
         answer = super().answer(line)
         if answer and answer[0].startswith("ERR"):

@@ -8,7 +8,7 @@ from typing import Iterable, NamedTuple, Sequence, Tuple, Union
 from ..failure import Failure
 from ..run.device import INACTIVE, Reply, full
 from ..shell.text_files import read_lines
-from .converter import Converter, State
+from .converter import Converter, ConverterState
 
 COLUMNS = 80
 PLAIN = (0o1, 0o2, 0o4, 0o5)  # binary, coded, the gate, clear: no word is translated
@@ -29,7 +29,7 @@ class CardReader(Converter):
         """The deck is its cards, each of up to 80 words, or the name of a file as for the option --deck."""
         super().__init__(equipment_of(equipment), channel)
         self.deck = deck_of(deck) if isinstance(deck, str) else [tuple(card) for card in deck]
-        self.start = State(Cards())
+        self.start = ConverterState(Cards())
 
     def performed(self, inner: Cards, code: int) -> Tuple[Cards, bool]:
         return inner, code in PLAIN

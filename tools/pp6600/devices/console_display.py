@@ -29,7 +29,7 @@ class Shown(NamedTuple):
     turn: int
 
 
-class State(NamedTuple):
+class DisplayState(NamedTuple):
     """The state of the console."""
 
     screens: Tuple[Chain, Chain] = (Chain(), Chain())  # what was put on them
@@ -43,7 +43,7 @@ class State(NamedTuple):
 class ConsoleDisplay(Device):
     """A display console."""
 
-    start = State()
+    start = DisplayState()
     most_marks = 4096  # of which a screen's newest are kept
 
     def __init__(self, fading: Union[str, int] = FADING, channel: int = 0o10) -> None:
@@ -52,11 +52,11 @@ class ConsoleDisplay(Device):
         if self.fading < 1:
             raise DeviceFailure("what is drawn can't fade in less than a turn")
 
-    def function(self, state: State, event: Event) -> Answer:
+    def function(self, state: DisplayState, event: Event) -> Answer:
         is_known = event.word == KEYBOARD or event.word in DRAWING
         return (state._replace(code=event.word), INACTIVE) if is_known else (state, NOTHING)
 
-    def word(self, state: State, event: Event) -> Answer:
+    def word(self, state: DisplayState, event: Event) -> Answer:
         """Takes a coordinate, or two symbols."""
         if state.code not in DRAWING:
             return state, NOTHING
@@ -71,13 +71,13 @@ class ConsoleDisplay(Device):
             state = self.put_symbol(self.put_symbol(state, word >> 6), word & 0o77)
         return state, EMPTY.waking(self.fading)
 
-    def put_symbol(self, state: State, code: int) -> State:
+    def put_symbol(self, state: DisplayState, code: int) -> DisplayState:
         """Puts a symbol on the screen, and moves to the place of the next one."""
         size = SIZES[state.code & 0o7]
         symbol = SYMBOLS[code] if code < len(SYMBOLS) else BLANK
         return self.put(state, Mark(state.y, state.x, size, symbol))._replace(x=(state.x + size) & PLACE)
 
-    def put(self, state: State, mark: Mark) -> State:
+    def put(self, state: DisplayState, mark: Mark) -> DisplayState:
         """Puts a mark on the screen."""
         number = state.code >> 6 & 1
         chain = state.screens[number].push(Shown(mark, state.turn))
@@ -85,7 +85,7 @@ class ConsoleDisplay(Device):
             chain = chain_of(self.seen(state, chain)[-self.most_marks:])
         return state._replace(screens=(chain, state.screens[1]) if number == 0 else (state.screens[0], chain))
 
-    def seen(self, state: State, chain: Chain) -> List[Shown]:
+    def seen(self, state: DisplayState, chain: Chain) -> List[Shown]:
         """Returns what has not faded of a screen: at each place what was put there last, the oldest first."""
         found: Dict[Tuple[int, ...], Shown] = {}
         for shown in chain.items():
@@ -94,22 +94,22 @@ class ConsoleDisplay(Device):
             found[place] = shown
         return [shown for shown in found.values() if shown.turn > state.turn - self.fading]
 
-    def picture(self, state: State) -> Picture:
+    def picture(self, state: DisplayState) -> Picture:
         """Returns what is seen on the screens."""
         marks = [[shown.mark for shown in self.seen(state, chain)] for chain in state.screens]
         return Picture(tuple(frozenset(mark for mark in screen if mark.symbol != BLANK) for screen in marks))
 
-    def activated(self, state: State, event: Event) -> Answer:
+    def activated(self, state: DisplayState, event: Event) -> Answer:
         """Gives the word of the next key, or that of none."""
         if state.code != KEYBOARD:
             return state, NOTHING
         return state._replace(keys=state.keys[1:]), full(KEYS[state.keys[0]] if state.keys else NO_KEY)
 
-    def due(self, state: State, event: Event) -> Answer:
+    def due(self, state: DisplayState, event: Event) -> Answer:
         """Lets all fade that is on the screens, because nothing was drawn for so long."""
         return state._replace(turn=event.turn), NOTHING
 
-    def told(self, state: State, event: Event) -> Answer:
+    def told(self, state: DisplayState, event: Event) -> Answer:
         """Presses keys, one after the other: a text, of which a line feed is the key of the carriage return."""
         keys = str(event.word).upper()
         wrong = [key for key in keys if key not in KEYS]

@@ -14,7 +14,7 @@ REJECT = 0o1  # of the converter's status
 CODES = (CONNECT_BY_WORD, FUNCTION_BY_WORD, CONVERTER_STATUS, STATUS, INPUT_TO_END, INPUT, OUTPUT, SELECT, DESELECT)
 
 
-class State(NamedTuple):
+class ConverterState(NamedTuple):
     """The state of the converter: the code in effect, what is connected, the last reject, and the state of the equipment."""
 
     inner: Any
@@ -62,31 +62,31 @@ class Converter(Device):
 
     # ---- the converter
 
-    def function(self, state: State, event: Event) -> Answer:
+    def function(self, state: ConverterState, event: Event) -> Answer:
         code = event.word
         if code >= CONNECT:
             return self.connected(state, code), INACTIVE
         if code == MASTER_CLEAR:
-            return State(self.cleared(state.inner)), INACTIVE
+            return ConverterState(self.cleared(state.inner)), INACTIVE
         if code <= FUNCTIONS:
             return self.functioned(state, code), INACTIVE
         return (state._replace(code=code), INACTIVE) if code in CODES else (state, NOTHING)
 
-    def connected(self, state: State, code: int) -> State:
+    def connected(self, state: ConverterState, code: int) -> ConverterState:
         """Connects the equipment, if the code has its number; else it is a reject, and nothing is connected."""
         is_ours = (code & EQUIPMENT) >> 9 == self.equipment
         return state._replace(code=0, is_connected=is_ours, is_rejected=not is_ours)
 
-    def functioned(self, state: State, code: int) -> State:
+    def functioned(self, state: ConverterState, code: int) -> ConverterState:
         """Gives a function to the equipment; 0000 releases it."""
         if not state.is_connected:
             return state._replace(code=0, is_rejected=True)
         if code == 0:
-            return State(self.cleared(state.inner))
+            return ConverterState(self.cleared(state.inner))
         inner, is_taken = self.performed(state.inner, code)
         return state._replace(inner=inner, code=0, is_rejected=not is_taken)
 
-    def activated(self, state: State, event: Event) -> Answer:
+    def activated(self, state: ConverterState, event: Event) -> Answer:
         """Gives a status word, or the first word of an input."""
         if state.code == CONVERTER_STATUS:
             return state, full(REJECT if state.is_rejected else 0)
@@ -96,13 +96,13 @@ class Converter(Device):
             return self.taken(state._replace(inner=self.begun(state.inner)), event)
         return state, NOTHING
 
-    def taken(self, state: State, event: Event) -> Answer:
+    def taken(self, state: ConverterState, event: Event) -> Answer:
         if state.code not in (INPUT, INPUT_TO_END):
             return state, NOTHING
         inner, reply = self.given(state.inner) if state.is_connected else (state.inner, INACTIVE)
         return state._replace(inner=inner, code=0 if reply == INACTIVE else state.code), reply
 
-    def word(self, state: State, event: Event) -> Answer:
+    def word(self, state: ConverterState, event: Event) -> Answer:
         """Takes a code that is a word, or a word of an output."""
         if state.code == CONNECT_BY_WORD:
             return self.connected(state, event.word), EMPTY
@@ -112,6 +112,6 @@ class Converter(Device):
             return state._replace(inner=self.taken_over(state.inner, event.word)), EMPTY
         return state, NOTHING
 
-    def disconnected(self, state: State, event: Event) -> Answer:
+    def disconnected(self, state: ConverterState, event: Event) -> Answer:
         inner = self.ended(state.inner) if state.code == OUTPUT else state.inner
         return state._replace(inner=inner, code=0), NOTHING

@@ -7,7 +7,7 @@ from typing import NamedTuple, Tuple
 from ..language.display_code import SYMBOLS
 from ..run.device import Chain
 from .card_reader import equipment_of
-from .converter import Converter, State
+from .converter import Converter, ConverterState
 
 SINGLE, DOUBLE, LAST_LINE, EJECT, NO_SPACE = 0o1, 0o2, 0o3, 0o4, 0o6
 CLEAR = 0o5
@@ -27,7 +27,7 @@ class Paper(NamedTuple):
 class LinePrinter(Converter):
     """A line printer."""
 
-    start = State(Paper())
+    start = ConverterState(Paper())
 
     def __init__(self, equipment: str = "5", channel: int = 0o13) -> None:
         super().__init__(equipment_of(equipment), channel)
@@ -51,6 +51,6 @@ class LinePrinter(Converter):
         return Paper(inner.printed.push(inner.line[:WIDTH].rstrip() + "\n"))
 
     @staticmethod
-    def output(state: State) -> str:
+    def output(state: ConverterState) -> str:
         """Returns what is on the paper."""
         return "".join(state.inner.printed.items())

@@ -20,7 +20,7 @@ STATUS, READ, WRITE = 0o1300, 0o1400, 0o1600
 READY, WRITE_ENABLED, AT_MARK, AT_LOAD_POINT, AT_END = 0o1, 0o4, 0o10, 0o20, 0o40
 
 
-class State(NamedTuple):
+class TapeState(NamedTuple):
     """The state of the unit."""
 
     behind: Chain = Chain()  # the blocks before the head
@@ -31,7 +31,7 @@ class State(NamedTuple):
     words: Chain = Chain()  # of the record that is written
 
 
-def forward(state: State) -> State:
+def forward(state: TapeState) -> TapeState:
     """Moves the tape forward by a block."""
     if not state.ahead.length:
         return state._replace(met=AT_END)
@@ -39,7 +39,7 @@ def forward(state: State) -> State:
     return state._replace(behind=state.behind.push(block), ahead=ahead, met=0 if block else AT_MARK)
 
 
-def backward(state: State) -> State:
+def backward(state: TapeState) -> TapeState:
     """Moves the tape back by a block."""
     if not state.behind.length:
         return state._replace(met=0)
@@ -47,14 +47,14 @@ def backward(state: State) -> State:
     return state._replace(behind=behind, ahead=state.ahead.push(block), met=0 if block else AT_MARK)
 
 
-def rewound(state: State) -> State:
+def rewound(state: TapeState) -> TapeState:
     """Moves the tape back to its beginning."""
     while state.behind.length:
         state = backward(state)
     return state._replace(met=0)
 
 
-def at_next_mark(state: State) -> State:
+def at_next_mark(state: TapeState) -> TapeState:
     """Moves the tape forward to after a file mark, or to its end."""
     state = forward(state)
     while not state.met:
@@ -62,7 +62,7 @@ def at_next_mark(state: State) -> State:
     return state
 
 
-def at_mark_before(state: State) -> State:
+def at_mark_before(state: TapeState) -> TapeState:
     """Moves the tape back to before a file mark, or to its beginning."""
     state = backward(state)
     while not state.met and state.behind.length:
@@ -70,12 +70,12 @@ def at_mark_before(state: State) -> State:
     return state
 
 
-def written(state: State, block: Block) -> State:
+def written(state: TapeState, block: Block) -> TapeState:
     """Writes a block. What was after it on the tape is lost."""
     return state._replace(behind=state.behind.push(block), ahead=Chain(), met=0)
 
 
-MOVEMENTS: Dict[int, Callable[[State], State]] = {
+MOVEMENTS: Dict[int, Callable[[TapeState], TapeState]] = {
     REWIND: rewound, BACKSPACE: backward, FIND_MARK: at_next_mark, FIND_MARK_BEFORE: at_mark_before,
     WRITE_MARK: lambda state: written(state, MARK)}
 CODES = {*PLAIN, *MOVEMENTS, STATUS, READ, WRITE}
@@ -92,27 +92,27 @@ class MagneticTape(Device):
         self.codes = CODES if ring else CODES - {WRITE, WRITE_MARK}
         if isinstance(tape, str):
             tape = read_tape(tape) if tape else ()  # without a name it is a new one
-        self.start = State(ahead=chain_of(reversed(list(tape))))
+        self.start = TapeState(ahead=chain_of(reversed(list(tape))))
 
-    def status(self, state: State) -> int:
+    def status(self, state: TapeState) -> int:
         """Returns the status word."""
         ring = WRITE_ENABLED if WRITE in self.codes else 0
         return READY | ring | state.met | (0 if state.behind.length else AT_LOAD_POINT)
 
-    def function(self, state: State, event: Event) -> Answer:
+    def function(self, state: TapeState, event: Event) -> Answer:
         if event.word not in self.codes:
             return state, NOTHING
         move = MOVEMENTS.get(event.word)
         state = state._replace(code=event.word, place=0, words=Chain())
         return move(state) if move else state, INACTIVE
 
-    def activated(self, state: State, event: Event) -> Answer:
+    def activated(self, state: TapeState, event: Event) -> Answer:
         """Gives the status word, or begins to read a record."""
         if state.code == STATUS:
             return state, full(self.status(state))
         return self.taken(forward(state) if state.code == READ else state, event)
 
-    def taken(self, state: State, event: Event) -> Answer:
+    def taken(self, state: TapeState, event: Event) -> Answer:
         """Gives the next word of the record; after the last one makes the channel inactive."""
         if state.code != READ:
             return state, NOTHING
@@ -121,20 +121,20 @@ class MagneticTape(Device):
             return state._replace(code=0), INACTIVE
         return state._replace(place=state.place + 1), full(record[state.place])
 
-    def word(self, state: State, event: Event) -> Answer:
+    def word(self, state: TapeState, event: Event) -> Answer:
         return (state._replace(words=state.words.push(event.word)), EMPTY) if state.code == WRITE else (state, NOTHING)
 
-    def disconnected(self, state: State, event: Event) -> Answer:
+    def disconnected(self, state: TapeState, event: Event) -> Answer:
         """Ends the record that is written."""
         if state.words.length:
             state = written(state, tuple(state.words.items()))
         return state._replace(code=0, words=Chain()), NOTHING
 
     @staticmethod
-    def blocks(state: State) -> List[Block]:
+    def blocks(state: TapeState) -> List[Block]:
         """Returns what is on the tape."""
         return [*state.behind.items(), *reversed(state.ahead.items())]
 
-    def save(self, state: State, path: str) -> None:
+    def save(self, state: TapeState, path: str) -> None:
         """Writes what is on the tape into a new file."""
         write_tape(path, self.blocks(state))

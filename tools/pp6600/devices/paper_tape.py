@@ -15,7 +15,7 @@ READ, PUNCH, REWIND = 0o1, 0o2, 0o3  # function codes
 BYTE = 0o377
 
 
-class Tape(NamedTuple):
+class StationState(NamedTuple):
     """The state: the function code in effect, the place of the next byte on the tape, and what was punched."""
 
     code: int = 0
@@ -26,35 +26,35 @@ class Tape(NamedTuple):
 class PaperTape(Device):
     """A paper tape reader and punch."""
 
-    start = Tape()
+    start = StationState()
 
     def __init__(self, tape: Union[bytes, str] = b"", channel: int = 0o11) -> None:
         """The tape is its bytes, or the name of a file that has them."""
         self.tape: bytes = bytes_of(tape) if isinstance(tape, str) else bytes(tape)
         self.channel = channel
 
-    def function(self, state: Tape, event: Event) -> Answer:
+    def function(self, state: StationState, event: Event) -> Answer:
         if event.word == REWIND:
             return state._replace(code=0, place=0), INACTIVE
         return (state._replace(code=event.word), INACTIVE) if event.word in (READ, PUNCH) else (state, NOTHING)
 
-    def next_byte(self, state: Tape, event: Event) -> Answer:
+    def next_byte(self, state: StationState, event: Event) -> Answer:
         """Puts the next byte on the channel, if the tape is read; after the last one makes it inactive."""
         if state.code != READ:
             return state, NOTHING
         if state.place == len(self.tape):
             return state._replace(code=0), INACTIVE
-        return Tape(READ, state.place + 1, state.punched), full(self.tape[state.place])
+        return StationState(READ, state.place + 1, state.punched), full(self.tape[state.place])
 
     activated = taken = next_byte
 
-    def word(self, state: Tape, event: Event) -> Answer:
+    def word(self, state: StationState, event: Event) -> Answer:
         """Punches a word."""
         if state.code != PUNCH:
             return state, NOTHING
-        return Tape(PUNCH, state.place, state.punched.push(event.word & BYTE)), EMPTY
+        return StationState(PUNCH, state.place, state.punched.push(event.word & BYTE)), EMPTY
 
     @staticmethod
-    def output(state: Tape) -> bytes:
+    def output(state: StationState) -> bytes:
         """Returns what was punched."""
         return bytes(state.punched.items())

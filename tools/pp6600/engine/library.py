@@ -1,4 +1,4 @@
-"""The proved simulator as a library of C, called in this process by ctypes: `Session` has its calls, and `LibraryEngine` is the engine of the
+"""The proved simulator as a library of C, called in this process by ctypes: `LibrarySession` has its calls, and `LibraryEngine` is the engine of the
 tools over one. docs/LIBRARY.md and the header, pp6600.h, say what each call does."""
 
 from __future__ import annotations
@@ -14,7 +14,7 @@ from ..failure import Failure
 from . import interface
 from .choice import HOME
 from .interface import Records, Rejection
-from .plain.console import Rejected
+from .plain.lines import Rejected
 from .plain.program import FILE_BYTES, pieces, read_options, read_words
 
 DONE, ROOM, WATCHED, CLOSED, OPEN, NO_MEMORY, REFUSED, LIMIT = range(8)
@@ -41,7 +41,7 @@ class Answers(NamedTuple):
     taken: int
 
 
-class Counts(NamedTuple):
+class SessionCounts(NamedTuple):
     """How many actions can be undone, are ahead, and are kept; and whether the newest changed a watched number."""
     kept: int
     ahead: int
@@ -93,7 +93,7 @@ def open_status(status: int) -> int:
     return status
 
 
-class Session:
+class LibrarySession:
     """A session: a machine with its undo history. It is used in a `with` block, or closed."""
 
     def __init__(self, history: int = 10000, central: int = 131072, reader: int = 0o12, printer: int = 0o13, deck: bytes = b"",
@@ -114,7 +114,7 @@ class Session:
     def _call(self, name: str, *arguments: object) -> int:
         return open_status(self.calls[name](*arguments))
 
-    def __enter__(self) -> Session:
+    def __enter__(self) -> LibrarySession:
         return self
 
     def __exit__(self, *_: object) -> None:
@@ -146,11 +146,11 @@ class Session:
             raise Failure(f"the machine does not have the places {first} to {first + count - 1}")
         return into[:]
 
-    def counts(self) -> Counts:
+    def counts(self) -> SessionCounts:
         """Counts the actions that the session keeps."""
         found = [c_uint32() for _ in range(4)]
         self._call("counts", *map(byref, found))
-        return Counts(found[0].value, found[1].value, found[2].value, bool(found[3].value))
+        return SessionCounts(found[0].value, found[1].value, found[2].value, bool(found[3].value))
 
     def turns(self, most: int) -> Tuple[List[Moment], bool]:
         """Performs turns, up to the first that changes a watched number. Returns them, and whether the last one did."""
@@ -208,7 +208,7 @@ class LibraryEngine:
             status, text = rejected.args
             raise Rejection(f"pp6600: {text}", status) from None
         try:
-            self.session = Session(**options, path=path)
+            self.session = LibrarySession(**options, path=path)
         except Unloadable as failure:
             raise Failure(f"{path} is not the library of the simulator: {failure.__cause__}") from failure
         self._answer, self._looks = self.session.calls["answer"], self.session.calls["looks"]  # which are called most often
@@ -262,8 +262,11 @@ class LibraryEngine:
         same = made
         for at, number in enumerate(numbers):
             column = self.seen[at:same * width:width].tolist()
-            if column.count(number) < same:
-                same = first_other(column, number)
+            alike = column.count(number)
+            if alike == same - 1 and column[alike] != number:  # mostly the last one
+                same = alike
+            elif alike < same:
+                same = next(turn for turn, one in enumerate(column) if one != number)
         count = same + (same < made)
         if count < made:
             self.back(made - count)
@@ -297,14 +300,6 @@ class LibraryEngine:
 
     def close(self) -> None:
         self.session.close()
-
-
-def first_other(column: List[int], number: int) -> int:
-    """Returns the index of the first number of a column that is another one than this. There is one."""
-    last = len(column) - 1
-    if column[last] != number and column.count(number) == last:
-        return last
-    return next(at for at, one in enumerate(column) if one != number)
 
 
 def bytes_of(path: str, name: str) -> bytes:

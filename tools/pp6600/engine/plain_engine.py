@@ -9,7 +9,7 @@ from typing import Iterator, List, Sequence, Tuple
 from . import interface as flat
 from .interface import Counts, Records, Rejection
 from .plain import places
-from .plain.console import Rejected
+from .plain.lines import Rejected
 from .plain.machine import Record
 from .plain.program import console_of, read_words
 

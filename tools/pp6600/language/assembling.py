@@ -9,7 +9,8 @@ from ..shell.ending import shown_text
 from ..shell.text_files import lines_in, lines_of, named
 
 # How the only message of the library ends where it stops: Python's assembler may take what it does not, and warns up to a limit.
-STOPS = (" is not taken by this assembler yet", "more than 100000 (decimal) words", "more than 100000 (decimal) statements")
+STOPS = (" is not taken by this assembler yet", "more than 100000 (decimal) words", "more than 100000 (decimal) statements",
+         "lines are nested more than 100 (decimal) deep")
 PLAIN_TEXT = re.compile(rb"[\t\n\r -~]*")  # in other texts a column may be something else
 
 

@@ -50,8 +50,8 @@ class NewTurns:
         end, hit = self.turn + most, None
         is_new = self._now() != [value.seen for value in self.values]  # after a SET or a DEADSTART there is something to see
         while self.turn < end and hit is None:
-            count, row = self.engine.until(self.looked, self.states, min(1 if is_new else self._expected(), end - self.turn))
-            self.turn += count
+            is_regular = len(self.pasts) == 1 and self.on_tape == self.turn and self.due is None and not (is_new or watched)
+            row = self._regular_words(end) if is_regular else self._turns(1 if is_new else min(self._expected(), end - self.turn))
             hit = self._hit(watched) if watched else None
             if row or is_new or self.due is not None and self.due <= self.turn:
                 now = self._changed(row) if row else self._now()
@@ -59,6 +59,51 @@ class NewTurns:
                 hit = self._hit_with_replies(watched, hit, now) if watched else None
             is_new = False
         return hit
+
+    def _turns(self, most: int) -> Sequence[int]:
+        """Makes turns up to the first that changes the state of a channel, or to a HIT, at most so many. Returns the numbers looked at if
+        one did."""
+        count, row = self.engine.until(self.looked, self.states, most)
+        self.turn += count
+        return row
+
+    def _regular_words(self, end: int) -> Sequence[int]:
+        """Makes turns and the replies of the one device, as long as a reply comes after as many turns as the one before. Returns the numbers
+        looked at if a state changed otherwise."""
+        engine, past, gap, value, turn = self.engine, self.pasts[0], self.gap, self.values[0], self.turn
+        values: List[Value] = []
+        replies: List[Action] = []
+        try:
+            while turn < end:
+                count, row = engine.until(self.looked, self.states, gap if turn + gap < end else end - turn)
+                turn += count
+                if count != gap or not row:
+                    return row
+                value, reply = looked(past.device, value, (row[0], row[1]), turn)
+                if reply is None or value.due is not None:
+                    return row  # the device is asked once more
+                action = past.action(reply)
+                if not engine.perform(action.line):
+                    raise Failure(f"the simulator refuses {action.line}")
+                values.append(value)
+                replies.append(action)
+                self.states[0] = value.seen[0]
+        finally:
+            self.turn = turn
+            self._note_words(gap, replies, values)
+        return ()
+
+    def _note_words(self, gap: int, replies: Sequence[Action], values: Sequence[Value]) -> None:
+        """Notes replies that came after so many turns each."""
+        if replies:
+            self.tape.append_words(gap, replies)
+            at, new = self.new[0]
+            at += self.tape.starts[-2 * len(replies) + 1::2]
+            new += values
+            self.values[0] = values[-1]
+            self.on_tape += gap * len(replies)
+            self.changed = self.on_tape
+            self.others += len(replies)
 
     def _expected(self) -> int:
         """Returns after how many turns a channel may change, if it goes on as before, or a device is due."""
@@ -96,7 +141,7 @@ class NewTurns:
         """Tells a device something. It does not look at its channel."""
         value, reply = value_told(self.pasts[number], self.values[number], what, self._now()[number], self.turn)
         line = f"SET Q 0 {self.engine.numbers(flat.Q, 1)[0]:04o}"
-        self.engine.perform(line)
+        self._perform(line)
         self.tape.append(line)
         self.others += 1
         self._note([(number, value)], [] if reply is None else [self.pasts[number].action(reply)])
@@ -104,8 +149,7 @@ class NewTurns:
     def _note(self, changed: Sequence[Tuple[int, Value]], replies: Sequence[Action]) -> None:
         """Performs replies, and notes what devices are after them."""
         if replies:
-            if not self.engine.perform("\n".join([line for line, _ in replies])):
-                raise Failure(f"the simulator refuses {replies[0].line}")
+            self._perform("\n".join([line for line, _ in replies]))
             self.others += len(replies)
             self.flush(replies)
         position, has_dues = self.turn + self.others, self.due is not None
@@ -118,6 +162,10 @@ class NewTurns:
             has_dues = has_dues or due is not None
         if has_dues:
             self._see_dues()
+
+    def _perform(self, lines: str) -> None:
+        if not self.engine.perform(lines):
+            raise Failure(f"the simulator refuses {lines}")
 
     def flush(self, replies: Sequence[Action] = ()) -> None:
         """Sees that all turns are on the tape, and replies to the last one."""

@@ -63,8 +63,9 @@ class Past:
 
     def action(self, reply: Reply) -> Action:
         """Returns the action that a reply is."""
-        key = reply.state, reply.word
-        if key not in self.replies:
-            word = "" if reply.word is None else f" {reply.word:o}"
-            self.replies[key] = Action(ReplyLine(f"SET H {self.device.channel:02o} {reply.state}{word}", name_of(self.device)))
-        return self.replies[key]
+        state, word, _ = reply
+        action = self.replies.get((state, word))
+        if action is None:
+            line = f"SET H {self.device.channel:02o} {state}{'' if word is None else f' {word:o}'}"
+            action = self.replies[state, word] = Action(ReplyLine(line, name_of(self.device)))
+        return action

@@ -14,7 +14,8 @@ from __future__ import annotations
 import bisect
 import functools
 import re
-from typing import Container, Dict, Iterable, Iterator, List, NamedTuple, NewType, Optional, Sequence, Tuple
+from itertools import chain, repeat
+from typing import Container, Dict, Iterable, Iterator, List, NamedTuple, NewType, Optional, Sequence, Tuple, TypeVar
 
 from ..failure import Failure
 from .forms import MOST_TURNS, PROCESSORS
@@ -22,6 +23,7 @@ from .forms import MOST_TURNS, PROCESSORS
 MOST_KEPT = 10000  # decimal, without --history
 Position = NewType("Position", int)  # how many actions of a tape come before
 Units = NewType("Units", int)  # a number of actions as a user counts them
+T = TypeVar("T")
 STEP = "STEP"
 NOTE_OF_DEVICE = re.compile(r"\* DEVICE (\S+)\r?")  # the line after it is a reply of this device
 REPLY = "SET H "
@@ -120,6 +122,11 @@ class Action(NamedTuple):
 turns_of = functools.lru_cache(maxsize=4096)(functools.partial(Action, STEP))
 
 
+def pairs(first: Iterable[T], second: Iterable[T]) -> Iterator[T]:
+    """Yields one of each in turn."""
+    return chain.from_iterable(zip(first, second))
+
+
 class Tape:
     """The actions of a run. A unit is an action as a user counts them: with the replies of devices after it."""
 
@@ -159,6 +166,16 @@ class Tape:
             self.starts.append(Position(self.starts[-1] + 1))
             self.turns_before.append(self.turns_before[-1])
             self.units_before.append(self.units_before[-1])
+
+    def append_words(self, turns: int, replies: Sequence[Action]) -> None:
+        """Adds replies, each after so many turns."""
+        count, start = len(replies), self.starts[-1]
+        ends = range(start + turns, start + count * (turns + 1), turns + 1)  # of the turns, before each reply
+        self.runs += pairs(repeat(turns_of(turns), count), replies)
+        self.starts += map(Position, pairs(ends, range(ends.start + 1, ends.stop + 1, turns + 1)))
+        for sums in (self.turns_before, self.units_before):
+            after = range(sums[-1] + turns, sums[-1] + count * turns + 1, turns)
+            sums += pairs(after, after)
 
     def _add(self, run: Action, turns: int, units: int) -> None:
         self.runs.append(run)

@@ -33,7 +33,7 @@ def shift(a: int, d: int) -> int:
     return (a << left | a >> 18 - left) & 0o777777
 
 
-class Processor:
+class PlainProcessor:
     """What a processor finds before its step, in small letters, and its places, in capitals."""
 
     numbers: List[int]
@@ -105,7 +105,7 @@ class Processor:
 
 # What an instruction writes: functions of the processor that return the writes, or None if it waits. P grows by the number of words
 # if it is not among them. Of a cell, a channel register and P only the lower twelve bits are written.
-Effect = Callable[[Processor], Optional[Writes]]
+Effect = Callable[[PlainProcessor], Optional[Writes]]
 
 
 def a_becomes(result: Callable[[int, int], int]) -> Effect:
@@ -113,7 +113,7 @@ def a_becomes(result: Callable[[int, int], int]) -> Effect:
 
 
 def replace(result: Callable[[int, int], int]) -> Effect:
-    def effect(s: Processor) -> Writes:
+    def effect(s: PlainProcessor) -> Writes:
         number = result(s.a, s.x)
         return {s.A: number, s.M(s.address): number}
     return effect
@@ -127,12 +127,12 @@ def jump_if_channel(*states: int) -> Effect:
     return lambda s: {s.P: s.m} if s.state in states else {}
 
 
-def in_states(states: List[int], new: int, write: Callable[[Processor], Writes] = lambda s: {}) -> Effect:
+def in_states(states: List[int], new: int, write: Callable[[PlainProcessor], Writes] = lambda s: {}) -> Effect:
     """Completes in these states, and then the channel gets the new one; the clock keeps its own."""
     return lambda s: {**write(s), **({s.STATE: new} if s.d < CHANNELS else {})} if s.state in states else None
 
 
-def exchange(s: Processor) -> Writes:
+def exchange(s: PlainProcessor) -> Writes:
     writes = {}
     for i in range(FRAME_WORDS):
         address = (s.a + i) % 0o1000000
@@ -142,7 +142,7 @@ def exchange(s: Processor) -> Writes:
     return writes
 
 
-def issue(s: Processor) -> Writes:
+def issue(s: PlainProcessor) -> Writes:
     count = {s.Q: s.cell(s.d)} if s.code in (0o61, 0o63) else {}
     return {**count, s.M(0): s.p + 1, s.P: s.m, s.PHASE: s.code << 6 | s.d}
 
@@ -208,24 +208,24 @@ def processor(machine: Machine) -> Step:
     return what, {place: number & 0o7777 if place < WIDER else number for place, number in writes.items()}
 
 
-def block_move(s: Processor) -> Step:
+def block_move(s: PlainProcessor) -> Step:
     """A step in a block transfer. The cases are counted as docs/MACHINE.md does."""
     case, writes = central_move(s) if s.code in (0o61, 0o63) else channel_move(s)
     return f"block {s.code:o} case {case}", writes
 
 
-def end_of_block(s: Processor) -> Writes:
+def end_of_block(s: PlainProcessor) -> Writes:
     return {s.P: s.cell(0) + 1, s.PHASE: 0}
 
 
-def central_move(s: Processor) -> Tuple[int, Writes]:
+def central_move(s: PlainProcessor) -> Tuple[int, Writes]:
     if s.q == 0:
         return 1, end_of_block(s)
     moved = {s.P: s.p + 5, s.A: (s.a + 1) % 0o1000000, s.Q: s.q - 1}
     return (2, {**s.central_to_cells(s.p), **moved}) if s.code == 0o61 else (3, {**s.cells_to_central(s.p), **moved})
 
 
-def channel_move(s: Processor) -> Tuple[int, Writes]:
+def channel_move(s: PlainProcessor) -> Tuple[int, Writes]:
     if s.a == 0:
         return 1, end_of_block(s)
     moved = {s.P: s.p + 1, s.A: s.a - 1}

@@ -6,7 +6,7 @@ import collections
 from typing import Any, Callable, Deque, Dict, List, Optional, Sequence
 
 from .devices import printer, reader
-from .instructions import Processor, Step, Writes, processor
+from .instructions import PlainProcessor, Step, Writes, processor
 from .places import (
     ALL, CHANNELS, CLOCK, CLOCK_CHANNEL, EMPTY, FIELD, INACTIVE, IS_CLOCK, NO_CHANNEL, PHASE, PROCESSORS, SLOT, STATE, A, P, Q, place_of)
 
@@ -35,7 +35,7 @@ def dead_start(machine: Machine) -> Step:
 class Machine:
     """The numbers at all places, the undo history and the redo list. A record of either has the numbers that it puts back."""
 
-    Processor = Processor
+    Processor = PlainProcessor
 
     def __init__(self, deck: Sequence[List[int]] = (), panel: Optional[List[int]] = None, central: int = 0o400000, reader: int = 0o12,
                  printer: int = 0o13, history: int = 10000) -> None:

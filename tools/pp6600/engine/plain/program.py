@@ -8,7 +8,7 @@ import signal
 import sys
 from typing import Any, Callable, Dict, Iterator, List, Optional, Sequence, Tuple, Union
 
-from .console import Console, Rejected, is_octal, reject_if, words_of
+from .lines import PlainConsole, Rejected, is_octal, reject_if, words_of
 from .devices import COLUMNS
 from .machine import Machine
 
@@ -140,7 +140,7 @@ def answer_with(lines: Sequence[str], write: Callable[[str], Any]) -> None:
         raise Rejected(3, "WRITE FAILED") from None
 
 
-def serve(console: Console, script: Source, write: Callable[[str], Any]) -> int:
+def serve(console: PlainConsole, script: Source, write: Callable[[str], Any]) -> int:
     """Answers the lines of a script; returns the exit status."""
     status = 0
     try:
@@ -154,17 +154,17 @@ def serve(console: Console, script: Source, write: Callable[[str], Any]) -> int:
     return status
 
 
-def console_of(given: Words, machine: Callable[..., Machine] = Machine) -> Console:
+def console_of(given: Words, machine: Callable[..., Machine] = Machine) -> PlainConsole:
     """Returns the console of a machine with these options and their files."""
     options = read_options(given)
     deck = list(read_rows(given["--deck"], "DECK", COLUMNS)) if "--deck" in given else []
     panel = read_panel(given["--panel"]) if "--panel" in given else None
     reject_if(options["reader"] == options["printer"], 2, "SAME CHANNEL")
     reject_if(len(deck) > CARDS, 2, "DECK TOO LONG")
-    return Console(machine(deck, panel, **options))
+    return PlainConsole(machine(deck, panel, **options))
 
 
-def perform(words: Sequence[str], standard_input: Source, write: Callable[[str], Any], make: Callable[[Words], Console]) -> int:
+def perform(words: Sequence[str], standard_input: Source, write: Callable[[str], Any], make: Callable[[Words], PlainConsole]) -> int:
     """Does what the words ask for; returns the exit status."""
     try:
         given = read_words(words)
@@ -175,7 +175,7 @@ def perform(words: Sequence[str], standard_input: Source, write: Callable[[str],
 
 
 def run(words: Sequence[str], standard_input: Source, write: Callable[[str], Any],
-        make: Callable[[Words], Console] = console_of) -> Tuple[int, str]:
+        make: Callable[[Words], PlainConsole] = console_of) -> Tuple[int, str]:
     """Runs the program with the file of standard input. Returns the exit status and what goes to standard error."""
     try:
         return perform(words, standard_input, write, make), ""

@@ -7,9 +7,11 @@ const PARTS_OF_RUN = [0o10000, 0o1000, 0o100]; // how many moments can be seen a
 let LANE = 13, LABEL = 46, LETTERS = 11, NAMES = 1;
 const lanes = { all: [], processors: [], channels: [], firstTurn: -1, from: 0, to: 0, folded: true }; // folded: the quiet ones are one line
 
-// Lanes of no moments.
-const newLanes = (count, kind) =>
-  range(count).map((n) => ({ name: `${kind} ${two(n)}`, begins: [0], kinds: [IDLE], seen: new Set(), columns: null }));
+// The lanes of no moments. Of those of processors the active moments are turns that do not pass; settings are lines that set a processor.
+function newLanes() {
+  const laneOf = (kind) => (n) => ({ name: `${kind} ${two(n)}`, begins: [0], kinds: [IDLE], seen: new Set(), active: [] });
+  return { processors: range(PROCESSORS).map(laneOf("PP")), channels: range(CHANNELS).map(laneOf("H")), firstTurn: -1, settings: [] };
+}
 
 // Notes what the moments from a first one on are: a lane has the stretches of moments that are of one kind.
 function growLanes(first) {
@@ -19,12 +21,14 @@ function growLanes(first) {
     lane.begins.push(moment);
     lane.kinds.push(kind);
   };
-  if (!first) Object.assign(lanes, { processors: newLanes(PROCESSORS, "PP"), channels: newLanes(CHANNELS, "H"), firstTurn: -1 });
+  if (!first) Object.assign(lanes, newLanes());
   for (let moment = Math.max(first, 1); moment < film.count; moment++) {
     if (isTurn(moment)) {
       if (lanes.firstTurn < 0) lanes.firstTurn = moment;
-      goOn(lanes.processors[film.processor[moment]], moment, film.kinds[moment]);
-    }
+      const lane = lanes.processors[film.processor[moment]], kind = film.kinds[moment];
+      goOn(lane, moment, kind);
+      if (kind !== IDLE) lane.active.push(moment);
+    } else if (film.kinds[moment] === LINE && processorSet(moment) >= 0) lanes.settings.push(moment);
     for (let at = film.starts[moment]; at < film.starts[moment + 1]; at++) {
       const c = film.places[at] - layout.states, n = film.places[at] - layout.phase;
       if (c >= 0 && c < CHANNELS) goOn(lanes.channels[c], moment, film.now[at]);

@@ -54,13 +54,15 @@ function showCell(processor, address, always) {
 
 // The processor that memory follows: that of the latest turn that did not pass, if its lane is not quiet; or one that a line has set.
 function followed() {
-  for (let at = resolve(film.at); at > 0; at = resolve(at - 1)) {
-    const n = film.processor[at], kind = film.kinds[at], isLoud = isTurn(at) && kind !== IDLE && !lanes.processors[n].quiet;
-    const set = kind === LINE && changesIn(at).length ? kindAt(changesIn(at)[0]) : null;
-    if (isLoud) return n;
-    if (set && ["M", "A", "P", "Q", "PHASE"].includes(set.kind)) return set.indices[0];
-  }
-  return 0;
+  const turns = lanes.processors.map((lane, n) => [lane.quiet ? 0 : changeBefore(lane.active, film.at), n]);
+  const line = changeBefore(lanes.settings, film.at), [latest, n] = turns.reduce((one, other) => (other[0] > one[0] ? other : one));
+  return line > latest ? processorSet(line) : n;
+}
+
+// The processor whose cell or register a line has set, or -1.
+function processorSet(moment) {
+  const { kind, indices } = (changesIn(moment).length && kindAt(changesIn(moment)[0])) || {};
+  return ["M", "A", "P", "Q", "PHASE"].includes(kind) ? indices[0] : -1;
 }
 
 function showMemory() {

@@ -39,7 +39,7 @@ def place_text(kind: str, *numbers: int) -> str:
     return " ".join([kind, f"{numbers[0]:0{width}o}", *(f"{address:04o}" for address in numbers[1:])])
 
 
-class Console:
+class PlainConsole:
     """Answers the lines of one session. Each method below `operands` performs a form of a line; None stands for OK."""
 
     def __init__(self, machine: Machine) -> None:
@@ -197,26 +197,26 @@ class Console:
 # Each form of a line: the kinds of its operands, how many must be present, and its method.
 PLACES = {"M": "n a", "A": "n", "P": "n", "Q": "n", "C": "c", "H": "h14"}
 FORMS: Dict[str, Tuple[str, int, Callable[..., Answer]]] = {
-    "SET M": ("n a 12 12 12 12 12 12 12 12", 3, Console.set_cells),
-    "SET A": ("n 18", 2, Console.set_number),
-    "SET P": ("n 12", 2, Console.set_number),
-    "SET Q": ("n 12", 2, Console.set_number),
-    "SET C": ("c 60", 2, Console.set_number),
-    "SET H": ("h S 12", 2, Console.set_channel),
-    "STEP": ("count", 0, Console.step),
-    "BACK": ("count", 0, Console.back),
-    "BACK W": ("", 0, Console.back_to_change),
-    "FORWARD": ("count", 0, Console.forward),
-    **{f"WATCH {kind}": (kinds, len(kinds.split()), Console.watch) for kind, kinds in PLACES.items()},
-    **{f"UNWATCH {kind}": (kinds, len(kinds.split()), Console.unwatch) for kind, kinds in PLACES.items()},
-    "DEADSTART": ("", 0, Console.dead_start),
-    "DUMP M": ("n a a", 3, Console.dump_cells),
-    "DUMP PP": ("n", 1, Console.dump_processor),
-    "DUMP H": ("", 0, Console.dump_channels),
-    "DUMP C": ("c c", 2, Console.dump_central),
-    "DUMP XP": ("", 0, Console.dump_frame),
-    "DUMP CR": ("", 0, Console.dump_reader),
-    "DUMP LP": ("", 0, Console.dump_printer),
-    "DUMP W": ("", 0, Console.dump_watches),
+    "SET M": ("n a 12 12 12 12 12 12 12 12", 3, PlainConsole.set_cells),
+    "SET A": ("n 18", 2, PlainConsole.set_number),
+    "SET P": ("n 12", 2, PlainConsole.set_number),
+    "SET Q": ("n 12", 2, PlainConsole.set_number),
+    "SET C": ("c 60", 2, PlainConsole.set_number),
+    "SET H": ("h S 12", 2, PlainConsole.set_channel),
+    "STEP": ("count", 0, PlainConsole.step),
+    "BACK": ("count", 0, PlainConsole.back),
+    "BACK W": ("", 0, PlainConsole.back_to_change),
+    "FORWARD": ("count", 0, PlainConsole.forward),
+    **{f"WATCH {kind}": (kinds, len(kinds.split()), PlainConsole.watch) for kind, kinds in PLACES.items()},
+    **{f"UNWATCH {kind}": (kinds, len(kinds.split()), PlainConsole.unwatch) for kind, kinds in PLACES.items()},
+    "DEADSTART": ("", 0, PlainConsole.dead_start),
+    "DUMP M": ("n a a", 3, PlainConsole.dump_cells),
+    "DUMP PP": ("n", 1, PlainConsole.dump_processor),
+    "DUMP H": ("", 0, PlainConsole.dump_channels),
+    "DUMP C": ("c c", 2, PlainConsole.dump_central),
+    "DUMP XP": ("", 0, PlainConsole.dump_frame),
+    "DUMP CR": ("", 0, PlainConsole.dump_reader),
+    "DUMP LP": ("", 0, PlainConsole.dump_printer),
+    "DUMP W": ("", 0, PlainConsole.dump_watches),
 }
 COMMANDS = {form.split()[0] for form in FORMS}
