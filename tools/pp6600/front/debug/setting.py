@@ -125,10 +125,11 @@ class Setting:
 
     def do_setDataBreakpoints(self, breakpoints, **_):
         self.points.data, numbers = [], itertools.count(DATA_ID)
-        return {"breakpoints": self.set_points(breakpoints, lambda one: self.data_point(next(numbers), one))[0]}
+        answers, _ = self.set_points(breakpoints, lambda one: self.data_point(next(numbers), one))
+        return {"breakpoints": [{"id": DATA_ID | at, **answer} for at, answer in enumerate(answers)]}
 
     def data_point(self, number, one):
-        """Returns the answer and a data breakpoint, which is set."""
+        """Returns an answer, which has its number elsewhere, and a data breakpoint, which is set."""
         places = places_of(str(one.get("dataId")))
         if one.get("accessType", "write") != "write":
             raise BadRequest("only changes are seen")
@@ -138,4 +139,4 @@ class Setting:
         terms = self.terms({**one, "logMessage": None}, [])  # the protocol has no such log points
         point = Point(number, DATA, places=tuple(places), terms=terms)
         self.points.data.append(point)
-        return {"id": number}, point
+        return {}, point
