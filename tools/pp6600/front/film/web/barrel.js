@@ -128,7 +128,7 @@ const hasChanged = (c) => c < CHANNELS && changedIn(film.at, layout.words + c, l
 
 // The box of a channel: its state, or the word that is on it; below it its device, underlined if it did something in this turn.
 function channelBox(c, { x, y }) {
-  const state = stateOf(c), word = placeWith("H", c);
+  const state = channelState(c), word = placeWith("H", c);
   const did = c < CHANNELS && [word.places[0], layout.states + c].some((place) => isByDevice(film.at, place));
   const kind = classes({ channel: true, [STATE_CLASSES[state]]: true, changed: hasChanged(c) });
   return shape("g", { class: kind, transform: `translate(${x} ${y})`, "data-channel": c, onclick: () => choose(word) },

@@ -27,10 +27,10 @@ function processorRow(n) {
 }
 
 const hasTurn = (n) => isTurn(film.at) && film.processor[film.at] === n; // whether this moment is a turn of it
-const stateOf = (c) => (c === CLOCK ? 2 : numberOf("STATE", c)); // the clock is always full
+const channelState = (c) => (c === CLOCK ? 2 : numberOf("STATE", c)); // the clock is always full
 
 function channelRow(c) {
-  const state = stateOf(c), letter = c === CLOCK ? "F" : numberWith("STATE", c);
+  const state = channelState(c), letter = c === CLOCK ? "F" : numberWith("STATE", c);
   return row(state ? "" : "quiet", heading(`H ${two(c)}`), letter, film.states[state][1], numberWith("H", c), deviceOf(c));
 }
 
