@@ -26,7 +26,7 @@ SKIPPED = re.compile(r"\.\.\. skipped (['\"])(.*)\1$", re.M)
 RAN = re.compile(r"^Ran (\d+) tests? in", re.M)
 NOT_PASSED = re.compile(r"(failures|errors|unexpected successes|skipped)=(\d+)")
 LONGEST = 1800  # seconds, far more than any module takes on a busy machine
-FIRST = ("test_sessions", "test_random", "test_debug_adapter", "test_film_walk")  # they take longest
+FIRST = ("test_film_page", "test_film_session", "test_film_walk", "test_sessions", "test_random", "test_install", "test_debug_random")  # they take longest
 
 
 def modules(names):

@@ -15,7 +15,7 @@ import tempfile
 import threading
 
 from tests.fixtures import DECK
-from tests.support import PATIENCE, PYTHON, TOP, Case, lasting_room, program, read, write
+from tests.support import PATIENCE, PYTHON, TOP, Case, lasting_room, program, read
 
 from pp6600.failure import Failure
 from pp6600.front.debug.adapter import Adapter
@@ -27,27 +27,6 @@ LOADER = [line for line in read("examples", "overwritten-loader", "script").spli
 SCOPES = {name: number << 8 for number, name in enumerate(("registers", "channels", "devices", "watches", "history", "calls"), 1)}
 GO = "/usr/share/gocode/src/github.com/google/go-dap"
 HAS_GO = os.path.isdir(GO) and shutil.which("go") is not None
-CHECKER = """package main
-import ("bufio"; "bytes"; "encoding/json"; "fmt"; "os"; "reflect"; "github.com/google/go-dap")
-func main() {
-	lines := bufio.NewScanner(os.Stdin)
-	lines.Buffer(make([]byte, 1<<20), 1<<26)
-	count := 0
-	for lines.Scan() {
-		line := lines.Bytes()
-		if line[0] != '<' { continue }
-		count++
-		message, err := dap.DecodeProtocolMessage(line[2:])
-		if err == nil {
-			strict := json.NewDecoder(bytes.NewReader(line[2:]))
-			strict.DisallowUnknownFields()
-			err = strict.Decode(reflect.New(reflect.TypeOf(message).Elem()).Interface())
-		}
-		if err != nil { fmt.Printf("%v in %s\\n", err, line) }
-	}
-	fmt.Println(count)
-}
-"""
 
 
 class Refusal(Exception):
@@ -266,9 +245,9 @@ class DebugCase(Case):
 def checker():
     """Returns a program with which go-dap decodes each message, unknown fields refused."""
     room = lasting_room()
-    path, made = write(os.path.join(room, "check.go"), CHECKER), os.path.join(room, "check")
+    made = os.path.join(room, "check")
     env = {**os.environ, "GO111MODULE": "off", "GOPATH": "/usr/share/gocode", "GOCACHE": os.path.join(room, "cache"), "GOFLAGS": "-p=1"}
-    subprocess.run(["go", "build", "-o", made, path], env=env, check=True)
+    subprocess.run(["go", "build", "-o", made, os.path.join(TOP, "tests", "debug", "check.go")], env=env, check=True)
     return made
 
 

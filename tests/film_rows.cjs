@@ -4,7 +4,7 @@ const fs = require("fs"), path = require("path"), vm = require("vm");
 const [, , folder, module_, about, sessions] = process.argv;
 const scripts = ["layout", "turns", "library", "simulator", "recorder", "conditions", "session", "rows", "places", "origin"];
 const code = `${scripts.map((name) => fs.readFileSync(path.join(folder, `${name}.js`), "utf8")).join("\n")}
-({ openLibrary, layout, numberIn, goTo, writesOf, film: () => film,
+({ openLibrary, layout, numberIn, goTo, writesOf, constantText, film: () => film,
    open(calls, about, files) {
      openRows({ ...about, deck: [], panel: [] });
      return new Session(calls, { ...about, ...files }, { pause: async () => {}, isStopped: () => false });
@@ -27,7 +27,7 @@ function changesOf(film, moment) {
 
 function writesOf(film, moment) {
   const isTurn = film.kinds[moment] < 4;
-  return page.writesOf(moment).map(({ place, what, sources }) => [place, isTurn ? what & 11 : what, isTurn ? film.constants[what >> 4] : "",
+  return page.writesOf(moment).map(({ place, what, sources }) => [place, isTurn ? what & 11 : what, isTurn ? page.constantText(moment, { what }) : "",
     sources.map((one) => [one.place, one.parts])]);
 }
 

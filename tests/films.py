@@ -18,7 +18,7 @@ import zlib
 
 from tests.browser import Browser, found
 from tests.generator import BUSY, Maker
-from tests.support import TOP, Case, read, tool
+from tests.support import TOP, Case, read, tool, tool_here
 
 from pp6600 import Console
 
@@ -80,29 +80,25 @@ def about(page):
 
 
 def moments_of(words, lines):
-    """Yields a simulator as it is at each moment: before the first line, after each turn, and after each other action."""
-    plain, slow = Console(words), Console(words)
-    yield slow
-    for line in lines:
-        kind, *rest = (plain.ask(line) or ["NOTE"])[0].split()
-        if kind == "TURNS":
-            for _ in range(int(rest[0], 8)):
-                slow.demand("STEP")
-                yield slow
-        elif kind in ("OK", "BACK", "FORWARD"):
-            slow.demand(line)
-            yield slow
-    plain.end()
-    slow.end()
+    """Yields a simulator as it is at each moment, and whether a turn led there: before the first line, after each turn, and after each
+    other action."""
+    with Console(words) as plain, Console(words) as slow:
+        yield slow, False
+        for line in lines:
+            kind, *rest = (plain.ask(line) or ["NOTE"])[0].split()
+            is_turn, count = kind == "TURNS", int(rest[0], 8) if kind == "TURNS" else int(kind in ("OK", "BACK", "FORWARD"))
+            for _ in range(count):
+                slow.demand("STEP" if is_turn else line)
+                yield slow, is_turn
 
 
 class FilmCase(Case):
     """Tests of films."""
 
-    def film(self, *words, script="", status=0):
+    def film(self, *words, script="", status=0, folder=TOP):
         """Makes a film, and returns the path of its page. The status is 1 if a line of the script is refused, None if it may be."""
         path = os.path.join(self.room(), "film.html")
-        done = tool("film", *words, "-o", path, script=script)
+        done = tool_here("film", *words, "-o", path, script=script, folder=folder)
         self.assertEqual((status if status is not None else done.status, done.status != 0), (done.status, done.err != ""), done.err)
         return path
 

@@ -1,6 +1,5 @@
 """A headless Firefox, driven by its protocol Marionette. What it evaluates sees the document, and not the names of the page's script."""
 
-import base64
 import itertools
 import json
 import os
@@ -94,13 +93,6 @@ class Firefox:
         """Presses a key."""
         presses = [{"type": kind, "value": KEYS.get(key, key)} for kind in ("keyDown", "keyUp")]
         self.ask("WebDriver:PerformActions", actions=[{"type": "key", "id": "keys", "actions": presses}])
-
-    def look(self, width, height):
-        self.ask("WebDriver:SetWindowRect", width=width, height=height)
-
-    def picture(self, path):
-        with open(path, "wb") as file:
-            file.write(base64.b64decode(self.ask("WebDriver:TakeScreenshot", full=False)["value"]))
 
     def end(self):
         self.socket.close()

@@ -8,32 +8,13 @@ import subprocess
 from tests.support import EXAMPLES, PYTHON, TOP, blocks, program
 
 DECK, LOADER = (os.path.join(EXAMPLES, "overwritten-loader", name) for name in ("deck", "loader.pp"))
-# The loader of README.md up to its first question.
-OVERWRITTEN = """\
-SET M 0 100 7712 1 7412 1477 7112 60 7512 100
-SET M 0 110 60
-SET P 0 100
-STEP 1300
-"""
-# docs/TUTORIAL.md: LDN 5, STD 20, UJN 0.
-FIRST_PROGRAM = "SET M 0 100 1405 3420 300\nSET P 0 100\n"
-# FNC 1, ACN, LDN 3, IAM to 0200, UJN 0: from the turns of PP 00, which are 1, 13, 25 .. (octal), a paper tape puts A on channel 11 in
-# turn 13, and B in turn 51, in which A is stored; B is stored in turn 63.
-READS = "SET M 0 100 7711 1 7411 1403 7111 200 300\nSET P 0 100\nSTEP 200\n"
 # A device, and a program for it: FNC 1, then FNC 2, with which it fails.
 COUNTS = f"{os.path.join(TOP, 'tests', 'debug', 'counts.py')}:Counts@11"
 FAILS = "SET M 0 100 7711 1 7711 2 300\nSET P 0 100\nSTEP\n"
-# FNC 7002, ACN, LDN 4, OAM 0120, FJM *, DCN; FNC 7020, ACN, IAN, DCN, STD 20, UJN 0; X and Y, LI and FT
-DISPLAYS = """\
-SET M 0 100 7710 7002 7410 1404 7310 120 6610 106
-SET M 0 110 7510 7710 7020 7410 7010 7510 3420 300
-SET M 0 120 6000 7400 1411 624
-SET P 0 100
-"""
 # Each tool with words that are right, and what those without a simulator read.
 WITH_SIMULATOR = {"changes": ["M", "0", "106"], "origin": ["M", "0", "106"], "save": ["0", "0", "1"],
                   "compare": ["--other-panel", "examples/dead-start/panel"], "show": [], "state": [], "talk": [], "trace": [],
-                  "until": ["P", "0", "=", "1"], "waits": [], "film": ["-o", "FILM"]}  # FILM is a file in the room of the test
+                  "until": ["P", "0", "=", "1"], "waits": [], "film": ["-o", os.devnull]}
 WITHOUT = {"assemble": [], "deck": [], "disassemble": [], "load": ["0", "100"], "symbols": [], "words": ["--dump", "0"]}
 GIVEN = {"assemble": "  LDN 5\n", "deck": "HELLO.\n", "disassemble": "0100 1405\n", "load": "1405\n", "symbols": "A 5\n", "words": "0100 1405\n"}
 # By the tables of docs/MACHINE.md: in which states of its channel each instruction completes, and each block goes on or ends, and

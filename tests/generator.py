@@ -1,10 +1,11 @@
 """Makes random programs and sessions. A session follows from its seed and its profile alone."""
 
 import dataclasses
+import os
 import random
 import shlex
 
-from tests import support as _  # it finds the package
+from tests.support import TOP
 
 from pp6600.engine.plain.lines import FORMS, PlainConsole
 from pp6600.engine.plain.instructions import TWO_WORDS
@@ -51,33 +52,16 @@ LOOPS = Profile(codes=(0o14, 0o16, 0o30, 0o34, 0o36, 0o50, 0o54, 0o55, *range(0o
 # The same, and watches of what they use.
 WATCHED = dataclasses.replace(LOOPS, lines=(('step', 50), ('back', 6), ('setting', 25), ('watch_near', 14), ('start', 5)))
 
-# Parts of programs: r is the reader's channel, p the printer's, c any; k is a small number, m an address, z the
-# upper digits of the central size.
-PARTS = (
-    '77rr 1 74rr 71rr m 75rr', '77rr 1 74rr 2000 124 71rr m', '77rr 2 74rr 70rr',
-    '70rr 77rr 1 74rr 70rr 70rr 75rr 77rr 1 74rr', '77rr 1 74rr 75rr 77rr 1 74rr 70rr',
-    '77pp 1 74pp 73pp m 75pp 77pp 3', '77pp 1 74pp 2000 105 73pp m', '77pp 2 74pp 70pp',
-    '77pp 1 74pp 72pp 72pp 75pp 77pp 3 77pp 2', '14kk 74cc 73cc m 75cc', '14kk 71cc m', '74cc 72cc 70cc 75cc',
-    '76cc 75cc 77cc m', '71cc m', '73cc m', '7114 m', '14kk 7314 m', '64cc m 65cc m 66cc m 67cc m',
-    '6414 m 6514 m 6614 m 6714 m 7014 7514', '14kk 34kk 61kk m 63kk m', '14kk 3400 6100 m', '60kk 62kk',
-    '20zz 0 62kk 60kk', '14kk 34kk 2077 7776 61kk m 63kk m', '2600 2700', '2077 m 2600', '0100 m', '0200 m',
-    '14kk 10kk', '15kk 10kk 16kk 17kk', '2077 m 0777', '2040 0 0603 0702', '2077 7777 0403 0502', '0377',
-    '3600 0500 3700', '5000 m 5400 m', '14kk 62kk 60kk')
-JUNK = (
-    '8', '9', 'X', 'W', 'M', 'Z', 'PP', '-1', '+1', '1.', '0x1', '7777', '10000', '777777', '1000000', '1000001', '12',
-    '14', '15', '400000', '7' * 20, '1' + '0' * 20, '7' * 40, '0' * 30 + '1', '*', 'STEP', 'I', 'E', 'F', '')
-# Words of which the program mostly refuses some.
-WORDS = (
-    *(['--history', number] for number in ('0', '10001', '-1', '+1', '1.5', 'x', '', '9' * 20, '0001', '10000')),
-    *(['--central', number] for number in ('0', '16', '63', '128K', '0x20', '032', '')),
-    *(['--reader', number] for number in ('14', '8', '-1', '', '12', '13', '012', 'x', '7' * 12)),
-    *(['--printer', number] for number in ('14', '8', '-1', '', '12', '13', '012', 'x', '7' * 12)),
-    *(['--deck', path] for path in ('absent', '.', '/dev/null', 'script', 'deck', 'panel', '', '-')),
-    *(['--panel', path] for path in ('absent', '.', '/dev/null', 'script', 'deck', 'panel', '', '-')),
-    ['absent'], ['.'], ['script'], ['script'], ['-'], ['--tape', 'deck'], ['-d'], ['--deck'], ['--help'], ['-h'],
-    ['--history=7'], ['--central=32'], ['--reader=13'], ['--deck=deck'])
+def rows(heading):
+    """Returns the lines of a part of tests/random.txt."""
+    with open(os.path.join(TOP, 'tests', 'random.txt'), encoding='utf-8') as file:
+        text = file.read().partition(f'== {heading}\n')[2].partition('\n\n')[0]
+    return text.splitlines()
 
 
+PARTS = rows('parts')
+JUNK = [word for line in rows('junk') for word in shlex.split(line)]
+WORDS = [shlex.split(line) for line in rows('words')]
 OPTIONS = ('--history', '--central', '--deck', '--reader', '--printer', '--panel', '--help', '-h', '--', '-', '--deck\n')
 VALUES = ('1', '10000', '10001', '32', '128', '0', '7', '12', '13', '14', 'deck', 'panel', 'script', 'absent', '.', '', '-', '--', '-\n', '\n', ' ', '=',
           'a=b', '\u00e9', '7\n', '+1', '08', '1_0', '\u0661')

@@ -4,8 +4,8 @@ A block begins with == and what it shows. Its other lines:
   NAME| TEXT    a line of a file; those before the first block are for all
   $ panel ..    a panel begins, with options of the tool, --size COLUMNSxROWS and <FILE, whose lines it performs
   > LINE        one more line that it performs
-  : KEYS        keys that are pressed: characters, and names in angles; then may come turn=N, at=PLACE of the cursor, and what they
-                send, as -> STEP, STEP
+  : KEYS        keys that are pressed: characters, and names in angles; then may come turn=N, run=FILE, at=PLACE of the cursor, and what
+                they send, as -> STEP, STEP. With a FILE the machine is that of a run of its lines up to this turn
   again: KEYS   the same, of a new panel that begins as the last one
 After the beginning and after keys:
   |TEXT         a row of the screen has this text; the next such line is of the row below
@@ -30,13 +30,19 @@ from pp6600.shell.device_options import device_of
 
 PROGRAM = program()
 LINE = re.compile(r"([a-z.]+\| ?|== |\$ panel ?|> |: |again: |= |\||~|ends|\.\.)(.*)")
-KEYS = re.compile(r"(.*?)(?: turn=([0-7]+))?(?: at=([A-Z0-7 ]+))?(?: ->(.*))?")
+KEYS = re.compile(r"(.*?)(?: turn=([0-7]+))?(?: run=([a-z]+))?(?: at=([A-Z0-7 ]+))?(?: ->(.*))?")
+DUMPS = "DUMP PP 0", "DUMP PP 1", "DUMP M 0 0 7777", "DUMP H", "DUMP W", "DUMP CR", "DUMP LP"
+
+
+def keys_in(text):
+    """Returns the keys of a text: names in angles, and characters."""
+    return [key[1:-1] if len(key) > 1 else key for key in re.findall(r"<[A-Z][^>]*>|.", text, flags=re.S)]
 
 
 def press(panel, *keys):
-    """Presses keys: names in angles, and characters. Returns the lines of the screen."""
-    for key in re.findall(r"<[A-Z][^>]*>|.", "".join(keys), flags=re.S):
-        panel.press(key[1:-1] if len(key) > 1 else key)
+    """Presses keys. Returns the lines of the screen."""
+    for key in keys_in("".join(keys)):
+        panel.press(key)
     return [line.text for line in panel.screen().lines]
 
 
@@ -57,6 +63,11 @@ class PanelCase(Case):
         panel.resize(*size)
         panel.perform_script(names.loading(script.splitlines()), turn)
         return panel
+
+    def assert_same(self, wanted, panel, dumps=DUMPS):
+        """Fails if two panels have other machines."""
+        for dump in dumps:
+            self.assertEqual(wanted.session.simulator.ask(dump), panel.session.simulator.ask(dump), dump)
 
     def wide_panel(self, script, *options, **how):
         """Returns a panel with room for a whole message."""
@@ -79,6 +90,19 @@ def blocks():
 
 
 FILES, BLOCKS = blocks()
+OVERWRITTEN, FIRST_PROGRAM, READS, DISPLAYS = (FILES[f"{name}|"] for name in ("loader", "first", "reads", "displays"))
+
+
+def lines_up_to(turn, script):
+    """Returns the lines of a script up to a turn, with those after it that make no turn."""
+    found = []
+    for line in script.splitlines():
+        turns = int(line.split()[1], 8) if line.startswith("STEP ") else 0
+        found += [f"STEP {min(turns, turn):o}"] if min(turns, turn) else [] if turns else [line]
+        if turns > turn:
+            break
+        turn -= turns
+    return found
 
 
 def options():
@@ -118,10 +142,12 @@ class BlockCase(PanelCase):
             if mark != ":":
                 panel = self.begun(words, script)
             with self.subTest(f"{mark} {text}"):
-                keys, turn, place, sent = KEYS.fullmatch(text if mark != "$ panel" else "").groups()
+                keys, turn, run, place, sent = KEYS.fullmatch(text if mark != "$ panel" else "").groups()
                 before = len(panel.session.sent)
                 self.compare(press(panel, keys), panel.is_ended, expected)
                 self.assertIn(turn and int(turn, 8), (None, panel.session.history.turns), "the turn")
+                if run:
+                    self.assert_same(self.panel("\n".join(lines_up_to(int(turn, 8), part(self.folder, run).decode()))), panel)
                 self.assertIn(place, (None, panel.view.place()))
                 self.assertIn(sent and sent.strip(), (None, ", ".join(panel.session.sent[before:])))
 

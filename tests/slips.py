@@ -27,8 +27,6 @@ from evaluating import asking  # noqa: E402
 from evaluating.examples import FILE, chosen, faults_of, worked  # noqa: E402
 from evaluating.lists import Stuck  # noqa: E402
 
-from pp6600.engine.plain.program import run  # noqa: E402
-
 with open(os.path.join(TOP, FILE), encoding="utf-8") as file:
     EXAMPLES = file.read()
 RANDOM = 300  # random sessions, of which those with few turns are performed
@@ -99,16 +97,6 @@ def by_program(words, script):
     """Returns the outcome of a session by the program."""
     done = subprocess.run([program(), *words], input=script, capture_output=True, timeout=PATIENCE, check=False)
     return done.stdout, done.stderr, done.returncode
-
-
-def by_python(words, script):
-    """Returns the outcome of a session by the simulator in Python."""
-    answers = []
-    with tempfile.NamedTemporaryFile() as file:
-        file.write(script)
-        file.flush()
-        status, fault = run(words, file.name, answers.append)
-    return "".join(answers).encode("latin-1"), fault.encode(), status
 
 
 def turns(lines):

@@ -10,6 +10,7 @@ import signal
 import subprocess
 import sys
 import tempfile
+import time
 import unittest
 from typing import NamedTuple
 
@@ -106,6 +107,16 @@ def write(path, data="", mode=0o644):
         file.write(data if isinstance(data, bytes) else data.encode("utf-8"))
     os.chmod(path, mode)
     return path
+
+
+def writer(path):
+    """Returns the end of a named pipe to write to, once somebody has opened it to read."""
+    for _ in range(10 * PATIENCE):
+        try:
+            return os.open(path, os.O_WRONLY | os.O_NONBLOCK)
+        except OSError:
+            time.sleep(0.1)
+    raise TimeoutError(f"{path} is not opened")
 
 
 def lasting_room():

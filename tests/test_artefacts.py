@@ -312,19 +312,7 @@ class Library(Artefacts):
 
     def test_node_is_told_what_is_wrong(self):
         """A session of the module rejects a deck, a count and a place; it answers more lines than one call takes, and none after its end."""
-        script = """const { LibrarySession, openLibrary } = require(process.argv[1]);
-        openLibrary(require("fs").readFileSync(process.argv[2])).then((calls) => {
-          const said = (call) => { try { call(); } catch (error) { console.log(error.message); } };
-          said(() => new LibrarySession(calls, { deck: [49, 32, 56] }));
-          const session = new LibrarySession(calls);
-          said(() => session.back(-1));
-          said(() => session.back(1));
-          said(() => session.numbers(106592 + 131072, 1));
-          console.log(session.answer("STEP\\n".repeat(1000001)).lines);
-          session.close();
-          said(() => session.back(1));
-        });"""
-        shown = run_tool(self.tool("node", "nodejs"), "-e", script, os.path.join(WEB, "library.js"), artefact("pp6600.wasm"))
+        shown = run_tool(self.tool("node", "nodejs"), os.path.join(CLIENTS, "wrong.js"), os.path.join(WEB, "library.js"), artefact("pp6600.wasm"))
         self.assertEqual(["pp6600: DECK LINE 1 NOT OCTAL", "pp6600.wasm: -1 is no number of 32 bits", "pp6600.wasm: rejected",
                           "pp6600.wasm: rejected", "1000001", "pp6600.wasm: the session is closed"], shown.splitlines())
 

@@ -6,7 +6,7 @@ import os
 import random
 import re
 
-from .support import TOP, Case, add_tests, blocks, names_of_codes, program, read, run, tool
+from .support import TOP, Case, add_tests, blocks, names_of_codes, read, run, tool
 
 from pp6600.language.listing import ListingSymbols
 from pp6600.language.source.forms import lines_of
@@ -73,13 +73,6 @@ class Encoding(Case):
                         address += len(wanted(code, d, m))
             with self.subTest(f"{code:02o} {NAMES[code]}"):
                 self.assertEqual(dict(enumerate(words, 0o100)), made(lines))
-
-    def test_jumps_go_round(self):
-        """A relative jump wraps modulo 10000."""
-        self.check_rows(lambda *lines: [f"{word:04o}" for word in made(lines).values()],
-                        ("  ORG 7776B", "  UJN 1", ["0303"]), ("  ORG 1", "  UJN 7776B", ["0374"]),
-                        ("  ORG 1", "  UJN *-3", ["0374"]), ("  ORG 7776B", "  UJN *+3", ["0303"]),
-                        ("  ORG 0", "  MJN *-37B", ["0740"]), ("  ORG 0", "  PJN *+37B", ["0637"]))
 
 
 def sections(name):
@@ -152,41 +145,7 @@ DECKS = os.path.join(PROGRAMS, "decks")
 
 
 class Decks(Case):
-    """Two routines as the systems of the time have them, of which no line is changed: what they compute is reasoned from their sources."""
-
-    def cells(self, script, *rows):
-        """Returns words of PP 00 after a script: each row is an address and how many words."""
-        dumps = "".join(f"DUMP M 0 {first:o} {first + count - 1:o}\n" for first, count in rows)
-        done = run(program(), script=script + dumps)
-        self.assertNotIn("ERR", done.out)
-        found = [line.split()[1:] for line in done.out.splitlines() if re.match("[0-7]{4} ", line)]
-        return [" ".join(words) for words in found]
-
-    def lines(self, name, *words):
-        done = tool("assemble", "--text", DECKS, "--set", "0", *words, os.path.join(DECKS, name))
-        self.assertEqual(0, done.status, done.err)
-        return done.out, done.err
-
-    def test_nos_style(self):
-        """Functions 1, 2 and 1 of the list: 1+2+4+10+20+3+7 and 1+2 are 54; HELLO, OPERATOR is copied, and a word of zero is behind it.
-        The overlays leave a 5, and the first word of the one before."""
-        script, said = self.lines("nos-style.pp")
-        self.assertEqual("", said)
-        wanted = ["0003 0054 0000 1207", "1005 1414 1756 5517 2005 2201 2417 2200", "0000", "7777 7777"]
-        rows = (0o30, 4), (0o1243, 8), (0o1253, 1), (0o1127, 2)
-        self.assertEqual(wanted, self.cells(f"{script}SET P 0 1100\nSTEP 10000\n", *rows))
-        for unit, wanted in (("3ZA", "0005"), ("3zb", "1405")):
-            overlay = "".join(self.lines("nos-style.pp", "--unit", name)[0] for name in ("3ZA", unit))
-            self.assertIn(f"SET M 0 2000 {'1405 3432' if unit == '3ZA' else '5000 2000 3432'}", overlay)
-            self.assertEqual([wanted if unit == "3ZA" else "5000"], self.cells(f"{overlay}SET P 0 2000\nSTEP 14\n", (0o32, 1)))
-
-    def test_scope_style(self):
-        """There are 12 (decimal) E, and 10 blanks, five of them behind the text; the last request is 2."""
-        script, said = self.lines("scope-style.pp")
-        deck = os.path.join(DECKS, "scope-style.pp")
-        self.assertEqual(f"{deck}:13:18: warning: 20 is decimal, as in COMPASS without BASE "
-                         "(in the common deck PPSYM: L.BUF    EQU    20)\n", said)
-        self.assertEqual(["0014 0012 0002", "7776", "0002"], self.cells(f"{script}STEP 30000\n", (0o10, 3), (0o1033, 1), (0o1061, 1)))
+    """Routines as the systems of the time have them. tests/sessions/decks.txt has what they compute."""
 
     def test_read_back(self):
         """A listing with blocks and fields of bits is checked, and has the same words."""

@@ -10,31 +10,29 @@ import os
 import random
 import re
 import sys
-from typing import Iterator, List, Optional, Sequence
+from typing import Iterator, List, Sequence
 
+from . import assembler_lines
 from .support import TOP, Case, read
 
 from pp6600.language.source.disassembler import Disassembler
 from pp6600.language.source.forms import listing
 from pp6600.language.source.machine import CODES, MNEMONICS
-from pp6600.language.source.messages import Fault
 from pp6600.language.source.passes import Program, assembled
-from pp6600.language.source.statements import Line, Statement, joined, statement_of
 
 PLACES = ("examples/*/*.pp", "exercises/**/*.pp", "tests/programs/**/*.pp", "tests/debug/*.pp")
 FOLDER = os.path.join(TOP, "crates", "test_assembler")
 END = "----\n"
 RANDOM = 150
-# The operations that the crate refuses by name.
-NOT_YET = set("""USE QUAL MICRO DECMIC OCTMIC MICCNT LIT XTEXT HERE OPSYN PURGMAC MACRO MACROE DUP ECHO RMT IF IFC IFEQ IFNE IFGT IFGE IFLT IFLE
-    IFPL IFMI IFPP IFCP SKIP""".split())
 OPERATIONS = [*MNEMONICS, *"""CON CON DATA DATA EQU EQU = SET ORG BSS BSSZ LOC VFD VFD DIS BASE END LDK ADK ERR ERRNZ ERRPL MAX MIN PERIPH
-    TITLE SUBR LDX OPDEF ENDIF""".split()]
+    TITLE SUBR LDX OPDEF ENDIF USE USE USE QUAL QUAL LIT IDENT""".split()]
 ELEMENTS = """5 100 17B 99D 8 A B START * *L *O ** 1RA 2RAB 3HABC 0HAB 1S5 -1 + - / ^ X.Y 12345670 H*AB* A*2 //A -0 77 L1 L2 L3 *+1 *-2
-    7777B 10000B 1S17 OCTAL 4LAB""".split() + ['"', ""]
+    7777B 10000B 1S17 OCTAL 4LAB /Q/A /Q/L1 //L1 /R/B =5 =7 =H*AB* =3HABC =-1 =XA =SL1 =YB =X1 =""".split() + ['"', ""]
 LABELS = ["", " A", " B", " L1", " L2", " L3", "START", " START", " +", " -", " 1A", " TOOLONGNAME", " X.Y", " A_B"]
 TEXTS = ["3,ABCDEF", "2,A", ",*ABC*", ",/AB", "0,", "2,A\tB", "1,{A", "12345,A"]
 DATA = ["5", "H*AB*", "3CABC", "3ZABC", "1RA", "3AABC", "0LABC,7", "H*A", "5X", "-1", "12B", "L/AB/", "99999"]
+BLOCKS = ["B1", "B2", "*", "0", "", "BUFFERS,X"]
+QUALIFIERS = ["Q", "/Q/", "R", "*", "", "LONGQUALIFIER"]
 SYMBOLS = "ABCHLRZ0123456789 \t ,,=+-*/()$."
 
 
@@ -48,7 +46,7 @@ def statement(choose: random.Random) -> str:
     parts = [expression(choose) for _ in range(count)]
     if name == "VFD" and choose.random() < 0.8:
         parts = [f"{choose.choice((3, 6, 12, 18, 5, 60))}/{one}" for one in parts or ["1"]]
-    likely = {"DIS": TEXTS, "DATA": DATA}.get(name)
+    likely = {"DIS": TEXTS, "DATA": DATA, "LIT": DATA, "USE": BLOCKS, "QUAL": QUALIFIERS, "IDENT": ["P", "P2,X"]}.get(name)
     operand = choose.choice(likely) if likely and choose.random() < 0.8 else ",".join(parts)
     line = f"{label:10}{name:6} {operand}"
     line += choose.choice(["", "", "", "  COMMENT"])
@@ -75,49 +73,23 @@ def sources(count: int = RANDOM) -> Iterator[List[str]]:
     paths = sorted(path for place in PLACES for path in glob.glob(os.path.join(TOP, place), recursive=True))
     real = [read(path).removesuffix("\n").split("\n") for path in paths]
     choose = random.Random(65)
-    yield from filter(can_be_judged, real)
-    made = 0
-    while made < count:
-        lines = changed(choose, choose.choice(real)) if choose.random() < 0.4 else [
-            *choose.choice([[], ["          ORG    100B"], ["          ORG    7770B"]]),
+    yield from real
+    for _ in range(count):
+        yield choose.choice(KINDS)(choose, real)
+
+
+def statements(choose: random.Random, real: Sequence[List[str]]) -> List[str]:
+    """Returns lines of one statement each."""
+    return [*choose.choice([[], ["          ORG    100B"], ["          ORG    7770B"]]),
             *choose.choice([[], ["          BASE   OCTAL"], ["          BASE   OCTAL"], ["          BASE   DECIMAL"]]),
             *(statement(choose) for _ in range(choose.randrange(1, 14)))]
-        if can_be_judged(lines):
-            made += 1
-            yield lines
 
 
-def fields(line: Line) -> Optional[Statement]:
-    try:
-        return statement_of(line, ("SUBR",))
-    except Fault:
-        return None
-
-
-def can_be_judged(lines: Sequence[str]) -> bool:
-    """Returns whether a source has no literal, no qualifier and no second IDENT, which the crate refuses as it comes to them."""
-    found = [fields(line) for line in joined(Line(0, line) for line in lines)]
-    return not any(re.search(r'(^|,)=|/\w+/|"[A-Z]', one.operand.text) for one in found if one) \
-        and sum(one.operation.text == "IDENT" for one in found if one) < 2
-
-
-def refusal(lines: Sequence[str]) -> Optional[str]:
-    """Returns what the crate says of an operation that it does not know, if a source has one."""
-    for line in joined(Line(number, line) for number, line in enumerate(lines, 1)):
-        one = fields(line)
-        name = one.operation.text if one else ""
-        if one and name in NOT_YET:
-            return f"{line.number}:{one.operation.column + 1}: {name} is not taken by this assembler yet\n"
-        if name == "END":
-            return None
-    return None
+KINDS = (lambda choose, real: changed(choose, choose.choice(real)), statements, lambda choose, real: assembler_lines.source(choose))
 
 
 def answer(lines: Sequence[str]) -> str:
     """Returns what the program must write of a source."""
-    refused = refusal(lines)
-    if refused:
-        return refused + END
     return "".join(f"{line}\n" for line in answer_lines(assembled(lines))) + END
 
 

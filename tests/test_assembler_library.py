@@ -4,18 +4,22 @@ library; and tools/disassemble. Sources are those of the repository, right and w
     PP6600_SOURCES=N   makes N at random (decimal)
 """
 
+import ctypes
 import os
 import random
+import re
 import unittest
+from ctypes import byref, c_size_t, c_uint16, c_uint32
 from unittest import mock
 
 from . import test_disassemble
-from .support import TOP, Case, tool
+from .support import LIBRARY, TOP, Case, tool
 from .test_assemble import sections
 from .test_assembler_crate import sources
 
-from pp6600.engine.assembler import COMPLAINTS, LINES, NAMES, assembler_here
-from pp6600.language.assembling import NOT_YET, by_library, in_python
+from pp6600.engine.assembler import COMPLAINTS, DONE, LINES, NAMES, ROOM, Cell, assembler_here
+from pp6600.engine.library import REFUSED
+from pp6600.language.assembling import STOPS, by_library, in_python
 from pp6600.language.source.disassembler import Disassembler
 from pp6600.language.source.passes import assembled
 from pp6600.language.sources import names_of
@@ -51,7 +55,7 @@ class Library(Case):
             got, wanted = by_library(assembler_here(), source, "a.pp", form, 9 - number), in_python(source, "a.pp", form, 9 - number, None, None)
             if got is None:
                 (refusal,) = assembler_here().text(source, COMPLAINTS)[0].decode().splitlines()[:1]
-                self.assertTrue(refusal.endswith(NOT_YET), refusal)
+                self.assertTrue(refusal.endswith(STOPS), refusal)
                 continue
             taken = True
             self.assertEqual((wanted.complaints, wanted.is_wrong), (got.complaints, got.is_wrong))
@@ -65,7 +69,8 @@ class Library(Case):
         """Compares what only the page asks for."""
         if not program.messages:
             self.assertEqual(rows_with_words(program), assembler_here().text(source, LINES)[0].decode().splitlines())
-            self.assertEqual(names_in(program), sorted(assembler_here().text(source, NAMES)[0].decode().splitlines()))
+            names = [name for name in assembler_here().text(source, NAMES)[0].decode().splitlines() if not re.match(r"Z\.[0-7]{4}", name)]
+            self.assertEqual(names_in(program), sorted(names))  # without those of LOCAL
 
     def test_sources(self):
         taken = 0
@@ -87,6 +92,30 @@ class Library(Case):
             self.assertEqual(list(Disassembler(cells, entries).lines()), assembler_here().disassembled(cells, entries).decode().splitlines())
 
 
+    def test_rooms(self):
+        """What has no room for all of a text gets nothing of it, and how much room it needs; another status leaves it as it was too."""
+        library, source, cells = ctypes.CDLL(LIBRARY), b"          LDN    5\n", Cell(0o100, 0o1405)
+        of_source = lambda source, *more: (source, c_size_t(len(source)), *more)
+        of_cells = lambda cell: (byref(cell), c_size_t(1), (c_uint16 * 1)(), c_size_t(0))
+        for name, given, bad in (("assemble", of_source(source, c_uint32(1)), of_source(source, c_uint32(5))),
+                                 ("load_lines", of_source(source, c_uint32(9)), of_source(source, c_uint32(10))),
+                                 ("load_lines", of_source(source, c_uint32(0)), of_source(b" LDN A\n", c_uint32(0))),
+                                 ("disassemble", of_cells(cells), of_cells(Cell(0, 0o10000)))):
+            after = (byref(c_size_t()),) if name != "disassemble" else ()
+            ask = lambda words, room: self.ask(getattr(library, f"pp6600_{name}"), words, room, after)
+            _, size, _ = ask(given, 0)
+            with self.subTest(name):
+                self.assertEqual([(ROOM, size, True)] * 3, [ask(given, room) for room in (0, 1, size - 1)])
+                self.assertEqual((DONE, size, False), ask(given, size))
+                self.assertEqual((REFUSED, True), ask(bad, size)[::2])
+
+    @staticmethod
+    def ask(call, given, room, after):
+        """Returns the status of a call, the count of bytes, and whether the room is as it was."""
+        into, count = ctypes.create_string_buffer(b"\xff" * 256), c_size_t()
+        return call(*given, into, c_size_t(room), byref(count), *after), count.value, into.raw == b"\xff" * 256 + b"\0"
+
+
 class Tools(Case):
     """Both tools write the same with the library and without."""
 
@@ -101,7 +130,8 @@ class Tools(Case):
 
     def test_assemble(self):
         self.assertEqual(0, self.both("assemble", "--set", "3", os.path.join(TOP, "tests", "programs", "monitor.pp")).status)
-        for number, lines in enumerate((["  LDN 5"], ["  LDN"], [" A LDN A", "  IFEQ 1,1", "  UJN 0", "  ENDIF"], [], ["  LDC =5"], ["* É", " É LDN 100B"])):
+        for number, lines in enumerate((["  LDN 5"], ["  LDN"], [" A LDN A", "  IFEQ 1,1", "  UJN 0", "  ENDIF"], [], ["  LDC =5"], ["* É", " É LDN 100B"],
+                                         ["  BASE OCTAL", *["  ORG 0", "  BSSZ 7777"] * 30])):
             path = self.file("".join(f"{line}\n" for line in lines), f"{number}.pp")
             for words in ((), ("--listing",), ("--set", "0"), ("--panel",), ("--deck",), ("--unit", "A"), ("--text", TOP)):
                 with self.subTest(lines=lines, words=words):

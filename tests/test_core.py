@@ -5,10 +5,9 @@ import os
 import re
 import shutil
 import subprocess
-import sys
 import unittest
 
-from tests.support import PYTHON, TOP, Case, read, run
+from tests.support import TOP, Case, read
 
 from pp6600.__main__ import MODULES
 from pp6600.shell import completions
@@ -47,20 +46,6 @@ class Package(Case):
             for name, option in OPTIONS.items():
                 self.assertRegex(text, f"{name}\\b.*{' '.join(option.values)}" if option.values else "pp6600")
             self.assertNotIn("the values of options", text)
-
-    def test_by_name(self):
-        """python3 -m pp6600 NAME is tools/NAME; another name gets a line that says which there are."""
-        words = [*PYTHON, "-m", "pp6600"]
-        self.assertEqual("2425\n", run(*words, "words", "TU", cwd=TOOLS).out)
-        done = run(*words, "unti", cwd=TOOLS)
-        self.assertEqual(("", 2), (done.out, done.status))
-        self.assertIn("unti is no tool; the tools are assemble, changes, ", done.err)
-
-    def test_copies(self):
-        """A copy of the folder works elsewhere."""
-        copy = os.path.join(self.room(), "tools")
-        shutil.copytree(TOOLS, copy)
-        self.assertEqual("2425\n", run(sys.executable, os.path.join(copy, "words"), "TU").out)
 
     def test_imports(self):
         """No command is imported by another module, and a run imports no front end."""

@@ -4,12 +4,11 @@ import json
 import os
 import signal
 import stat
-import subprocess
 import unittest
 
-from tests.debug_client import ADAPTER, HAS_GO, Client, DebugCase, Refusal
+from tests.debug_client import HAS_GO, DebugCase, Refusal
 from tests.debug_dialogue import FOLDER, cases, files, performed, text_of
-from tests.support import PATIENCE, PYTHON, add_tests, read
+from tests.support import PATIENCE, add_tests, read
 
 LOOPS = read(FOLDER, "loops").splitlines()
 
@@ -136,24 +135,6 @@ class BadHands(DebugCase):
         with self.assertRaises(Refusal):
             client.answer(901)
         self.assertEqual((0, ""), client.end())
-
-    def test_words(self):
-        for words, said in ((["--nonsense"], "--help shows what may be given"), (["--log", "/none/log"], "can't write /none/log"),
-                            (["x"], "unrecognized")):
-            client = Client(*words)
-            self.assertEqual(2, client.process.wait(PATIENCE))
-            self.assertIn(said, client.end()[1])
-
-    def test_streams(self):
-        """Closed and full ones: one line, and status 2."""
-        request = b'Content-Length: 49\r\n\r\n{"seq":1,"type":"request","command":"initialize"}'
-        for how, said in ((">&-", "standard output is closed, so there is nowhere to write to"),
-                          (">/dev/full", "can't write to standard output: No space left on device"),
-                          ("<&-", "standard input is closed or a folder, so no editor can speak")):
-            with self.subTest(how):
-                done = subprocess.run(["bash", "-c", f'"$0" "$@" {how}', *PYTHON, ADAPTER], input=request, stdout=subprocess.DEVNULL,
-                                      stderr=subprocess.PIPE, check=False)
-                self.assertEqual((f"debug-adapter: {said}\n", 2), (done.stderr.decode(), done.returncode))
 
     def test_nothing_is_left(self):
         client = self.loader()

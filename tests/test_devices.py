@@ -5,7 +5,7 @@ import random
 import re
 
 from tests.films import PageCase
-from tests.support import EXAMPLES, PYTHON, Case, program, read, run, tool, write
+from tests.support import EXAMPLES, PYTHON, Case, add_tests, program, read, run, tool, write
 
 from pp6600 import Attached, Console, Failure
 from pp6600.run.device import Event
@@ -22,84 +22,17 @@ from pp6600.front.film.pictures import moments_of, pictures_of
 MARK = ()
 STATUSES, LEFTS, BUFFER = 0o1000, 0o1100, 0o2000  # cells
 ROOM = 0o100  # words of a record that is read
+SHOW = "7710 {} 7410 14{:02o} 7310 2000 6610 * 7510"  # function code, ACN, LDN count, OAM 2000, FJM *, DCN
 
 
-class DeviceCase(Case):
-    def begun(self, device, words):
-        """Returns a session with a device, whose PP 00 performs these octal words from 0100 on, then stays. A * is the cell before
-        it: FJM * jumps to itself."""
-        session = Attached([program()], [device])
-        self.addCleanup(session.close)
-        words = [f"{0o77 + at:o}" if word == "*" else word for at, word in enumerate(words.split())] + ["300"]
-        for at in range(0, len(words), 8):
-            self.ask(session, f"SET M 0 {0o100 + at:o} {' '.join(words[at:at + 8])}")
-        self.ask(session, "SET P 0 100")
-        return session
-
-    def ask(self, session, line):
-        answer = session.act(line)
-        self.assertFalse(answer[0].startswith("ERR"), (line, answer))
-        return answer
-
-    def cells(self, session, first, count):
-        return [int(word, 8) for word in session.cells(0, first, first + count - 1)]
-
-
-# ---- a reader and a printer behind a converter
-
-class Converters(DeviceCase):
-    """A driver that connects its equipment first. The codes are those of docs/PYTHON.md."""
-
-    def test_reader(self):
-        """FNC 4000, FNC 1, a card (FNC 1400, ACN, IAM), and the status after it (FNC 1300, ACN, IAN, DCN, STM), twice; then a third card,
-        of which there is none: IAM ends at once, and A is 7777 as before."""
-        card = "7705 1400 7405 2000 7777 7105 {} 5400 {}"
-        status = "7705 1300 7405 7005 7505 5400 {}"
-        words = " ".join(["7705 4000 7705 1", *(f"{card.format(f'{0o2000 + 0o200 * at:o}', f'{0o1100 + at:o}')} {status.format(f'{0o1000 + at:o}')}"
-                                                for at in range(3))])
-        session = self.begun(CardReader([(1, 2, 3), (7,)], channel=0o5), words)
-        self.ask(session, "STEP 20000")
-        self.assertEqual([0o1, 0o140, 0o140], self.cells(session, 0o1000, 3))
-        self.assertEqual([0o7777 - 80, 0o7777 - 80, 0o7777], self.cells(session, 0o1100, 3))
-        self.assertEqual([1, 2, 3, 0], self.cells(session, 0o2000, 4))
-        self.assertEqual([7, 0], self.cells(session, 0o2200, 2))
-
-    def test_rejects(self):
-        """The converter's status after a function without an equipment, a connect of another number, of the right one, and a function that
-        the reader has not; and after a connect by a word."""
-        status = "7705 1200 7405 7005 7505 5400 {}"
-        codes = ("7705 1", "7705 5000", "7705 4000", "7705 77", "7705 1000 7405 2000 4000 7205 6605 * 7505", "7705 1")
-        words = " ".join(f"{code} {status.format(f'{0o1000 + at:o}')}" for at, code in enumerate(codes))
-        session = self.begun(CardReader([(1,)], channel=0o5), words)
-        self.ask(session, "STEP 20000")
-        self.assertEqual([1, 1, 0, 1, 0, 0], self.cells(session, 0o1000, 6))
-
-    def test_printer(self):
-        """Two lines of output, a new page between them: HI and OK."""
-        line = "7705 1600 7405 2000 {} 7205 6605 * 7505"
-        words = " ".join(["7705 5000 7705 4", line.format("1011"), "7705 4", line.format("1713"), "7705 2"])
-        printer = LinePrinter(channel=0o5)
-        session = self.begun(printer, words)
-        self.ask(session, "STEP 20000")
-        self.assertEqual("\fHI\n\fOK\n\n\n", printer.output(session.state()))
-
-    def test_words(self):
-        self.assertEqual(["card_reader", "line_printer"], [name for name in NAMES if name in ("card_reader", "line_printer")])
-        path = write(self.path("deck"), "1 2\n* a note\n7777\n")
-        self.assertEqual([(1, 2), (0o7777,)], device_of(f"card_reader:{path},6@12").deck)
-        for text, wrong in (("card_reader:,3@12", "an equipment has a number from 4 to 7, and not 3"),
-                            (f"card_reader:{write(self.path('bad'), '18')}@12", "line 1 (decimal) is no card")):
-            with self.subTest(text):
-                with self.assertRaisesRegex(Failure, re.escape(wrong)):
-                    device_of(text)
-
-
-# ---- magnetic tape
+def records_of(text):
+    """Returns records, as 1 2 3, mark, 4."""
+    return [tuple(int(word, 8) for word in record.split() if word != "mark") for record in text.split(", ") if record]
 
 
 def tape_program(*steps):
-    """Returns the words that do this with a tape on channel 5, each followed by a status: "read" or "read 1" (so many words, then
-    disconnect), "write 1 2 3", or a function code. The words read, what IAM left of its count, and the statuses are kept."""
+    """Returns the words that do this with a tape on channel 5, each followed by a status, and lines that set what they write. The words read,
+    what IAM left of its count, and the statuses are kept."""
     words, data, writes = [], 0o3000, []
     for number, step in enumerate(steps):
         kind, *given = step.split()
@@ -117,80 +50,104 @@ def tape_program(*steps):
     return " ".join(words), [f"SET M 0 {0o3000 + at:o} {word}" for at, word in enumerate(writes)]
 
 
-class Tapes(DeviceCase):
-    """Function codes and statuses: 1 ready, 4 can be written, 10 file mark, 20 load point, 40 end."""
-
-    TAPE = [(0o1, 0o2, 0o3), (0o4, 0o5), MARK, (0o6,)]
-
-    def performed(self, tape, *steps):
-        """Returns a session in which a program has done these steps, each with a status."""
-        words, lines = tape_program(*steps)
-        session = self.begun(tape, words)
-        for line in lines:
+class DeviceCase(Case):
+    def begun(self, device, words, lines=()):
+        """Returns a session with a device, whose PP 00 performs these octal words from 0100 on, then stays. A * is the cell before
+        it: FJM * jumps to itself."""
+        session = Attached([program()], [device])
+        self.addCleanup(session.close)
+        words = [f"{0o77 + at:o}" if word == "*" else word for at, word in enumerate(words.split())] + ["300"]
+        for line in (*(f"SET M 0 {0o100 + at:o} {' '.join(words[at:at + 8])}" for at in range(0, len(words), 8)), "SET P 0 100", *lines):
             self.ask(session, line)
-        self.ask(session, "STEP 20000")
         return session
 
-    def check(self, tape, *rows):
-        """Checks the status after each step, and the words that were read and how many of 100 IAM left."""
-        session = self.performed(tape, *(row[0] for row in rows))
-        for number, (step, status, *given) in enumerate(rows):
-            with self.subTest(number=number, step=step):
-                self.assertEqual([status], self.cells(session, STATUSES + number, 1))
-                if step == "read":
-                    self.assertEqual([ROOM - len(given)], self.cells(session, LEFTS + number, 1))
-                    self.assertEqual([*given, 0], self.cells(session, BUFFER + ROOM * number, len(given) + 1))
-        return session
+    def ask(self, session, line):
+        answer = session.act(line)
+        self.assertFalse(answer[0].startswith("ERR"), (line, answer))
+        return answer
 
-    def test_reading_and_moving(self):
-        self.check(MagneticTape(self.TAPE),
-                   ("1", 0o21), ("read", 0o1, 1, 2, 3), ("12", 0o21), ("13", 0o11), ("read", 0o1, 6), ("read", 0o41), ("read", 0o41),
-                   ("14", 0o11), ("read", 0o11), ("12", 0o11), ("12", 0o1), ("read", 0o1, 4, 5), ("10", 0o21), ("12", 0o21), ("14", 0o21),
-                   ("13", 0o11), ("13", 0o41), ("3", 0o41), ("4", 0o41), ("5", 0o41), ("6", 0o41), ("12", 0o1))
 
-    def test_a_record_that_is_not_read_to_its_end_is_passed(self):
-        self.check(MagneticTape(self.TAPE), ("read 1", 0o1), ("read", 0o1, 4, 5))
+class Blocks(DeviceCase):
+    """The blocks of tests/devices.txt."""
 
-    def test_a_code_is_for_one_record(self):
-        """FNC 1400, ACN, LDC 100, IAM, ACN, IAN: the last one waits for a word that does not come. FNC 1600, ACN, OAN, FJM *, DCN, ACN,
-        OAN, DCN: the second word stays on the channel, and is in no record."""
-        session = self.begun(MagneticTape(self.TAPE), "7705 1400 7405 2000 100 7105 2000 7405 7005")
-        self.ask(session, "STEP 1000")
-        self.assertEqual(("0110", "E"), (session.registers(0)["P"], session.channel(5)[0]))
-        tape = MagneticTape(ring="ring")
-        session = self.begun(tape, "7705 1600 7405 1407 7205 6605 * 7505 7405 7205 7505")
-        self.ask(session, "STEP 1000")
-        self.assertEqual([(7,)], tape.blocks(session.state()))
+    def check(self, lines):
+        kind, _, records = lines[0][2:].partition(" ")
+        self.device, self.answers, steps = self.made(kind, records), [], [line.split("|") for line in lines if re.search(r" \| ", line)]
+        words, sets = tape_program(*(step for step, _ in steps))
+        words += " ".join(line[2:] for line in lines if line[:2] == ": ")
+        shown = next((line.split()[1:] for line in lines if line.startswith("show ")), None)
+        if shown:
+            code, *given = shown
+            words, sets = SHOW.format(code, len(given)), [f"SET M 0 {0o2000 + at:o} {word}" for at, word in enumerate(given)]
+        self.session = self.begun(self.device, words, sets)
+        if steps or shown:
+            self.ask(self.session, "STEP 20000" if steps else "STEP 1000")
+        for number, (step, wanted) in enumerate(steps):
+            self.check_step(number, step, wanted)
+        for line in lines[1:]:
+            if line[0] != ":" and line.split()[0] != "show" and " | " not in line:
+                self.check_line(line)
+        self.assertEqual([], self.answers)
 
-    def test_a_tape_that_begins_with_a_mark(self):
-        self.check(MagneticTape([MARK, (1,)]), ("13", 0o11), ("10", 0o21), ("read", 0o11), ("read", 0o1, 1), ("14", 0o31))
+    @staticmethod
+    def made(kind, records):
+        """Returns a device."""
+        ring = "ring" if records.endswith("ring") else ""
+        return {"card_reader": lambda: CardReader(records_of(records), channel=0o5), "line_printer": lambda: LinePrinter(channel=0o5),
+                "magnetic_tape": lambda: MagneticTape(records_of(records.removesuffix("ring").strip()), ring),
+                "console_display": ConsoleDisplay}[kind]()
 
-    def test_writing(self):
-        tape = MagneticTape(ring="ring")
-        session = self.check(tape, ("write 7 70", 0o5), ("write 700", 0o5), ("15", 0o5), ("10", 0o25), ("read", 0o5, 7, 0o70),
-                             ("read", 0o5, 0o700), ("read", 0o15), ("read", 0o45))
-        self.assertEqual([(7, 0o70), (0o700,), MARK], tape.blocks(session.state()))
+    def check_step(self, number, step, wanted):
+        """Checks the status after a step, and the words that were read and how many of 100 IAM left."""
+        status, is_read, words = wanted.strip().partition(":")
+        given = [int(word, 8) for word in words.split()]
+        with self.subTest(number=number, step=step):
+            self.assertEqual([int(status, 8)], self.cells(STATUSES + number, 1))
+            if is_read:
+                self.assertEqual([ROOM - len(given)], self.cells(LEFTS + number, 1))
+                self.assertEqual([*given, 0], self.cells(BUFFER + ROOM * number, len(given) + 1))
 
-    def test_writing_loses_what_is_after_it(self):
-        for step, block in (("write 7", (7,)), ("15", MARK)):
-            tape = MagneticTape(self.TAPE, "ring")
-            session = self.performed(tape, "read", step)
-            self.assertEqual([self.TAPE[0], block], tape.blocks(session.state()))
+    def check_line(self, line):
+        """Performs a line of a block, or compares what is there."""
+        name, _, text = line.partition(" ")
+        if name == ">":
+            self.assertEqual([], self.answers)
+            self.answers = [answer for answer in self.ask(self.session, text) if answer.split()[0] not in ("OK", "TURNS")]
+        elif name == "type":
+            try:
+                self.session.tell(0, text.encode().decode("unicode_escape"))
+            except Failure as failure:
+                self.answers = [str(failure)]
+        elif name in LOOKS:
+            self.assertEqual(text, LOOKS[name](self.session, text), line)
+        else:
+            self.assertIn(text if name == "!" else line, self.answers.pop(0))
 
-    def test_codes_that_are_not_taken(self):
-        """The code stays on the channel, and so a processor waits that would give the next one."""
-        for tape, code in ((MagneticTape(self.TAPE), "1600"), (MagneticTape(self.TAPE), "15"), (MagneticTape(ring="ring"), "2")):
-            session = self.begun(tape, f"7705 {code} 7705 10")
-            self.ask(session, "STEP 1000")
-            self.assertEqual(("X", int(code, 8)), (session.channel(5)[0], int(session.channel(5)[2:], 8)))
-            self.assertEqual("0102", session.registers(0)["P"])
+    def cells(self, first, count):
+        return [int(word, 8) for word in self.session.cells(0, first, first + count - 1)]
 
+
+def marks_on(session, screen):
+    """Returns the marks of a screen: each with its symbol, size, x and y."""
+    marks = session.devices[0].picture(session.state()).screens[screen]
+    return ", ".join(f"{mark.symbol or '.'} {mark.size:o} {mark.x:o} {mark.y:o}" for mark in sorted(marks, key=lambda one: (one.symbol == "I", one.y, one.x)))
+
+
+LOOKS = {
+    "printed": lambda session, _: session.devices[0].output(session.state()).replace("\f", "\\f").replace("\n", "\\n"),
+    "tape": lambda session, _: ", ".join(" ".join(f"{word:o}" for word in block) or "mark" for block in session.devices[0].blocks(session.state())),
+    "left": lambda session, _: marks_on(session, 0), "right": lambda session, _: marks_on(session, 1),
+    "keys": lambda session, _: session.state().keys, "waits": lambda session, _: f"at {session.registers(0)['P']}",
+    "channel": lambda session, text: f"{text.split()[0]} {session.channel(int(text.split()[0], 8))}"[:len(text)]}
+add_tests(Blocks, Blocks.check, [(heading, re.findall("^[^#\n].*", text, re.M)) for heading, text in
+                                 re.findall(r"^== (.*)\n((?:[^=\n].*\n|\n)*)", read("tests", "devices.txt"), re.M)])
+
+
+class Tapes(DeviceCase):
     def test_all_goes_back(self):
         """At random turns the tape is what it was when the run first came there."""
         words, lines = tape_program("read", "write 7 70", "12", "read", "write 3", "15", "10", "read", "13", "14")
-        session = self.begun(MagneticTape(self.TAPE, "ring"), words)
-        for line in lines:
-            self.ask(session, line)
+        session = self.begun(MagneticTape([(1, 2, 3), (4, 5), MARK, (6,)], "ring"), words, lines)
         states, choose = [session.state()], random.Random(1)
         for _ in range(900):
             self.ask(session, "STEP")
@@ -250,66 +207,25 @@ class TapeFiles(Case):
 
 # ---- console display
 
-SHOW = "7710 {} 7410 14{:02o} 7310 200 6610 * 7510"  # function code, ACN, LDN count, OAM 0200, FJM *, DCN
-
-
 class FewMarks(ConsoleDisplay):
     most_marks = 8
 
 
 class Displays(DeviceCase):
-    def drawn(self, code, *words, display=None):
-        """Returns a session in which these words were given after a function code."""
-        display = display or ConsoleDisplay()
-        session = self.begun(display, SHOW.format(code, len(words)))
-        for at, word in enumerate(words):
-            self.ask(session, f"SET M 0 {0o200 + at:o} {word}")
-        self.ask(session, "STEP 1000")
-        return session
-
-    @staticmethod
-    def picture(session):
-        return session.devices[0].picture(session.state())
-
-    def test_screens_and_sizes(self):
-        for screen, codes in enumerate((("7000", "7001", "7002"), ("7100", "7101", "7102"))):
-            for code, size in zip(codes, (8, 16, 32)):
-                screens = [frozenset(), frozenset()]
-                screens[screen] = frozenset((Mark(0o200, 0o100, size, "L"), Mark(0o200, 0o100 + size, size, "I")))
-                self.assertEqual(Picture(tuple(screens)), self.picture(self.drawn(code, "6100", "7200", "1411")), code)
-
-    def test_dots(self):
-        """Each Y makes a dot, and other words none."""
-        for screen, code in enumerate(("7010", "7110")):
-            picture = self.picture(self.drawn(code, "7000", "6100", "7200", "1411", "7777", "6777"))
-            self.assertEqual({Mark(0, 0), Mark(0o200, 0o100), Mark(0o777, 0o100)}, picture.screens[screen])
-            self.assertEqual(frozenset(), picture.screens[1 - screen])
-
     def test_all_symbols(self):
-        codes = "".join(f"{code:02o}" for code in range(0o100))
-        picture = self.picture(self.drawn("7000", "6000", "7000", *re.findall("....", codes)))
-        symbols = {mark.x // 8: mark.symbol for mark in picture.screens[0]}
+        words = ["6000", "7000", *re.findall("....", "".join(f"{code:02o}" for code in range(0o100)))]
+        session = self.begun(ConsoleDisplay(), SHOW.format("7000", len(words)), [f"SET M 0 {0o2000 + at:o} {word}" for at, word in enumerate(words)])
+        self.ask(session, "STEP 1000")
+        symbols = {mark.x // 8: mark.symbol for mark in session.devices[0].picture(session.state()).screens[0]}
         wanted = dict(enumerate("ABCDEFGHIJKLMNOPQRSTUVWXYZ0123456789+-*/()", 1))
         self.assertEqual({**wanted, 0o54: "=", 0o56: ",", 0o57: "."}, symbols)
 
-    def test_a_line_goes_on_at_the_left(self):
-        picture = self.picture(self.drawn("7002", "6740", "7000", "1411"))
-        self.assertEqual({Mark(0, 0o740, 32, "L"), Mark(0, 0, 32, "I")}, picture.screens[0])
-
-    def test_what_is_seen_at_a_place_is_what_was_put_there_last(self):
-        picture = self.picture(self.drawn("7000", "6100", "7200", "1411", "6100", "1155"))
-        self.assertEqual({Mark(0o200, 0o100, 8, "I")}, picture.screens[0])
-
-    def test_codes_that_are_not_taken(self):
-        for code in ("7003", "7021", "7200", "6000", "0000"):
-            self.assertEqual(f"X {code}", self.drawn(code, "6100").channel(0o10))
-
     def test_fading(self):
         """What is drawn is dark after so many turns."""
-        session = self.drawn("7000", "1411", display=ConsoleDisplay("100"))
-        self.assertEqual(Picture((frozenset(), frozenset())), self.picture(session))
+        session = self.begun(ConsoleDisplay("100"), SHOW.format("7000", 1), ["SET M 0 2000 1411", "STEP 1000"])
+        self.assertEqual("", marks_on(session, 0))
         self.ask(session, "BACK 700")
-        self.assertEqual(2, len(self.picture(session).screens[0]))
+        self.assertEqual("L 10 0 0, I 10 10 0", marks_on(session, 0))
         for fading in (0, "0"):
             self.assertRaises(Failure, ConsoleDisplay, fading)
 
@@ -337,22 +253,6 @@ class Displays(DeviceCase):
             for word in (0o6000 + x, 0o7000):
                 state, _ = display.word(state, Event("word", word, 1))
         self.assertEqual({Mark(0, x) for x in (0, *range(9, 16))}, display.picture(state).screens[0])
-
-    def test_keyboard(self):
-        """The keys are those of display code; 60 is the carriage return, 61 the backspace, 62 the blank, and 0 none."""
-        ask_for_key = "7710 7020 7410 7010 7510 5400 {:o}"
-        session = self.begun(ConsoleDisplay(), " ".join(ask_for_key.format(0o1000 + number) for number in range(9)))
-        for keys in ("aZ9", "/ \b\n."):
-            session.tell(0, keys)
-        with self.assertRaises(Failure) as caught:
-            session.tell(0, "A!")
-        self.assertIn("the keyboard has no '!'", str(caught.exception))
-        self.ask(session, "STEP 1500")
-        self.assertEqual([0o1, 0o32, 0o44, 0o50, 0o62, 0o61, 0o60, 0o57, 0], self.cells(session, 0o1000, 9))
-        self.ask(session, "BACK 1501")
-        self.assertEqual("aZ9".upper(), session.state().keys)
-        self.ask(session, "STEP 1500")
-        self.assertEqual([0o1, 0o32, 0o44, 0, 0], self.cells(session, 0o1000, 5))
 
 
 class Pictures(Case):
@@ -471,6 +371,16 @@ class Page(PageCase):
 
 class Options(Case):
     """The words after --device. tests/sessions/devices.txt has wrong ones."""
+
+    def test_converters(self):
+        self.assertEqual(["card_reader", "line_printer"], [name for name in NAMES if name in ("card_reader", "line_printer")])
+        path = write(self.path("deck"), "1 2\n* a note\n7777\n")
+        self.assertEqual([(1, 2), (0o7777,)], device_of(f"card_reader:{path},6@12").deck)
+        for text, wrong in (("card_reader:,3@12", "an equipment has a number from 4 to 7, and not 3"),
+                            (f"card_reader:{write(self.path('bad'), '18')}@12", "line 1 (decimal) is no card")):
+            with self.subTest(text):
+                with self.assertRaisesRegex(Failure, re.escape(wrong)):
+                    device_of(text)
 
     def test_names(self):
         tape = write(self.path("tape"), TapeFiles.BYTES)

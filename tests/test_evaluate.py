@@ -1,8 +1,8 @@
-"""Tests docs/evaluate: the definitions, run, say what the program and pp6600-python do.
+"""Tests docs/evaluate: the definitions, run, say what the program does.
 
 The worked rows of crates/pp_worked are computed as statements about data. The cases of tests/cases.txt and of examples/, and random
-sessions, are performed by the definitions, by the program and by pp6600-python, and all that is written is compared. Which faults in
-the definitions this would find is what python3 -m tests.slips says, which takes longer.
+sessions, are performed by the definitions and by the program, and all that is written is compared. Which faults in the definitions this
+would find is what python3 -m tests.slips says, which takes longer.
 """
 
 import gc
@@ -52,7 +52,7 @@ class WorkedRows(Case):
 
 
 class Sessions(Case):
-    """Sessions by the definitions, by the program and by pp6600-python."""
+    """Sessions by the definitions and by the program. tests/test_python_program.py and test_random.py compare it with pp6600-python."""
 
     def setUp(self):
         self.addCleanup(os.chdir, os.getcwd())
@@ -64,7 +64,6 @@ class Sessions(Case):
             write(os.path.abspath(name), data)
         wanted = case.out, case.err, case.status
         self.assertEqual(wanted, slips.performed(slips.definitions(), case.words, case.script))
-        self.assertEqual(wanted, slips.by_python(case.words, case.script))
 
     def test_random(self):
         numbers = iter(range(10 ** 6))
@@ -81,7 +80,6 @@ class Sessions(Case):
                 except Stuck:  # a file is a folder
                     continue
                 self.assertEqual(slips.by_program(words, script), found)
-                self.assertEqual(found, slips.by_python(words, script))
             done += 1
 
 

@@ -1,4 +1,4 @@
-"""Tests tools/film: what it writes and says, that docs/films has what it makes today.
+"""Tests tools/film: what it writes, and that docs/films has what it makes today. What it says is in tests/sessions/film.txt.
 
 Other expected values are those of docs/FILM.md and of the run's own files.
 """
@@ -6,11 +6,9 @@ Other expected values are those of docs/FILM.md and of the run's own files.
 import glob
 import os
 import re
-import stat
-import subprocess
 
 from tests.films import FOLDER, FilmCase, about, shown_film, stored, unpacked
-from tests.support import TOP, read, run, tool, write
+from tests.support import TOP, read, write
 
 BYTE = "\udcff"  # a byte of a command line that is not UTF-8, as Python has it
 
@@ -18,61 +16,15 @@ BYTE = "\udcff"  # a byte of a command line that is not UTF-8, as Python has it
 class Tool(FilmCase):
     """What the tool writes and says."""
 
-    def test_failures(self):
-        """One line in plain words, status 2, and no file."""
-        path = self.path("none.html")
-        for words, script in (((), "STEP\n"), (("-o", self.path("no/folder.html")), "STEP\n"), (("-o", path, "no-such-file"), ""),
-                              (("-o", ""), "STEP\n"), (("-o", path, "--around", "9"), "STEP\n"), (("-o", path, "--last", "7"), "STEP\n"),
-                              (("-o", self.folder), "STEP\n"),
-                              (("-o", path, "--deck", "no-such-file"), "STEP\n"), (("-o", path, "--reader", "99"), "STEP\n"),
-                              (("-o", path, "--around", "2"), "STEP\n"), (("-o", path, "--around", "1", "--last", "1"), "STEP\n"),
-                              (("-o", path, "--program", "no-such-program"), "STEP\n")):
-            with self.subTest(words=words):
-                done = tool("film", *words, script=script)
-                self.assertEqual((2, 1, False), (done.status, done.err.count("\n"), "Traceback" in done.err))
-        self.assertEqual([], os.listdir(self.folder))
-
-    def test_refused_lines(self):
-        """The film is made, with the answers; what was refused is said, and the status is 1."""
-        path = self.path("film.html")
-        self.assertEqual(("", "film: 2 lines (decimal) were refused, the first is line 2 (decimal), ERR 01 NOT A COMMAND: GO\n", 1),
-                         tool("film", "-o", path, script="STEP\nGO\nSTEP\nBACK W\n"))
-        self.assertEqual(["STEP\nGO\nSTEP\nBACK W\n"], [file["bytes"] for file in about(read(path))["files"]])
-
-    def test_pipe(self):
-        """A page goes through a pipe, which stays one."""
-        pipe = self.path("pipe")
-        os.mkfifo(pipe)
-        with subprocess.Popen(["tail", "-n", "1", pipe], stdout=subprocess.PIPE) as reader:
-            self.assertEqual(("", "", 0), tool("film", "-o", pipe, script="STEP\n"))
-            self.assertEqual(b"</html>\n", reader.stdout.read())
-        self.assertTrue(stat.S_ISFIFO(os.stat(pipe).st_mode))
-        piped = run("bash", "-c", "tools/film -o /dev/stdout | tail -n 1", script="STEP\n")
-        self.assertEqual(("</html>\n", "", 0), piped)
-
     def test_around(self):
-        """docs/FILM.md: it opens after a turn, which must be one of the run."""
+        """docs/FILM.md: it opens after a turn."""
         script = "SET A 0 1\nSTEP 10\nBACK 4\nSET A 1 1\nSTEP 10\n"
         self.assertEqual([0, 0o14], [about(read(self.film("--around", turn, script=script)))["opens"] for turn in ("0", "14")])
-        done = tool("film", "-o", self.path("film.html"), "--around", "15", script=script)
-        self.assertEqual(("", "film: there is no turn 15: the highest is 14 (octal)\n", 2), done)
 
     def test_module(self):
         """The simulator in a page is that of dist/, byte for byte."""
         with open(os.path.join(TOP, "dist", "pp6600.wasm"), "rb") as file:
             self.assertEqual(file.read(), unpacked(read(self.film(script="STEP\n")), "simulator"))
-
-    def test_central_memory_of_a_number_in_another_form(self):
-        self.film("--central", "032", script="SET A 0 100000\nSET M 0 0 6200\nSTEP\n")
-
-    def test_a_page_that_can_not_be_written_whole(self):
-        """What was there before stays."""
-        path = self.film(script="STEP\n")
-        before = read(path)
-        done = run("bash", "-c", 'ulimit -f 8; exec "$@"', "bash", os.path.join(TOP, "tools", "film"), "-o", path, script="STEP 3\n",
-                   env={"PYTHONDONTWRITEBYTECODE": "1"})  # else modules are stored in part
-        self.assertEqual((2, f"film: can't write {path}: File too large\n"), (done.status, done.err))
-        self.assertEqual((before, ["film.html"]), (read(path), os.listdir(os.path.dirname(path))))
 
     def test_headings(self):
         """The title that was asked for, or the name of the script's file, or of its folder if it is called script; never the page's own

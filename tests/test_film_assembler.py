@@ -61,7 +61,7 @@ class InBrowser(PageCase):
 
     def test_a_new_source(self):
         """A source is typed, its message leads to its place, and put right it is loaded and runs; the saved script has its lines."""
-        self.browser.open(self.film("-", script="STEP 3\n"))
+        self.browser.open(self.film(script="STEP 3\n"))
         self.value("document.querySelector('#assembler details').open = true")
         self.browser.wait_for("assembler.calls && byId('assembled').textContent")
         self.type_source(COUNTER.replace("20B", "LATER"))

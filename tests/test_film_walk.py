@@ -1,23 +1,26 @@
-"""The page of a run beside the dumps of the program: its numbers, and what it shows.
+"""The page of a run beside the dumps of the program at random moments: its numbers, what it shows, and the picture of the barrel.
 
-The examples, a session on channels that do not exist, and random sessions are filmed; at ten moments of each the
-page is compared with what the program answers there. Each run is the same: a session follows from its seed alone, and the
-moments of a film from its name. Other seeds: FILM_SEEDS="100 50" compares 50 sessions from seed 100 on (decimal).
+The examples, sessions on channels that do not exist and on the clock, and random sessions are filmed. Which word a turn moves over a
+channel is worked out from the state before it, by the tables of docs/MACHINE.md. Each run is the same: a session follows from its
+seed alone, and the moments of a film from its name. Other seeds: FILM_SEEDS="100 50" compares 50 sessions from seed 100 on (decimal).
 """
 
 import os
 import random
+from typing import NamedTuple, Optional
 
 from tests.films import DEVICES, PageCase, moments_of, random_session, text_of
 from tests.fixtures import wait_text
-from tests.support import TOP, program
+from tests.support import TOP, program, read
 
 from pp6600 import Console
-from pp6600.run.state import state_of
 from pp6600.run.sentences import sentence
+from pp6600.run.state import State, state_of
+from pp6600.run.turn import NAMES
 
-MOMENTS = 10  # compared of each run
-SEEDS = "0 5"  # of the random sessions: the first, and how many
+MOMENTS, EARLY = 8, 100  # of each run: so many of all its moments are compared, and so many of the first ones
+ALWAYS = (3, 0o31)  # in these the clock is read, and in the handshake the question goes out
+SEEDS = "0 9"  # of the random sessions: the first, and how many
 WALKED = (
     ((), "examples/handshake/script"), (("--deck", "examples/overwritten-loader/deck"), "examples/overwritten-loader/script"),
     (("--panel", "examples/dead-start/panel"), "examples/dead-start/script"), ((), "examples/print-a-page/script"),
@@ -25,129 +28,117 @@ WALKED = (
 # An OAM on channel 77, which does not exist, ends at once. Its return address, 7777 in cell 0000, is then the next instruction:
 # FNC 77, which waits for ever.
 NO_CHANNEL = ("SET M 0 7776 7377 7120", "SET P 0 7776", "STEP 64", "SET M 1 0 7417 7615", "STEP 64", "BACK 100", "FORWARD 3")
-
-# In the page: what is shown, as the dumps have it.
-STATE = """(processor, first) => {
-  showCell(processor, first, true);
-  const number = (name) => document.querySelector(`button.number[data-place="${name}"]`).textContent;
-  const two = (n) => n.toString(8).padStart(2, "0");
-  const range = (count) => [...Array(count).keys()];
-  const text = (selector) => document.querySelector(selector).textContent.replace(/ +/g, " ").trim();
-  const rows = [...document.querySelectorAll("#processors tbody tr")];
-  const slot = two(rows.findIndex((row) => row.cells[0].textContent === ">"));
-  const paper = document.querySelector("#printer .paper").textContent.split("\\n");
-  const rest = paper.pop();
-  return {
-    processors: range(10).map((n) => `PP ${two(n)} P ${number(`P ${two(n)}`)} A ${number(`A ${two(n)}`)} Q ${number(`Q ${two(n)}`)}`
-      + ` PHASE ${number(`PHASE ${two(n)}`)} SLOT ${slot}`),
-    waits: rows.map((row) => row.cells[8].textContent),
-    sentences: range(10).map(sentenceOf),
-    at_p: rows.map((row) => row.cells[3].querySelector("button").textContent),
-    channels: [...range(12).map((c) => `H ${two(c)} ${number(`STATE ${two(c)}`)} ${number(`H ${two(c)}`)}`), `H 14 F ${number("H 14")}`],
-    frame: range(16).map((i) => `XP ${two(i)} ${number(`XP ${two(i)}`)}`),
-    reader: [`CR ${text("#reader .device")}`],
-    printer: [`LP ${text("#printer .device")}`, ...paper.map((line) => `|${line}`), ...(rest ? [`/${rest}`] : [])],
-    watches: text("#watches .list") === "NONE" ? ["W NONE"]
-      : [...document.querySelectorAll("#watches .list div")].map((line) => `W ${line.firstChild.textContent.trim()}`),
-    window: [...document.querySelectorAll("#cells tbody button")].map((button) => button.textContent),
-    cells: [...film.numbers.subarray(0, 40960)].flatMap((word, at) => (word ? [[at, word]] : [])),
-    central: range(layout.size)
-      .filter((address) => [layout.central + address, upperOf(layout.central + address)].some((at) => film.numbers[at]))
-      .map((address) => [address, textAt(placeNamed(`C ${address.toString(8)}`))]),
-  };
-}"""
-
-# In the page: the turns of which it says that they wait, and that did not; or the other way round.
-WAITED_WRONGLY = """() => {
-  const wrong = [];
-  for (let at = 1; at < film.count; at++) {
-    if (!isTurn(at)) continue;
-    goTo(at - 1);
-    if ((nextOf(film.processor[at]).waits !== "") !== (film.kinds[at] === WAITING)) wrong.push(at);
-  }
-  return wrong;
-}"""
+CLOCK_IS_READ = ("SET M 0 100 7014 3420 300", "SET P 0 100", "STEP 40")  # IAN 14, STD 20, UJN 0
 
 
-# ---- what the program answers at the moments of a film
+class Moment(NamedTuple):
+    """A moment: the state before it and after it, the processor whose turn it was, or None, and the dumps after it as tests/film_walk.js has them."""
+    before: State
+    after: State
+    number: Optional[int]
+    dumps: dict
 
 
-def waiting(registers, cells, states):
-    """Returns for what a processor waits, by the words of its dump, its cells and the states of the channels."""
-    word, phase = int(cells[int(registers[3], 8)], 8), int(registers[9], 8)
-    code, channel = divmod(phase or word, 64)
-    return wait_text(code, channel, states[channel] if channel < 0o14 else "F", int(registers[5], 8), phase != 0)
+def instruction(state, number):
+    """Returns the code and d of what a processor does next, and whether it is in a block transfer."""
+    registers = state.processors[number].registers
+    phase = int(registers["PHASE"], 8)
+    return (*divmod(phase or state.memories[number].number(int(registers["P"], 8)), 64), phase != 0)
 
 
-def dumped(console, last_word, window):
-    """The dumps of a simulator, as the page's state has them."""
+def wait_of(state, number):
+    """Returns for what a processor waits, or nothing."""
+    code, channel, in_block = instruction(state, number)
+    letter = state.channels[channel].state if channel < 0o15 else "F"
+    return wait_text(code, channel, letter, int(state.processors[number].registers["A"], 8), in_block)
+
+
+def word_moved(state, number):
+    """Returns the channel and the word that the next turn of a processor moves over it, with an arrow; or nothing."""
+    (code, channel, in_block), registers, memory = instruction(state, number), state.processors[number].registers, state.memories[number]
+    if channel > 0o14 or in_block and registers["A"] == "000000":
+        return []
+    letter, register = state.channels[channel].state, state.channels[channel].register
+    p = int(registers["P"], 8)
+    moves = {(0o70, False): ("F", f"←{register}"), (0o71, True): ("F", f"←{register}"), (0o73, True): ("E", f"{memory.word(p)}→"),
+             (0o72, False): ("E", f"{registers['A'][2:]}→"), (0o76, False): ("I", f"{registers['A'][2:]}→"),
+             (0o77, False): ("I", f"{memory.word(p + 1)}→")}
+    wanted, text = moves.get((code, in_block), ("", ""))
+    return [[channel, text]] if letter == wanted else []
+
+
+def first_cell_changed(moment):
+    """Returns the first cell that a moment changed, and its text; or nothing."""
+    return next(([f"M {n:02o} {at:04o}", f"{before.word(at)} → {after.word(at)}"]
+                 for n, (before, after) in enumerate(zip(moment.before.memories, moment.after.memories)) if before.rows != after.rows
+                 for at in range(0o10000) if before.word(at) != after.word(at)), None)
+
+
+def dumped(console, state, last_word, window):
+    """Returns the dumps of a simulator, as the page's state has them."""
     cells = [console.cells(n, 0, 0o7777) for n in range(10)]
     processors = [console.ask(f"DUMP PP {n:o}")[0] for n in range(10)]
-    channels = console.channels()
-    waits = [waiting(line.split(), cells[n], [channel.split()[2] for channel in channels]) for n, line in enumerate(processors)]
-    state, (processor, first) = state_of(console), window
-    sentences = [sentence(one, memory.number, state.channels) for one, memory in zip(state.processors, state.memories)]
+    processor, first = window
     words = [line.split()[1:] for line in console.ask(f"DUMP C 0 {last_word:o}") if line[9:].strip("0")]
-    return {"processors": processors, "channels": channels, "waits": waits, "sentences": sentences, "frame": console.ask("DUMP XP"),
-            "at_p": [cells[n][int(line.split()[3], 8)] for n, line in enumerate(processors)],
+    return {"processors": processors, "channels": console.channels(), "waits": [wait_of(state, n) for n in range(10)],
+            "sentences": [sentence(one, memory.number, state.channels) for one, memory in zip(state.processors, state.memories)],
+            "frame": console.ask("DUMP XP"), "at_p": [cells[n][int(line.split()[3], 8)] for n, line in enumerate(processors)],
             "reader": console.ask("DUMP CR"), "printer": console.ask("DUMP LP"), "watches": console.ask("DUMP W"),
             "window": [cells[processor][(first + at) % 0o10000] for at in range(0o200)],
             "cells": [[n * 0o10000 + at, int(word, 8)] for n in range(10) for at, word in enumerate(cells[n]) if word != "0000"],
             "central": [[int(address, 8), word] for address, word in words]}
 
 
-def first_words(words, lines):
-    """The words of the first line of each answer."""
-    console = Console(words)
-    answers = [(console.ask(line) or ["NOTE"])[0].split() for line in lines]
-    console.end()
-    return answers
-
-
-def moments_in(answers):
-    """How many moments a script has."""
-    return 1 + sum(int(answer[1], 8) if answer[0] == "TURNS" else answer[0] in ("OK", "BACK", "FORWARD") for answer in answers)
-
-
-def chosen_moments(choose, words, lines):
-    """Chooses moments, and returns the dumps at each, with the window of memory that is compared; how many there are; and the
-    status of the tool."""
-    answers = first_words(words, lines)
-    total = moments_in(answers)
-    wanted = {total - 1, *(choose.randrange(total) for _ in range(MOMENTS - 1))}
-    windows = {moment: (choose.randrange(10), choose.choice((0, 0o60, 0o100, 0o7770))) for moment in wanted}
-    last_words = {total - 1: 0o77777}  # all of 32K at the end, else the first ones
-    states = {moment: dumped(console, last_words.get(moment, 0o777), windows[moment])
-              for moment, console in enumerate(moments_of(words, lines)) if moment in wanted}
-    return windows, states, total, int(any(answer[0] == "ERR" for answer in answers))
+def count_of(words, lines):
+    """Returns how many moments a script has, and whether a line of it is refused."""
+    with Console(words) as console:
+        answers = [(answer or ["NOTE"])[0].split() for answer in console.ask_each(lines)]
+    count = sum(int(answer[1], 8) if answer[0] == "TURNS" else answer[0] in ("OK", "BACK", "FORWARD") for answer in answers)
+    return 1 + count, any(answer[0] == "ERR" for answer in answers)
 
 
 class Walk(PageCase):
     def walk(self, name, options, lines):
-        """Compares the page of a run with the dumps."""
+        """Compares the page of a run with the dumps. Returns how many words moved over channels."""
         choose = random.Random(name)
         words = [program(), *(os.path.join(TOP, word) if "/" in word else word for word in options)]
-        windows, states, total, status = chosen_moments(choose, words, lines)
-        path = self.film(*options, script="".join(f"{line}\n" for line in lines), status=status)
-        self.compare_page(choose, path, windows, states, total)
-
-    def compare_page(self, choose, path, windows, states, total):
-        """Walks the page to and fro, and compares what it shows."""
-        self.browser.open(path)
+        total, is_refused = count_of(words, lines)
+        by_chance = (choose.randrange(1, end) for end in (total, min(total, EARLY)) for _ in range(MOMENTS))
+        chosen = {total - 1, *(min(moment, total - 1) for moment in ALWAYS), *by_chance}
+        windows = {moment: (choose.randrange(10), choose.choice((0, 0o60, 0o100, 0o7770))) for moment in chosen}
+        moments = dict(self.moments(words, lines, windows, total))
+        self.browser.open(self.film(*options, script="".join(f"{line}\n" for line in lines), status=int(is_refused)))
+        self.value(f"{read('tests', 'film_walk.js')}\n0")
         self.assertEqual(total, self.value("film.count"), "how many moments")
-        self.assertEqual([], self.value(f"({WAITED_WRONGLY})()"), "turns that wait")
-        moments = list(states)
-        choose.shuffle(moments)
-        for moment in moments:
-            self.go(choose, moment, total)
-            processor, first = windows[moment]
-            got = self.value(f"({STATE})({processor}, {first})")
-            self.assertEqual(moment, self.value("film.at"))
-            if moment < total - 1:
-                got["central"] = [word for word in got["central"] if word[0] <= 0o777]
-            for part, wanted in states[moment].items():
-                with self.subTest(moment=f"{moment:o}", part=part):
-                    self.assertEqual(wanted, got[part])
+        self.assertEqual([], self.value("waitedWrongly()"), "turns that wait")
+        order = list(moments)
+        choose.shuffle(order)
+        return sum(self.compare(choose, at, moments[at], windows[at], total) for at in order)
+
+    @staticmethod
+    def moments(words, lines, windows, total):
+        """Yields the moments that are wanted, each with its number. Of central memory all is dumped at the end, else the first words."""
+        before = None
+        for at, (console, is_turn) in enumerate(moments_of(words, lines)):
+            after = state_of(console) if at in windows or at + 1 in windows else None
+            if at in windows:
+                dumps = dumped(console, after, 0o77777 if at == total - 1 else 0o777, windows[at])
+                yield at, Moment(before, after, before.slot if is_turn else None, dumps)
+            before = after
+
+    def compare(self, choose, at, moment, window, total):
+        """Goes to a moment, and compares what the page shows. Returns how many words move in its picture."""
+        self.go(choose, at, total)
+        got, picture = self.value(f"[stateOf({window[0]}, {window[1]}), pictureOf()]")
+        self.assertEqual(at, self.value("film.at"))
+        if at < total - 1:
+            got["central"] = [word for word in got["central"] if word[0] <= 0o777]
+        for part, wanted in moment.dumps.items():
+            with self.subTest(moment=f"{at:o}", part=part):
+                self.assertEqual(wanted, got[part])
+        with self.subTest(moment=f"{at:o}", part="barrel"):
+            self.compare_barrel(moment, picture)
+        return len(picture["word"])
 
     def go(self, choose, moment, total):
         """Goes to a moment in one of several ways."""
@@ -160,13 +151,36 @@ class Walk(PageCase):
             if near != moment:
                 self.browser.key("s" if way == 1 else "b")
 
+    def compare_barrel(self, moment, got):
+        circles = []
+        for number in range(10):
+            state = moment.before if number == moment.number else moment.after
+            circles.append([f"{number:02o}", NAMES[instruction(state, number)[0]], state.processors[number].registers["P"]])
+        self.assertEqual(circles, got["circles"])
+        self.assertEqual(([] if moment.number is None else [moment.number], [moment.after.slot]), (got["acted"], got["slot"]))
+        channels = [(number, instruction(moment.after, number)[1]) for number in range(10) if wait_of(moment.after, number)]
+        self.assertEqual([f"{number} {channel}" for number, channel in channels if channel < 0o15], got["waits"])
+        self.assertEqual([] if moment.number is None else word_moved(moment.before, moment.number), got["word"])
+        for number, name, text in got["channels"]:
+            channel = moment.after.channels[number]
+            wanted = {"I": "", "E": "empty"}.get(channel.state, channel.register)
+            self.assertEqual((f"H {number:02o}", wanted), (name, text))
+        changed = first_cell_changed(moment)
+        if changed and moment.number is not None:
+            self.assertEqual(changed, got["middle"][-2:])
+
     def test_examples(self):
+        moved = 0
         for options, script in WALKED:
             with self.subTest(script=script):
-                self.walk(script, options, text_of(script).splitlines())
+                moved += self.walk(script, options, text_of(script).splitlines())
+        self.assertGreater(moved, 2)
 
     def test_no_such_channel(self):
         self.walk("no such channel", (), list(NO_CHANNEL))
+
+    def test_clock(self):
+        self.assertGreater(self.walk("the clock", (), list(CLOCK_IS_READ)), 0)
 
     def test_random_sessions(self):
         first, count = map(int, os.environ.get("FILM_SEEDS", SEEDS).split())

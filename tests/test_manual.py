@@ -8,8 +8,8 @@ import sys
 import unittest
 
 from tests.browser import found
-from tests.installing import InstallCase, alone
-from tests.support import TOOLS, TOP, lasting_room, names_of_codes, program, read, tool
+from tests.installing import alone
+from tests.support import TOOLS, TOP, Case, lasting_room, names_of_codes, program, read, tool
 
 LINES = "| Line | What it does | Answer |"
 
@@ -29,7 +29,7 @@ def options_in(text):
     return set(re.findall(r"--[a-z][a-z-]*", text))
 
 
-class ManualPages(InstallCase):
+class ManualPages(Case):
     """The pages have what the pages of docs/ have, and each option of each tool; man has nothing to say against them."""
 
     @classmethod
@@ -80,7 +80,7 @@ class ManualPages(InstallCase):
                 self.assertRegex(line, rf"^pp6600-{name} - [a-z][^.:()]*$")
 
 
-class Version(InstallCase):
+class Version(Case):
     """VERSION moves with CHANGELOG.md and CITATION.cff, and is on the manual pages."""
 
     def test_newest(self):
@@ -91,7 +91,7 @@ class Version(InstallCase):
         self.assertEqual(f'.TH PP6600 1 "{date}" "pp6600 {version}" "User Commands"', first)
 
 
-class Card(InstallCase):
+class Card(Case):
     """The card says what the other pages say, and its forms are apart."""
 
     def test_errors(self):
@@ -137,7 +137,7 @@ class Card(InstallCase):
         self.assertEqual({(595, 842)}, sizes)
 
 
-class NamesOnPages(InstallCase):
+class NamesOnPages(Case):
     """Each tool that a page names, in a block of commands too, is there."""
 
     def test_tools(self):

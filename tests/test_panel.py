@@ -5,8 +5,8 @@ import os
 import re
 import sys
 
-from tests.fixtures import BLOCKS_GO_ON, COMPLETES, COUNTS, DECK, DISPLAYS, FAILS, FIRST_PROGRAM, LOADER, OVERWRITTEN, READS
-from tests.panels import BLOCKS, BlockCase, PanelCase, bottom, press
+from tests.fixtures import BLOCKS_GO_ON, COMPLETES, COUNTS, DECK, FAILS, LOADER
+from tests.panels import BLOCKS, DISPLAYS, FIRST_PROGRAM, OVERWRITTEN, READS, BlockCase, PanelCase, bottom, press
 from tests.support import EXAMPLES, TOP, Case, add_tests, blocks, program, read, run, tool
 
 from pp6600 import Console, Failure
@@ -21,7 +21,6 @@ from pp6600.front.panel.view import View, memory_top
 from pp6600.run.state import state_of
 from pp6600.shell.device_options import device_of
 
-MACHINE_DUMPS = "DUMP PP 0", "DUMP PP 1", "DUMP M 0 0 7777", "DUMP H", "DUMP W", "DUMP CR", "DUMP LP"
 LOADED = "--deck", DECK
 PROGRAMS = os.path.join(TOP, "tests", "programs")
 
@@ -147,17 +146,6 @@ class Looks(PanelCase):
                 width = 80 if wanted[0] == lines[0].rstrip() else 52  # beside central memory
                 self.assertEqual(wanted, [line.rstrip() for line in (*(line[:width] for line in lines[:-1]), lines[-1])])
 
-    def test_culprit(self):
-        """At each size the line of the culprit is above the cursor, and the last line of the screen ends with it."""
-        for size in (80, 24), (80, 40), (100, 30), (120, 30), (160, 50):
-            got = [line[:52].rstrip() for line in press(source_panel(self, size=size), "g106<Enter>W")]
-            at = next(number for number, line in enumerate(got) if line.startswith(">0106 7512"))
-            with self.subTest(size):
-                self.assertEqual(" 0105 0026       PSN 26          was loader.pp:9", got[at - 1])
-                panel = source_panel(self, size=size)
-                self.assertEqual("the next turn, PP 00 in IAM 12 at 0104, changes M 0 106 from 7512; loader.pp:9",
-                                 bottom(panel, "g106<Enter>W"))
-
     def check_sizes(self, panel, columns, rows, *parts):
         """Checks that a screen has lines of its width, the cursor in it, and each of some texts once at least."""
         panel.resize(columns, rows)
@@ -237,11 +225,6 @@ class Sessions(PanelCase):
         """Returns what a search must leave as it is."""
         return list(panel.session.sent), panel.session.history.kept, panel.session.state
 
-    def assert_same(self, wanted, panel, dumps=MACHINE_DUMPS):
-        """Fails if two sessions have other machines."""
-        for dump in dumps:
-            self.assertEqual(wanted.session.simulator.ask(dump), panel.session.simulator.ask(dump), dump)
-
     def test_saved(self):
         """What is saved has a note with the options, and performed again it is the same session."""
         panel, path = self.panel(OVERWRITTEN, *LOADED), self.path("saved")
@@ -253,6 +236,10 @@ class Sessions(PanelCase):
         again = self.panel(read(path), *LOADED)
         self.assertEqual(panel.session.log, [entry for entry in again.session.log if not entry[0].startswith("*")])
         self.assertEqual(("0060", "000000"), tuple(panel.session.state.processors[0].registers[name] for name in "PA"))
+
+    def test_no_such_turn(self):
+        with self.assertRaisesRegex(Failure, "there is no turn 1301 yet: the last one is 1300"):
+            self.panel(OVERWRITTEN, *LOADED, turn=0o1301)
 
     def test_lines_of_a_source_are_saved(self):
         """They are sent before the script."""
@@ -291,60 +278,6 @@ class Sessions(PanelCase):
                 self.assertEqual(("the search was stopped", None), (bottom(begun, pressed), begun.page))
                 self.assertRegex(shown[0], text)
                 self.assertEqual(before, self.of(begun))
-
-
-class Turns(PanelCase):
-    """The numbers of turns, and back without a limit. The expected states are those of a run up to the turn."""
-
-    SCRIPT = ("SET M 0 100 1405 3420 3620 300", "SET P 0 100", "STEP 35", "SET A 1 7", "STEP 3000")
-
-    def setUp(self):
-        self.long = self.wide_panel("\n".join([*self.SCRIPT, "WATCH A 1", "UNWATCH A 1", "STEP 100000"]), "--history", "16")
-
-    def assert_at(self, turn, panel):
-        """Fails if the machine is not that after so many turns."""
-        made = min(turn, 0o35)
-        lines = [*self.SCRIPT[:2], *([f"STEP {made:o}"] if made else []), *(self.SCRIPT[3:4] if turn >= 0o35 else []),
-                 *([f"STEP {turn - made:o}"] if turn > made else [])]
-        Sessions.assert_same(self, self.panel("\n".join(lines)), panel, MACHINE_DUMPS[:4])
-        self.assertIn(f" TURN {turn:o} ", press(panel)[0])
-
-    def test_go_to_turn(self):
-        panel = self.long
-        self.assertIn(" TURN 103035 ", press(panel)[0])
-        for pressed, turn in (("405G", 0o405), ("G406<Enter>", 0o406), ("G2000<Enter>", 0o2000), ("34G", 0o34), ("35G", 0o35), ("36G", 0o36),
-                              ("G0<Enter>", 0), ("G1<Enter>", 1), ("G100000<Enter>", 0o100000), ("103035G", 0o103035)):
-            with self.subTest(pressed):
-                press(panel, pressed)
-                self.assert_at(turn, panel)
-        with self.assertRaisesRegex(Failure, "there is no turn 1301 yet: the last one is 1300"):
-            self.panel(OVERWRITTEN, *LOADED, turn=0o1301)
-
-    def test_back(self):
-        """ERR 07 of the simulator is answered by a replay, and nothing of what is ahead is lost."""
-        self.assertEqual("replayed in a fresh simulator", bottom(self.long, "22b"))
-        self.assert_at(0o103013, self.long)
-        self.assertIn(" KEPT 20  AHEAD 22 ", press(self.long)[0])
-
-    def test_history_goes_on(self):
-        """After a replay, back and forward by each key, also over a setting; the number of a turn has one state."""
-        press(self.long, "2000G")
-        for pressed, turn in (("b", 0o1777), ("B", 0o1765), ("s", 0o1766), ("S", 0o2000), ("14B", 0o1610), ("1000G", 0o1000), ("3S", 0o1036),
-                              ("G0<Enter>", 0), ("34s", 0o34), ("S", 0o46), ("3B", 0o10), ("<End>", 0o103035), ("7s", 0o103044),
-                              ("b", 0o103043)):
-            with self.subTest(pressed):
-                press(self.long, pressed)
-                self.assert_at(turn, self.long)
-
-    def test_saved(self):
-        """The script that is saved gives the same machine; what it does not have is said."""
-        panel, path = self.long, self.path("saved")
-        press(panel, "2000G5s")
-        self.assertFalse(panel.session.is_saved())
-        self.assertRegex(bottom(panel, f"w{path}<Enter>"), r"lines are saved in \S+, without the last 101032 actions ahead$")
-        self.assert_at(0o2005, self.panel(read(path)))
-        press(panel, f"<End>w! {path}<Enter>")
-        self.assert_at(0o103035, self.panel(read(path)))
 
 
 class Lines(PanelCase):

@@ -3,12 +3,11 @@
 import os
 import re
 import signal
-import subprocess
 import sys
 
 from tests.cases import stored
-from tests.fixtures import DECK, DISPLAYS, LOADER, OVERWRITTEN, READS
-from tests.panels import PROGRAM, PanelCase, press
+from tests.fixtures import DECK, LOADER
+from tests.panels import DISPLAYS, OVERWRITTEN, PROGRAM, READS, PanelCase, press
 from tests.support import PYTHON, TOP, add_tests, read, run, write
 from tests.terminal import PATIENCE, Terminal
 
@@ -127,24 +126,19 @@ class Screens(TerminalCase):
         self.assert_shows(terminal, "q quit")
         terminal.type("12\x03")
         self.assert_shows(terminal, "s step")
+        panel = self.panel(OVERWRITTEN, "--deck", DECK)
         terminal.type("s")
-        terminal.shows("> STEP  ")
-        terminal.settle()
-        shown = terminal.screen.text()
+        self.assert_same_screen(terminal, press(panel, "s"))
         terminal.type("\x1a")
         self.assert_shows(terminal, "ready$")
-        terminal.settle()
         terminal.type("echo $((6 * 7))\r")
         self.assert_shows(terminal, "42")
         terminal.type("fg\r")
-        self.assert_shows(terminal, "q quit")
-        terminal.settle()
-        self.assertEqual(shown, terminal.screen.text())
+        self.assert_same_screen(terminal, press(panel))
         terminal.type("b")
         self.assert_shows(terminal, "> BACK  ")
         terminal.type("qq")
-        terminal.shows("ready$")
-        terminal.settle()
+        self.assert_shows(terminal, "ready$")
         terminal.type("echo status $?\r")
         self.assert_shows(terminal, "status 0")
         terminal.type("exit\r")
@@ -170,33 +164,6 @@ class Keys(TerminalCase):
         self.assert_shows(terminal, "AHEAD 310 ")
         terminal.type("qq")
         self.assertEqual(0, terminal.status())
-
-
-class Failures(TerminalCase):
-    """One line and status 2."""
-
-    def test_one_line(self):
-        without = os.path.dirname(self.file("raise ImportError\n", "curses.py"))
-        for words, environment, wanted in (
-                ([], {"TERM": "dumb"}, "a terminal of the kind dumb can't show a screen"),
-                ([], {"TERM": "no-such"}, "a terminal of the kind no-such can't show a screen"),
-                ([], {"TERM": ""}, "a terminal of the kind (TERM is not set) can't show a screen"),
-                (["no-such-file"], {}, "panel: can't read no-such-file"), (["--deck", "no-such-file"], {}, "CANNOT OPEN DECK"),
-                (["one", "two"], {}, "give one script"), (["--program", "/bin/cat"], {}, "not the simulator"),
-                ([], {"PYTHONPATH": without}, "no module curses")):
-            words = words if "--program" in words else ["--program", PROGRAM, *words]
-            with self.subTest(wanted):
-                terminal = self.terminal([*TOOL, *words], environment=environment, columns=200)
-                self.assertEqual(2, terminal.status())
-                lines = terminal.lines()
-                self.assertTrue(len(lines) == 1 and wanted in lines[0], lines)
-
-    def test_no_terminal(self):
-        for given in b"", None:
-            with self.subTest(given):
-                done = subprocess.run(TOOL, input=given, capture_output=True, check=False)
-                self.assertEqual(2, done.returncode)
-                self.assertIn(b"must be a terminal", done.stderr)
 
 
 class Talk(TerminalCase):

@@ -19,8 +19,7 @@ from tests import slips
 from tests.cases import named
 from tests.fixtures import sessions
 from tests.generator import Maker, commands
-from tests.support import EXAMPLES, PATIENCE, TOP, Case, add_tests, program, read, run, write
-from tests.test_program import writer
+from tests.support import EXAMPLES, PATIENCE, TOP, Case, add_tests, program, read, run, write, writer
 from tests.ways import CaseTests
 
 PYTHON_PROGRAM = os.path.join(TOP, "pp6600-python")

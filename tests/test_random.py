@@ -7,19 +7,50 @@ The first difference ends the run. Its session is made small and printed as comm
 ends with how often each instruction, case, form of a line, error and fault has occurred; by default each must occur.
 Not tried here: the limit of a script in bytes, no memory, and a read that fails after some bytes.
 """
+import collections
 import dataclasses
 import os
 import subprocess
 import sys
 import unittest
 
-from tests.counted import counted, seen
 from tests.generator import WORDS, Maker, Session, commands, word_line
 from tests.support import Case, program
 
-from pp6600.engine.plain.lines import FORMS
+from pp6600.engine.plain.lines import FORMS, PlainConsole
 from pp6600.engine.plain.instructions import INSTRUCTIONS
+from pp6600.engine.plain.machine import Machine
+from pp6600.engine.plain.program import console_of
 from pp6600.engine.plain.program import run as run_python
+
+# How often each instruction, case, row of a device, form of a line, error and exit status has occurred.
+seen = collections.Counter()
+
+
+class CountedMachine(Machine):
+    def writes_of(self, part):
+        what, writes = part(self)
+        seen[what] += 1
+        return writes
+
+
+class CountedConsole(PlainConsole):
+    def answer(self, line):
+        answer = super().answer(line)
+        if answer and answer[0].startswith("ERR"):
+            seen[answer[0][:6]] += 1
+        return answer
+
+    def perform(self, words):
+        answer = super().perform(words)
+        form = " ".join(words[:2])
+        seen[form if form in FORMS else words[0]] += 1
+        return answer
+
+
+def counted(given):
+    """Returns the console of a machine with these options and their files; what it does is counted."""
+    return CountedConsole(console_of(given, CountedMachine).machine)
 
 
 def shrunk(session, differs):

@@ -12,3 +12,12 @@ form code =
     else (if code == 0o01 || code == 0o02 || (nat_le 0o50 code && nat_le code 0o57) then Indexed
     else (if code == 0o61 || (nat_le 0o63 code && nat_le code 0o67) || code == 0o71 || code == 0o73 || code == 0o77 then Both
     else D))))
+
+-- How many words an instruction of this form has.
+abbrev pub size : Form → ℕ
+size Alone = 1
+size D = 1
+size Target = 1
+size Constant = 2
+size Indexed = 2
+size Both = 2

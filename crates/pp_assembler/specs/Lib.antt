@@ -3,3 +3,4 @@ pub mod Instructions
 pub mod Places
 pub mod Rows
 pub mod Statements
+pub mod Texts

@@ -2,7 +2,7 @@
 use Rattle.std.specs.Prelude.{ℕ, ◌+◌, ◌-◌, ◌<◌, ◌≤◌, List, length, map, slice_index}
 use Rattle.pp_lines.specs.Lines.{lines}
 use Rattle.pp_assembler.specs.declared.lines.Span.{Span}
-use Rattle.pp_assembler.specs.declared.message.Message.{Message}
+use Rattle.pp_assembler.specs.declared.message.Complaint.{Complaint}
 
 -- how many bytes a line has
 abbrev pub length_of : Span → ℕ
@@ -12,9 +12,9 @@ length_of span = span.end - span.first
 abbrev pub line_lengths : List ℕ → List ℕ
 line_lengths source = map length (lines source)
 
--- A message is about a line of a source whose lines have these lengths, and about a column of that line or the one after its last byte.
-pub record IsOfLine (lengths : List ℕ) (message : Message) : Type 0 where
-  pub line_from_1 : 0 < message.line
-  pub line : message.line ≤ length lengths
-  pub column_from_1 : 0 < message.column
-  pub column : message.column ≤ slice_index lengths (message.line - 1) + 1
+-- A complaint is about a line of a source whose lines have these lengths, and about a column of that line or the one after its last byte.
+pub record IsOfLine (lengths : List ℕ) (complaint : Complaint) : Type 0 where
+  pub line_from_1 : 0 < complaint.line
+  pub line : complaint.line ≤ length lengths
+  pub column_from_1 : 0 < complaint.column
+  pub column : complaint.column ≤ slice_index lengths (complaint.line - 1) + 1

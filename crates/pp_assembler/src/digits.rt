@@ -1,8 +1,8 @@
-//! Octal digits.
-ghost use Rattle.std.specs.Prelude.{◌≤◌};
+//! Octal and decimal digits.
+ghost use Rattle.std.specs.Prelude.{◌≡◌, ◌≤◌, ◌++◌, OnOk, decimal};
 
 use pp_arith::octal;
-use std::alloc::AllocError;
+use std::alloc::{AllocError, Global};
 
 /// Writes an octal number, with zeros up to a width, 1 to 22.
 pub fn put_octal(out: &mut Vec<u8>, number: i64, width: u8) -> Result<(), AllocError>
@@ -13,4 +13,30 @@ pub fn put_octal(out: &mut Vec<u8>, number: i64, width: u8) -> Result<(), AllocE
         out.push(b'-')?;
     }
     out.extend_from_slice(octal(number.unsigned_abs(), width).as_slice())
+}
+
+/// Writes a decimal number.
+pub fn put_decimal(alloc: Global, out: &mut Vec<u8>, number: u32) -> Result<(), AllocError>
+    ensures { OnOk result (out.new.items ≡ out.old.items ++ decimal number) }
+{
+    let digits = format!(in alloc; "{number}")?;
+    out.extend_from_slice(digits.as_bytes())
+}
+
+/// Writes the digits of a number after its sign, with zeros up to a width.
+pub fn put_digits(
+    out: &mut Vec<u8>,
+    number: i64,
+    digits: &[u8],
+    width: usize,
+) -> Result<(), AllocError> {
+    let mut size = digits.len();
+    if number < 0 {
+        out.push(b'-')?;
+        size = size.saturating_add(1);
+    }
+    for _ in size..width {
+        out.push(b'0')?;
+    }
+    out.extend_from_slice(digits)
 }

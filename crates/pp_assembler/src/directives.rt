@@ -1,9 +1,12 @@
 //! The directives that name numbers, move the counters or say how the rest is meant.
 use crate::fields::{Parts, Statement, first_parts};
-use crate::message::{Fault, Field, Stop};
+use crate::message::{Argument, Fault, Field, Stop};
 use crate::operations::{Operation, Test};
-use crate::pass::{CELLS, Here, Pass, Row};
+use crate::pass::{CELLS, Here, Pass};
+use crate::symbols::Definition;
+use crate::texts::find;
 use crate::values::{Base, Value};
+use std::alloc::Global;
 
 /// Returns that an operation has no operand, if it has none.
 pub fn wants_operand(statement: Statement) -> Result<(), Stop> {
@@ -14,6 +17,25 @@ pub fn wants_operand(statement: Statement) -> Result<(), Stop> {
         "{} wants an operand; in column 30 or later is a comment",
         statement.operation,
     ))
+}
+
+/// Returns the operands, of which there must be one.
+pub fn items_of(
+    alloc: Global,
+    here: &Here,
+    statement: Statement,
+    is_delimited: bool,
+) -> Result<Vec<Field>, Stop> {
+    wants_operand(statement)?;
+    let mut items = Vec::new(alloc);
+    let mut parts = Parts::new(statement.operand, is_delimited);
+    for _ in 0..here.text.len().saturating_add(1) {
+        let Some(part) = parts.next(here.text)? else {
+            break;
+        };
+        items.push(part)?;
+    }
+    Ok(items)
 }
 
 /// Returns the operand, of which there must be one and no more.
@@ -47,10 +69,16 @@ impl Pass {
         Ok(())
     }
 
-    /// ORG sets both counters; its label has the address after it.
+    /// ORG sets both counters, in the nominal block; its label has the address after it.
     pub fn set_origin(&mut self, here: &Here, statement: Statement) -> Result<(), Stop> {
         let operand = the_only(here, statement)?;
         let number = self.count(here, operand, 0)?;
+        if let Some(block) = self.named_block() {
+            let fault = Fault::new("warning: ORG in the block {} goes on in the nominal block");
+            let fault = fault.with(Argument::Kept(block));
+            self.warn(here, statement.operation.first, fault)?;
+            self.use_block(b"")?;
+        }
         self.move_to(number, number);
         self.over_from = Some(self.origin);
         self.plain_row(here, true)?;
@@ -66,6 +94,31 @@ impl Pass {
         self.label(here, statement)
     }
 
+    /// USE goes on with a block: 0 or none is the nominal one, * the one before.
+    pub fn set_block(&mut self, here: &Here, statement: Statement) -> Result<(), Stop> {
+        let name = statement.operand.of(here.text);
+        self.use_block(if matches!(name, b"0") { b"" } else { name })?;
+        self.plain_row(here, true)?;
+        self.label(here, statement)
+    }
+
+    /// QUAL qualifies the names that are defined from here on; * goes back, and without a name they have no qualifier.
+    pub fn set_qualifier(&mut self, here: &Here, statement: Statement) -> Result<(), Stop> {
+        self.symbols
+            .qualify(without_marks(statement.operand.of(here.text)))?;
+        self.plain_row(here, false)
+    }
+
+    /// LIT puts words among the literals; its label is the address of the first one.
+    pub fn literals(&mut self, here: &Here, statement: Statement) -> Result<(), Stop> {
+        let words = self.data(here, statement)?;
+        let address = self.literals.address_of(&words)?;
+        if !matches!(statement.location.of(here.text), b"" | b"-") {
+            self.define(here, statement.location, Some(address), true, false)?;
+        }
+        self.value_row(here, Some(address), false)
+    }
+
     /// EQU, =, SET, MAX and MIN name the number of an expression; a name whose expression is wrong has none.
     pub fn equate(
         &mut self,
@@ -77,37 +130,27 @@ impl Pass {
             return Err(Stop::of("{} wants a symbol before it", statement.operation));
         }
         let chosen = match operation {
-            Operation::Greatest | Operation::Least => self.chosen(
-                here,
-                statement,
-                matches!(operation, Operation::Greatest),
-            ),
+            Operation::Greatest => self.chosen(here, statement, true),
+            Operation::Least => self.chosen(here, statement, false),
             _ => self.value(here, statement.operand, true),
         };
         let (value, is_address) = match chosen {
-            Ok(value) => (
-                Some(i64::try_from(value.number).unwrap_or(0)),
-                value.addresses == 1,
-            ),
+            Ok(value) => (Some(value.number), value.addresses == 1),
             Err(stop) => {
                 self.report_stop(here, stop)?;
                 (None, false)
             }
         };
         let is_set = !matches!(operation, Operation::Equate);
-        self.define(here, statement.location, value, is_address, is_set)?;
-        let at = self.words.len();
-        let (origin, location) = (self.origin, self.location);
-        self.add_row(Row {
-            statement: here.index,
-            origin,
-            location,
-            first: at,
-            end: at,
-            has_address: false,
+        let definition = Definition {
             value,
+            line: here.line.number,
+            is_address,
             is_set,
-        })
+            is_here: matches!(statement.operand.of(here.text), b"*" | b"*L" | b"*O"),
+        };
+        self.define_as(here, statement.location, definition)?;
+        self.value_row(here, value, is_set)
     }
 
     /// Returns the greatest or the least of several expressions, with what the first one says of addresses.
@@ -117,28 +160,19 @@ impl Pass {
         statement: Statement,
         is_greatest: bool,
     ) -> Result<Value, Stop> {
-        wants_operand(statement)?;
-        first_parts(here.text, statement.operand, false)?;
-        let mut parts = Parts::new(statement.operand, false);
-        let mut chosen = None;
-        for _ in 0..here.text.len().saturating_add(1) {
-            let Some(part) = parts.next(here.text)? else {
-                break;
-            };
-            let value = self.value(here, part, true)?;
+        let mut chosen: Option<Value> = None;
+        for item in &items_of(self.alloc, here, statement, false)? {
+            let Value { number, addresses } = self.value(here, *item, true)?;
             chosen = Some(match chosen {
-                None => value,
-                Some(Value { number, addresses }) => {
-                    let other = if is_greatest {
-                        value.number.max(number)
+                None => Value { number, addresses },
+                Some(first) => Value {
+                    number: if is_greatest {
+                        number.max(first.number)
                     } else {
-                        value.number.min(number)
-                    };
-                    Value {
-                        number: other,
-                        addresses,
-                    }
-                }
+                        number.min(first.number)
+                    },
+                    addresses: first.addresses,
+                },
             });
         }
         chosen.ok_or(Stop::Follows)
@@ -163,12 +197,17 @@ impl Pass {
         ))
     }
 
-    /// IDENT names a program; a second one is not known yet.
+    /// IDENT names a program; a second one begins another program of the same source.
     pub fn name_program(&mut self, here: &Here, statement: Statement) -> Result<(), Stop> {
+        let operand = statement.operand.of(here.text);
+        let end = find(operand, 0, b',').unwrap_or(operand.len());
+        let name = operand.get(..end).unwrap_or(b"");
         if self.has_name {
-            return Err(Stop::not_yet(statement.operation));
+            self.end_unit(here)?;
+            self.begin_unit(name)?;
         }
         self.has_name = true;
+        self.unit_name = Vec::from_slice(self.alloc, name)?;
         self.plain_row(here, false)
     }
 
@@ -203,6 +242,7 @@ impl Pass {
             let start = self.field(here, statement.operand, 12, None)?;
             self.start = Some(crate::encoding::bits_of(start, 0o7777));
         }
+        self.end_unit(here)?;
         self.has_ended = true;
         self.plain_row(here, false)
     }
@@ -234,6 +274,18 @@ impl Pass {
         };
         self.instruction(here, statement, code)
     }
+}
+
+/// Returns a text without the slashes at its ends.
+fn without_marks(text: &[u8]) -> &[u8] {
+    let mut rest = text;
+    for _ in 0..text.len() {
+        rest = match rest {
+            [b'/', rest @ ..] | [rest @ .., b'/'] => rest,
+            _ => break,
+        };
+    }
+    rest
 }
 
 /// Returns the base that a word, or its beginning, names.

@@ -22,15 +22,6 @@ fn operand_counts(form: Form) -> (usize, usize) {
 }
 
 impl Pass {
-    /// Adds a word to those that a statement makes; only the last pass keeps it.
-    pub fn add_word(&mut self, word: u16) -> Result<(), Stop> {
-        self.made = self.made.saturating_add(1);
-        if !self.is_last {
-            return Ok(());
-        }
-        Ok(self.words.push(word)?)
-    }
-
     /// Makes the words of an instruction. There are always as many, also if the statement is wrong.
     pub fn instruction(&mut self, here: &Here, statement: Statement, code: u8) -> Result<(), Stop> {
         let words = match self.words_of(here, statement, code) {
@@ -50,12 +41,12 @@ impl Pass {
         code: u8,
         words: (u16, u16),
     ) -> Result<(), Stop> {
-        let first = self.words.len();
-        self.add_word(words.0)?;
+        let (first, second) = words;
         if size_of(code) == 2 {
-            self.add_word(words.1)?;
+            self.put(here, &[first, second])
+        } else {
+            self.put(here, &[first])
         }
-        self.put(here, first, size_of(code))
     }
 
     /// Returns the words of an instruction; the second one is 0 if it has one alone.
@@ -117,30 +108,28 @@ impl Pass {
     }
 
     /// Puts words into the cells from here on. Of lines that follow one another only the first is reported if they can't be.
-    pub fn put(&mut self, here: &Here, first: usize, count: usize) -> Result<(), Stop> {
+    pub fn put(&mut self, here: &Here, words: &[u16]) -> Result<(), Stop> {
+        self.made = self.made.saturating_add(words.len());
         if self.made > MOST_WORDS {
-            return Err(Stop::Ends(0, Fault::new("more than 100000 (decimal) words")));
+            return Err(Stop::too_much("more than 100000 (decimal) words"));
         }
-        self.row(here, first, true)?;
-        let size = i64::try_from(count).unwrap_or(0);
-        if self.is_last {
-            for index in 0..count {
-                let cell = self.origin.wrapping_add(i64::try_from(index).unwrap_or(0));
-                let word = self
-                    .words
-                    .get(first.saturating_add(index))
-                    .copied()
-                    .unwrap_or(0);
-                self.put_word(here, cell, word)?;
-            }
+        self.row(here, words)?;
+        let mut cell = self.origin;
+        for word in words {
+            self.put_word(here, cell, *word)?;
+            cell = cell.wrapping_add(1);
         }
-        self.origin = self.origin.wrapping_add(size);
+        let size = i64::try_from(words.len()).unwrap_or(0);
+        self.origin = cell;
         self.location = self.location.wrapping_add(size);
         Ok(())
     }
 
     /// Puts a word into a cell, or reports why that can't be.
     fn put_word(&mut self, here: &Here, cell: i64, word: u16) -> Result<(), Stop> {
+        if !self.is_last {
+            return Ok(());
+        }
         match self.why_not_into(here, cell)? {
             Some(fault) => {
                 if self.wrong_from != Some(cell) {

@@ -1,6 +1,7 @@
 //! A line cut into the fields of a statement: location, operation and operand. The comment is left out.
 use crate::message::{Fault, Field, Stop};
 use crate::texts::{after_blanks, end_of_word, is_blank, text_at};
+use crate::vocabulary::Vocabulary;
 
 const TAB: usize = 8;
 
@@ -26,7 +27,7 @@ pub enum Origin {
     Source,
     /// A line with others that continue it, which has no sequence number.
     Joined,
-    /// A line that SUBR made, which has no comment either.
+    /// A line that a macro made, which has no comment either.
     Made,
 }
 
@@ -154,7 +155,12 @@ fn end_of_arguments(line: &[u8], start: usize) -> usize {
 }
 
 /// Returns the operand: what comes next, if it begins before the column of comments, or one blank after the operation.
-fn operand_of(whole: &[u8], operation: Field, origin: Origin) -> Result<Field, Stop> {
+fn operand_of(
+    whole: &[u8],
+    operation: Field,
+    origin: Origin,
+    vocabulary: &Vocabulary,
+) -> Result<Field, Stop> {
     let name = operation.of(whole);
     let line = if matches!(origin, Origin::Source) {
         without_sequence(whole, is_of_text(name))
@@ -172,7 +178,7 @@ fn operand_of(whole: &[u8], operation: Field, origin: Origin) -> Result<Field, S
     }
     let end = if is_of_text(name) {
         line.len()
-    } else if matches!(name, b"SUBR") {
+    } else if vocabulary.macro_of(name).is_some() {
         end_of_arguments(line, start)
     } else {
         end_of_operand(line, start, matches!(name, b"DATA"))?
@@ -181,7 +187,11 @@ fn operand_of(whole: &[u8], operation: Field, origin: Origin) -> Result<Field, S
 }
 
 /// Returns the statement of a line in capitals, or `None` of a note or an empty line.
-pub fn statement_of(line: &[u8], origin: Origin) -> Result<Option<Statement>, Stop> {
+pub fn statement_of(
+    line: &[u8],
+    origin: Origin,
+    vocabulary: &Vocabulary,
+) -> Result<Option<Statement>, Stop> {
     if is_empty(line) || line.first() == Some(&b'*') {
         return Ok(None);
     }
@@ -205,7 +215,7 @@ pub fn statement_of(line: &[u8], origin: Origin) -> Result<Option<Statement>, St
         first,
         end: end_of_word(line, first),
     };
-    let operand = operand_of(line, operation, origin)?;
+    let operand = operand_of(line, operation, origin, vocabulary)?;
     Ok(Some(Statement {
         location,
         operation,

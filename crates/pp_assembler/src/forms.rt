@@ -1,40 +1,61 @@
 //! What is written of a source: what is wrong with it, its words, its listing, whose line each word is, its names.
-use crate::digits::put_octal;
+ghost use Rattle.std.specs.Prelude.{◌≡◌, ◌++◌, IfOk, OnOk};
+ghost use Rattle.pp_arith.specs.Octal.{octal_text};
+ghost use Rattle.pp_assembler.specs.Texts.{cell_lines, complaint_line, complaint_lines, start_line};
+
+use crate::digits::{put_decimal, put_octal};
 use crate::listing::put_row;
-use crate::message::Message;
+use crate::message::Complaint;
 use crate::pass::CELLS;
 use crate::program::Assembly;
 use crate::symbols::Symbol;
-use crate::wording::message_text;
+use pp_arith::octal;
 use std::alloc::{AllocError, Global};
 
 /// Returns a line for each message and then for each warning: its line and its column, decimal and from 1, and its text.
 ///
 /// # Errors
 /// Memory ran out.
-pub fn complaints_text(alloc: Global, made: &Assembly) -> Result<Vec<u8>, AllocError> {
+pub fn complaints_text(alloc: Global, made: &Assembly) -> Result<Vec<u8>, AllocError>
+    ensures { IfOk result (λ text. text.items ≡ complaint_lines made.now.messages.items ++ complaint_lines made.now.warnings.items) }
+{
     let mut out = Vec::new(alloc);
-    put_messages(alloc, &mut out, made, made.messages.as_slice())?;
-    put_messages(alloc, &mut out, made, made.warnings.as_slice())?;
+    put_complaints(alloc, &mut out, &made.messages)?;
+    put_complaints(alloc, &mut out, &made.warnings)?;
     Ok(out)
 }
 
-/// Writes a line for each message.
-fn put_messages(
+/// Writes a number in four octal digits.
+fn put_four(out: &mut Vec<u8>, number: u16) -> Result<(), AllocError>
+    ensures { OnOk result (out.new.items ≡ out.old.items ++ octal_text number 4) }
+{
+    out.extend_from_slice(octal(u64::from(number), 4).as_slice())
+}
+
+/// Writes a line for each complaint.
+fn put_complaints(
     alloc: Global,
     out: &mut Vec<u8>,
-    made: &Assembly,
-    messages: &[Message],
-) -> Result<(), AllocError> {
-    for message in messages {
-        let line = message.line;
-        let column = message.column;
-        let place = format!(in alloc; "{line}:{column}: ")?;
-        out.extend_from_slice(place.as_bytes())?;
-        let text = message_text(alloc, made, message)?;
-        out.extend_from_slice(text.as_slice())?;
-        out.push(b'\n')?;
+    complaints: &[Complaint],
+) -> Result<(), AllocError>
+    ensures { OnOk result (out.new.items ≡ out.old.items ++ complaint_lines complaints.now) }
+{
+    for complaint in complaints {
+        put_complaint(alloc, out, complaint)?;
     }
+    Ok(())
+}
+
+/// Writes the line of a complaint.
+fn put_complaint(alloc: Global, out: &mut Vec<u8>, complaint: &Complaint) -> Result<(), AllocError>
+    ensures { OnOk result (out.new.items ≡ out.old.items ++ complaint_line complaint.now) }
+{
+    put_decimal(alloc, out, complaint.line)?;
+    out.push(b':')?;
+    put_decimal(alloc, out, complaint.column)?;
+    out.extend_from_slice(b": ")?;
+    out.extend_from_slice(&complaint.text)?;
+    out.push(b'\n')?;
     Ok(())
 }
 
@@ -43,17 +64,20 @@ fn put_messages(
 ///
 /// # Errors
 /// Memory ran out.
-pub fn words_text(alloc: Global, made: &Assembly) -> Result<Vec<u8>, AllocError> {
+pub fn words_text(alloc: Global, made: &Assembly) -> Result<Vec<u8>, AllocError>
+    ensures { IfOk result (λ text. text.items ≡ cell_lines made.now.program.cells.items ++ start_line made.now.program.start) }
+{
     let mut out = Vec::new(alloc);
-    for cell in made.program.cells() {
-        put_octal(&mut out, i64::from(cell.address), 4)?;
+    let cells = made.program.cells();
+    for cell in cells {
+        put_four(&mut out, cell.address)?;
         out.push(b' ')?;
-        put_octal(&mut out, i64::from(cell.word), 4)?;
+        put_four(&mut out, cell.word)?;
         out.push(b'\n')?;
     }
     if let Some(start) = made.program.start() {
         out.extend_from_slice(b"P ")?;
-        put_octal(&mut out, i64::from(start), 4)?;
+        put_four(&mut out, start)?;
         out.push(b'\n')?;
     }
     Ok(out)
@@ -88,7 +112,12 @@ pub fn lines_text(alloc: Global, made: &Assembly) -> Result<Vec<u8>, AllocError>
 }
 
 /// Writes the rest of a line: a location, an origin and words, each after a blank.
-fn put_numbers(out: &mut Vec<u8>, location: i64, origin: i64, words: &[u16]) -> Result<(), AllocError> {
+fn put_numbers(
+    out: &mut Vec<u8>,
+    location: i64,
+    origin: i64,
+    words: &[u16],
+) -> Result<(), AllocError> {
     for address in [location, origin] {
         out.push(b' ')?;
         put_octal(out, address, 4)?;
@@ -108,21 +137,23 @@ fn put_numbers(out: &mut Vec<u8>, location: i64, origin: i64, words: &[u16]) -> 
 pub fn names_text(alloc: Global, made: &Assembly) -> Result<Vec<u8>, AllocError> {
     let mut out = Vec::new(alloc);
     for symbol in &made.symbols.all {
-        put_name(&mut out, symbol)?;
+        put_name(&mut out, made.symbols.text_of(symbol.key), symbol)?;
     }
     Ok(out)
 }
 
 /// Writes the line of a name, if it has one number.
-fn put_name(out: &mut Vec<u8>, symbol: &Symbol) -> Result<(), AllocError> {
+fn put_name(out: &mut Vec<u8>, key: &[u8], symbol: &Symbol) -> Result<(), AllocError> {
     let Some(definition) = symbol.seen else {
         return Ok(());
     };
-    let Some(value) = definition.value.filter(|value| *value >= 0 && !definition.is_set) else {
+    let Some(value) = definition
+        .value
+        .filter(|value| *value >= 0 && !definition.is_set)
+    else {
         return Ok(());
     };
-    let characters = symbol.name.characters();
-    out.extend_from_slice(characters.get(..symbol.name.length()).unwrap_or(b""))?;
+    out.extend_from_slice(without_qualifier(key))?;
     if definition.is_address && value < CELLS as i64 {
         out.push(b' ')?;
         put_octal(out, value, 4)?;
@@ -132,4 +163,15 @@ fn put_name(out: &mut Vec<u8>, symbol: &Symbol) -> Result<(), AllocError> {
     }
     out.push(b'\n')?;
     Ok(())
+}
+
+/// Returns a name without its qualifier.
+fn without_qualifier(key: &[u8]) -> &[u8] {
+    let mut name = key;
+    for at in 0..key.len() {
+        if key.get(at) == Some(&b'/') {
+            name = key.get(at.saturating_add(1)..).unwrap_or(b"");
+        }
+    }
+    name
 }

@@ -1,6 +1,6 @@
 //! The names of the 64 (decimal) instructions, and what each has as operand.
-ghost use Rattle.std.specs.Prelude.{◌≡◌, ◌<◌, ◌≤◌, IfSome};
-ghost use Rattle.pp_assembler.specs.Instructions.{form};
+ghost use Rattle.std.specs.Prelude.{◌≡◌, ◌<◌, IfSome, Some, slice_get};
+ghost use Rattle.pp_assembler.specs.Instructions.{form, size};
 
 /// What an instruction has as operand.
 #[derive(Clone, Copy, Debug, PartialEq, Eq)]
@@ -23,7 +23,7 @@ pub enum Form {
 pub const INSTRUCTIONS: usize = 64;
 
 /// The names in the order of their codes. Codes 24 and 25 pass, as 00 does, and are named like it.
-static NAMES: [[u8; 3]; INSTRUCTIONS] = [
+pub static NAMES: [[u8; 3]; INSTRUCTIONS] = [
     *b"PSN", *b"LJM", *b"RJM", *b"UJN", *b"ZJN", *b"NJN", *b"PJN", *b"MJN", *b"SHN", *b"LMN",
     *b"LPN", *b"SCN", *b"LDN", *b"LCN", *b"ADN", *b"SBN", *b"LDC", *b"ADC", *b"LPC", *b"LMC",
     *b"PSN", *b"PSN", *b"EXN", *b"RPN", *b"LDD", *b"ADD", *b"SBD", *b"LMD", *b"STD", *b"RAD",
@@ -36,13 +36,15 @@ static NAMES: [[u8; 3]; INSTRUCTIONS] = [
 /// Returns the name of the instruction with a code, up to octal 77.
 pub fn name_of(code: u8) -> [u8; 3]
     requires { code < 0o100 }
+    ensures { slice_get NAMES code ≡ Some result }
 {
     NAMES[code as usize]
 }
 
 /// Returns the code of the instruction with a name, in capitals; of PSN, which is three, the first.
 pub fn code_of(name: &[u8]) -> Option<u8>
-    ensures { IfSome result (λ code. code < 0o100) }
+    ensures at_most { IfSome result (λ code. code < 0o100) }
+    ensures named { IfSome result (λ code. slice_get NAMES code ≡ Some name.now) }
 {
     for code in 0..INSTRUCTIONS {
         if NAMES[code].as_slice() == name {
@@ -67,7 +69,9 @@ pub fn form_of(code: u8) -> Form
 }
 
 /// Returns how many words the instruction with a code has.
-pub fn size_of(code: u8) -> usize {
+pub fn size_of(code: u8) -> usize
+    ensures { result ≡ size (form code) }
+{
     match form_of(code) {
         Form::Constant | Form::Indexed | Form::Both => 2,
         Form::Alone | Form::D | Form::Target => 1,

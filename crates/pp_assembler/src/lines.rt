@@ -2,19 +2,23 @@
 ghost use Rattle.std.specs.Prelude.{◌≡◌, IfOk, map};
 ghost use Rattle.pp_assembler.specs.Places.{length_of, line_lengths};
 
-use crate::fields::{
-    LAST_COLUMN, Origin, Statement, is_empty, length_without_blanks, statement_of,
-};
-use crate::message::{Fault, Field, Stop};
-use crate::operations::{Operation, operation_of};
+use crate::fields::{LAST_COLUMN, is_empty, length_without_blanks};
+use crate::message::Field;
 use std::alloc::{AllocError, Global};
 
 /// How many lines continue one.
 const MOST_JOINS: usize = 9;
 /// What some editors put before a text.
 const MARK: &[u8; 3] = b"\xef\xbb\xbf";
-/// Symbols of a line that SUBR makes; a label of as many is no symbol.
-pub const MOST_MADE: usize = 900;
+/// The macro SUBR, before the lines of a source: a subroutine's exit, whose second word is its entry.
+static SUBR: [&[u8]; SUBR_LINES] = [
+    b"          MACRO  SUBR,A",
+    b" A_X      LJM    *",
+    b" A        EQU    *-1",
+    b"          ENDM",
+];
+/// How many lines it has.
+pub const SUBR_LINES: usize = 4;
 
 /// The bytes of a line of the source.
 #[derive(Clone, Copy)]
@@ -23,36 +27,44 @@ pub struct Span {
     pub end: usize,
 }
 
-/// The column, from 0, at which a line begins that continues another one, and its number.
+impl Span {
+    pub fn is_empty(self) -> bool {
+        self.end <= self.first
+    }
+
+    /// Returns the bytes, of all.
+    pub fn of(self, all: &[u8]) -> &[u8] {
+        all.get(self.first..self.end).unwrap_or(b"")
+    }
+}
+
+/// The column, from 0, at which another line of the source goes on, its number, and its column there, from 1.
 #[derive(Clone, Copy)]
 pub struct Join {
     pub column: usize,
     pub number: u32,
+    pub first: usize,
 }
 
-/// What a line has.
+/// The call of a macro that made a line: its column, from 0, and where its name is.
 #[derive(Clone, Copy)]
-pub enum Content {
-    /// A note, or nothing.
-    Note,
-    /// A statement and its operation.
-    Statement(Statement, Operation),
-    /// No statement.
-    Wrong(Stop),
+pub struct Call {
+    pub column: usize,
+    pub name: Span,
 }
 
-/// A line with those that continue it, or a line that SUBR made.
+/// A line with those that continue it, or a line that another one made.
 #[derive(Clone, Copy)]
 pub struct Line {
     /// The number of its first line, from 1.
     pub number: u32,
-    /// Where its text is.
+    /// Where its text is, as the listing has it.
     pub text: Span,
+    /// Where it is in capitals, with what its micros stand for.
+    pub read: Span,
     /// Where its joins are.
     pub joins: Span,
-    /// The column, from 0, of the SUBR that made it.
-    pub call: Option<usize>,
-    pub content: Content,
+    pub call: Option<Call>,
 }
 
 /// The lines of a source, with their text and the same in capitals.
@@ -62,6 +74,8 @@ pub struct Lines {
     pub capitals: Vec<u8>,
     pub joins: Vec<Join>,
     pub all: Vec<Line>,
+    /// How many lines no other one made.
+    pub own: usize,
 }
 
 impl Lines {
@@ -71,19 +85,18 @@ impl Lines {
             capitals: Vec::new(alloc),
             joins: Vec::new(alloc),
             all: Vec::new(alloc),
+            own: 0,
         }
     }
 
     /// Returns the text of a line in capitals.
     pub fn capitals_of(&self, line: Line) -> &[u8] {
-        self.capitals
-            .get(line.text.first..line.text.end)
-            .unwrap_or(b"")
+        line.read.of(&self.capitals)
     }
 
     /// Returns the text of a line.
     pub fn text_of(&self, line: Line) -> &[u8] {
-        self.text.get(line.text.first..line.text.end).unwrap_or(b"")
+        line.text.of(&self.text)
     }
 
     /// Returns the joins of a line.
@@ -91,6 +104,14 @@ impl Lines {
         self.joins
             .get(line.joins.first..line.joins.end)
             .unwrap_or(&[])
+    }
+
+    /// Returns a part of the line with an index, in capitals.
+    pub fn part_of(&self, index: usize, part: Field) -> &[u8] {
+        match self.all.get(index) {
+            Some(line) => part.of(self.capitals_of(*line)),
+            None => b"",
+        }
     }
 
     /// Adds bytes to the text.
@@ -102,32 +123,66 @@ impl Lines {
         Ok(())
     }
 
-    /// Adds a line of the source.
-    fn add_line(&mut self, number: u32, bytes: &[u8]) -> Result<(), AllocError> {
+    /// Adds a line with another text, and returns its index.
+    pub fn add(&mut self, line: Line, bytes: &[u8]) -> Result<usize, AllocError> {
         let first = self.text.len();
         self.add_text(bytes)?;
-        let joins = self.joins.len();
+        let text = Span {
+            first,
+            end: self.text.len(),
+        };
         self.all.push(Line {
-            number,
-            text: Span {
-                first,
-                end: self.text.len(),
-            },
-            joins: Span {
-                first: joins,
-                end: joins,
-            },
-            call: None,
-            content: Content::Note,
+            text,
+            read: text,
+            ..line
         })?;
+        Ok(self.all.len().wrapping_sub(1))
+    }
+
+    /// Adds a line that is read otherwise than the listing has it, and returns its index.
+    pub fn add_read(&mut self, line: Line, bytes: &[u8]) -> Result<usize, AllocError> {
+        let index = self.add(line, bytes)?;
+        if let Some(last) = self.all.last_mut() {
+            last.text = line.text;
+        }
+        Ok(index)
+    }
+
+    /// Adds a line of the source.
+    fn add_line(&mut self, number: u32, bytes: &[u8]) -> Result<(), AllocError> {
+        let joins = self.joins.len();
+        let nothing = Span { first: 0, end: 0 };
+        self.add(
+            Line {
+                number,
+                text: nothing,
+                read: nothing,
+                joins: Span {
+                    first: joins,
+                    end: joins,
+                },
+                call: None,
+            },
+            bytes,
+        )?;
         Ok(())
+    }
+
+    /// Forgets the lines that others made.
+    pub fn forget_made(&mut self) {
+        self.all.truncate(self.own);
+        if let Some(last) = self.all.last().copied() {
+            self.text.truncate(last.text.end);
+            self.capitals.truncate(last.text.end);
+            self.joins.truncate(last.joins.end);
+        }
     }
 
     /// Returns the last line, if another one may continue it.
     fn continued(&self) -> Option<Line> {
         let line = self.all.last().copied()?;
         let text = self.text_of(line);
-        let is_note = text.first() == Some(&b'*') || is_empty(text);
+        let is_note = line.number == 0 || text.first() == Some(&b'*') || is_empty(text);
         let joins = line.joins.end.wrapping_sub(line.joins.first);
         if is_note || joins >= MOST_JOINS {
             None
@@ -158,12 +213,15 @@ impl Lines {
         self.joins.push(Join {
             column: length,
             number,
+            first: 2, // its comma is in column 1
         })?;
+        let text = Span {
+            first,
+            end: self.text.len(),
+        };
         let line = Line {
-            text: Span {
-                first,
-                end: self.text.len(),
-            },
+            text,
+            read: text,
             joins: Span {
                 first: last.joins.first,
                 end: self.joins.len(),
@@ -175,52 +233,21 @@ impl Lines {
         Ok(())
     }
 
-    /// Adds a line that SUBR makes: a label, an operation and an operand.
-    fn make(
-        &mut self,
-        call: Line,
-        column: usize,
-        label: &[u8],
-        end: &[u8],
-        rest: &[u8],
-    ) -> Result<Line, AllocError> {
-        let first = self.text.len();
-        self.add_text(b" ")?;
-        for symbol in label {
-            if *symbol != b'_' {
-                self.add_text(&[*symbol])?;
+    /// Adds the lines of a source.
+    fn add_source(&mut self, source: &[u8], spans: &[Span]) -> Result<(), AllocError> {
+        let mut number: u32 = 0;
+        for span in spans {
+            number = number.saturating_add(1);
+            let mut bytes = without_returns(span.of(source));
+            if number == 1 {
+                bytes = bytes.strip_prefix(MARK.as_slice()).unwrap_or(bytes);
+            }
+            match self.continued() {
+                Some(last) if bytes.first() == Some(&b',') => self.join(number, last, bytes)?,
+                _ => self.add_line(number, bytes)?,
             }
         }
-        self.add_text(end)?;
-        for _ in self.text.len()..first.saturating_add(9) {
-            self.add_text(b" ")?;
-        }
-        self.add_text(rest)?;
-        let line = Line {
-            text: Span {
-                first,
-                end: self.text.len(),
-            },
-            joins: Span { first: 0, end: 0 },
-            call: Some(column),
-            ..call
-        };
-        Ok(Line {
-            content: content_of(self.capitals_of(line), Origin::Made),
-            ..line
-        })
-    }
-}
-
-/// Returns what a line in capitals has.
-fn content_of(line: &[u8], origin: Origin) -> Content {
-    match statement_of(line, origin) {
-        Ok(None) => Content::Note,
-        Ok(Some(statement)) => Content::Statement(
-            statement,
-            operation_of(statement.operation.of(line)),
-        ),
-        Err(stop) => Content::Wrong(stop),
+        Ok(())
     }
 }
 
@@ -256,75 +283,13 @@ pub fn cut_lines(alloc: Global, source: &[u8]) -> Result<Vec<Span>, AllocError>
     Ok(spans)
 }
 
-/// Returns the lines of a source, each with those that continue it.
-fn joined(alloc: Global, source: &[u8], spans: &[Span]) -> Result<Lines, AllocError> {
-    let mut lines = Lines::new(alloc);
-    let mut number: u32 = 0;
-    for span in spans {
-        number = number.saturating_add(1);
-        let mut bytes = without_returns(source.get(span.first..span.end).unwrap_or(b""));
-        if number == 1 {
-            bytes = bytes.strip_prefix(MARK.as_slice()).unwrap_or(bytes);
-        }
-        match lines.continued() {
-            Some(last) if bytes.first() == Some(&b',') => lines.join(number, last, bytes)?,
-            _ => lines.add_line(number, bytes)?,
-        }
-    }
-    Ok(lines)
-}
-
-/// Adds a line with its content to a list, and after a SUBR the lines that it makes.
-fn add_content(
-    alloc: Global,
-    lines: &mut Lines,
-    line: Line,
-    all: &mut Vec<Line>,
-) -> Result<(), AllocError> {
-    let origin = if line.joins.first == line.joins.end {
-        Origin::Source
-    } else {
-        Origin::Joined
-    };
-    let content = content_of(lines.capitals_of(line), origin);
-    let line = Line { content, ..line };
-    all.push(line)?;
-    if let Content::Statement(statement, Operation::Subroutine) = content {
-        add_subroutine(alloc, lines, line, statement, all)?;
-    }
-    Ok(())
-}
-
-/// Adds the lines that a SUBR makes: the exit, whose second word is the entry.
-fn add_subroutine(
-    alloc: Global,
-    lines: &mut Lines,
-    line: Line,
-    statement: Statement,
-    all: &mut Vec<Line>,
-) -> Result<(), AllocError> {
-    let text = lines.capitals_of(line);
-    let label = Vec::from_slice(alloc, statement.location.of(text))?;
-    if label.is_empty() || label.len() > MOST_MADE || !statement.operand.is_empty() {
-        return Ok(());
-    }
-    let column = statement.operation.first;
-    let exit = lines.make(line, column, &label, b"X", b" LJM    *")?;
-    all.push(exit)?;
-    let entry = lines.make(line, column, &label, b"", b" EQU    *-1")?;
-    all.push(entry)?;
-    Ok(())
-}
-
-/// Returns the lines of a source with their content.
+/// Returns the lines of SUBR and those of a source, each with those that continue it.
 pub fn read_lines(alloc: Global, source: &[u8], spans: &[Span]) -> Result<Lines, AllocError> {
-    let mut lines = joined(alloc, source, spans)?;
-    let mut all = Vec::new(alloc);
-    for at in 0..lines.all.len() {
-        if let Some(line) = lines.all.get(at).copied() {
-            add_content(alloc, &mut lines, line, &mut all)?;
-        }
+    let mut lines = Lines::new(alloc);
+    for line in &SUBR {
+        lines.add_line(0, line)?;
     }
-    lines.all = all;
+    lines.add_source(source, spans)?;
+    lines.own = lines.all.len();
     Ok(lines)
 }

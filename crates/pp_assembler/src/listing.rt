@@ -15,6 +15,8 @@ const LOAD: usize = 5;
 const WORDS: usize = 11;
 
 const TAB: usize = 8;
+/// What is instead of a line of the source.
+const LITERAL: &[u8; 17] = b"*         LITERAL";
 
 /// Writes the lines of the listing for a row. If code is assembled for another place, its address there comes first, and then > with that
 /// to which it is loaded.
@@ -23,9 +25,11 @@ pub fn put_row(out: &mut Vec<u8>, assembly: &Assembly, row: &Row) -> Result<(), 
     let words = assembly.words.get(row.first..row.end).unwrap_or(&[]);
     put_address(out, row, 0)?;
     put_value_or_words(out, row, words)?;
-    if let Some(line) = assembly.lines.all.get(row.statement) {
-        put_text(out, assembly.lines.text_of(*line))?;
-    }
+    let text = match assembly.lines.all.get(row.statement) {
+        Some(line) => assembly.lines.text_of(*line),
+        None => LITERAL,
+    };
+    put_text(out, text)?;
     end_line(out, start)?;
     for part in 1..words.len().div_ceil(WORDS_OF_LINE) {
         let first = part.saturating_mul(WORDS_OF_LINE);

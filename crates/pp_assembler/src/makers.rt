@@ -1,7 +1,7 @@
 //! The directives that make words.
-use crate::directives::{the_only, wants_operand};
+use crate::directives::items_of;
 use crate::encoding::bits_of;
-use crate::fields::{Parts, Statement, first_parts};
+use crate::fields::Statement;
 use crate::message::{Fault, Field, Stop};
 use crate::pass::{Here, OpenWord, Pass};
 use crate::texts::{Filling, digits_at, find, text_at, without_code};
@@ -14,165 +14,120 @@ const LAST: u32 = 0o7777;
 
 impl Pass {
     /// CON has expressions.
-    pub fn expressions(&mut self, here: &Here, statement: Statement) -> Result<(), Stop> {
-        wants_operand(statement)?;
-        let found = first_parts(here.text, statement.operand, false)?;
-        let first = self.words.len();
-        let mut parts = Parts::new(statement.operand, false);
-        for _ in 0..found.count {
-            let Some(part) = parts.next(here.text)? else {
-                break;
-            };
-            let word = self.field(here, part, WORD_BITS, None)?;
-            self.add_word(bits_of(word, 0o7777))?;
+    pub fn expressions(&mut self, here: &Here, statement: Statement) -> Result<Vec<u16>, Stop> {
+        let mut words = Vec::new(self.alloc);
+        for item in &items_of(self.alloc, here, statement, false)? {
+            let word = self.field(here, *item, WORD_BITS, None)?;
+            words.push(bits_of(word, 0o7777))?;
         }
-        self.put(here, first, found.count)
+        Ok(words)
     }
 
     /// BSSZ has words of zero.
-    pub fn zeros(&mut self, here: &Here, statement: Statement) -> Result<(), Stop> {
-        let operand = the_only(here, statement)?;
+    pub fn zeros(&mut self, here: &Here, operand: Field) -> Result<Vec<u16>, Stop> {
         let count = usize::try_from(self.count(here, operand, 0)?).unwrap_or(0);
-        let first = self.words.len();
-        self.zero_words(count)?;
-        self.put(here, first, count)
-    }
-
-    /// Adds words of zero.
-    fn zero_words(&mut self, count: usize) -> Result<(), Stop> {
-        for _ in 0..count {
-            self.add_word(0)?;
-        }
-        Ok(())
+        Ok(vec![in self.alloc; 0; count]?)
     }
 
     /// DATA has numbers and texts.
-    pub fn numbers_and_texts(&mut self, here: &Here, statement: Statement) -> Result<(), Stop> {
-        wants_operand(statement)?;
-        let found = first_parts(here.text, statement.operand, true)?;
-        let first = self.words.len();
-        let made = self.made;
-        let mut parts = Parts::new(statement.operand, true);
-        for _ in 0..found.count {
-            let Some(part) = parts.next(here.text)? else {
-                break;
-            };
-            if let Err(stop) = self.datum(here, part) {
+    pub fn data(&mut self, here: &Here, statement: Statement) -> Result<Vec<u16>, Stop> {
+        let mut words = Vec::new(self.alloc);
+        for item in &items_of(self.alloc, here, statement, true)? {
+            if let Err(stop) = self.datum(here, *item, &mut words) {
                 self.report_stop(here, stop)?;
-                self.add_word(0)?;
+                words.push(0)?;
             }
         }
-        self.put(here, first, self.made.saturating_sub(made))
+        Ok(words)
     }
 
     /// Adds the words of a number or a text.
-    fn datum(&mut self, here: &Here, item: Field) -> Result<(), Stop> {
+    pub fn datum(&mut self, here: &Here, item: Field, words: &mut Vec<u16>) -> Result<(), Stop> {
         let text = item.of(here.text);
-        if let Some(found) = text_at(text, 0, true)? {
-            if found.end != text.len() {
-                let rest = Field::new(item.first.saturating_add(found.end), item.end);
-                return Err(Stop::of("{} follows the text", rest));
+        let Some(found) = text_at(text, 0, true)? else {
+            if !is_number(text) {
+                let fault = Fault::new("{} is no number or text; CON takes expressions");
+                return Err(Stop::At(item.first, fault.part_or_nothing(item)));
             }
-            let symbols = text.get(found.first..found.last).unwrap_or(b"");
-            if let Some(symbol) = without_code(symbols) {
-                return Err(Stop::At(item.first, Fault::no_display_code(symbol)));
-            }
-            return self.text_words(Filling::of_words(found.kind, found.count), symbols);
+            let number = self.number_field(here, item, WORD_BITS);
+            let word = self.reported(here, number)?;
+            return Ok(words.push(bits_of(word, 0o7777))?);
+        };
+        if found.end != text.len() {
+            let rest = Field::new(item.first.saturating_add(found.end), item.end);
+            return Err(Stop::of("{} follows the text", rest));
         }
-        if !is_number(text) {
-            let fault = Fault::new("{} is no number or text; CON takes expressions");
-            return Err(Stop::At(item.first, fault.part_or_nothing(item)));
+        let symbols = text.get(found.first..found.last).unwrap_or(b"");
+        if let Some(symbol) = without_code(symbols) {
+            return Err(Stop::At(item.first, Fault::no_display_code(symbol)));
         }
-        let word = self.field(here, item, WORD_BITS, None)?;
-        self.add_word(bits_of(word, 0o7777))
-    }
-
-    /// Adds the words of a text, two symbols each.
-    fn text_words(&mut self, filling: Filling, symbols: &[u8]) -> Result<(), Stop> {
-        for word in 0..filling.size / 2 {
-            let at = word.saturating_mul(2);
-            let upper = u16::from(filling.code(symbols, at)).wrapping_mul(0o100);
-            let lower = u16::from(filling.code(symbols, at.saturating_add(1)));
-            self.add_word((upper | lower) & 0o7777)?;
-        }
-        Ok(())
+        put_text(words, Filling::of_words(found.kind, found.count), symbols)
     }
 
     /// DIS n,text has n words of a text; DIS ,*text* ends in a word of zero.
-    pub fn text(&mut self, here: &Here, statement: Statement) -> Result<(), Stop> {
+    pub fn text(&mut self, here: &Here, statement: Statement) -> Result<Vec<u16>, Stop> {
         let operand = statement.operand.of(here.text);
-        let first = self.words.len();
-        let made = self.made;
-        let (digits, words) = digits_at(operand, 0, 4);
-        if operand.get(digits) != Some(&b',') || words > LAST {
+        let (digits, count) = digits_at(operand, 0, 4);
+        if operand.get(digits) != Some(&b',') || count > LAST {
             let fault = Fault::new("DIS wants words,text or ,*text*");
             return Err(Stop::At(statement.operand.first, fault));
         }
-        let rest = operand.get(digits.saturating_add(1)..).unwrap_or(b"");
-        let column = statement
-            .operand
-            .first
-            .saturating_add(digits)
-            .saturating_add(1);
+        let before = digits.saturating_add(1);
+        let rest = operand.get(before..).unwrap_or(b"");
+        let column = statement.operand.first.saturating_add(before);
+        let size = (count as usize).saturating_mul(2);
         let (symbols, filling) = if digits > 0 {
-            let count = (words as usize).saturating_mul(2);
             (
-                rest.get(..count).unwrap_or(rest),
-                Filling::of_words(b'H', count),
+                rest.get(..size).unwrap_or(rest),
+                Filling::of_words(b'H', size),
             )
         } else {
             let symbols = marked(rest, column)?;
             (symbols, Filling::of_words(b'C', symbols.len()))
         };
-        match without_code_but_tab(symbols, digits > 0) {
-            None => self.text_words(filling, symbols)?,
-            Some(symbol) => {
-                self.report(here, column, Fault::no_display_code(symbol))?;
-                self.zero_words(filling.size / 2)?;
-            }
+        if let Some(symbol) = without_code_but_tab(symbols, digits > 0) {
+            self.report(here, column, Fault::no_display_code(symbol))?;
+            return Ok(vec![in self.alloc; 0; filling.size / 2]?);
         }
-        self.put(here, first, self.made.saturating_sub(made))
+        let mut words = Vec::new(self.alloc);
+        put_text(&mut words, filling, symbols)?;
+        Ok(words)
     }
 
     /// VFD has fields of bits. One without a label goes on in the word that the one before has not filled.
-    pub fn bits(&mut self, here: &Here, statement: Statement) -> Result<(), Stop> {
-        wants_operand(statement)?;
-        let found = first_parts(here.text, statement.operand, false)?;
-        let first = self.words.len();
-        let mut word = self.open_word(here, statement);
-        let mut parts = Parts::new(statement.operand, false);
-        for _ in 0..found.count {
-            let Some(part) = parts.next(here.text)? else {
-                break;
-            };
-            match self.bits_field(here, part) {
-                Ok((size, number)) => self.add_bits(&mut word, size, number)?,
+    pub fn bits(&mut self, here: &Here, statement: Statement) -> Result<Vec<u16>, Stop> {
+        let items = items_of(self.alloc, here, statement, false)?;
+        let mut words = Vec::new(self.alloc);
+        let mut used = WORD_BITS;
+        let open = self.open_bits(here, statement);
+        if let Some(bits) = open {
+            words.push(0)?;
+            used = bits;
+        }
+        for item in &items {
+            match self.bits_field(here, *item) {
+                Ok((size, number)) => used = add_bits(&mut words, used, size, number)?,
                 Err(stop) => self.report_stop(here, stop)?,
             }
         }
-        self.end_bits(here, word, first)
+        if words.is_empty() {
+            return Ok(words);
+        }
+        if open.is_some() {
+            self.fill_last(words.remove(0));
+        }
+        let count = i64::try_from(words.len()).unwrap_or(0);
+        let cell = self.origin.wrapping_add(count).wrapping_sub(1);
+        self.open = Some(OpenWord { cell, used });
+        Ok(words)
     }
 
-    /// Returns the word that the fields of VFD begin in.
-    fn open_word(&self, here: &Here, statement: Statement) -> BitWord {
-        let label = statement.location.of(here.text);
-        match self.open {
-            Some(open) if open.cell == self.origin.wrapping_sub(1) && matches!(label, b"" | b"-") =>
-                {
-                    BitWord {
-                        word: 0,
-                        used: open.used,
-                        is_open: true,
-                        count: 0,
-                    }
-                }
-            _ => BitWord {
-                word: 0,
-                used: 0,
-                is_open: false,
-                count: 0,
-            },
-        }
+    /// Returns how many bits of the last word are used, if VFD goes on in it.
+    fn open_bits(&self, here: &Here, statement: Statement) -> Option<u32> {
+        let OpenWord { cell, used } = self.open?;
+        let is_open = cell == self.origin.wrapping_sub(1)
+            && matches!(statement.location.of(here.text), b"" | b"-");
+        if is_open { Some(used) } else { None }
     }
 
     /// Returns the size, decimal, and the number of a field.
@@ -186,40 +141,8 @@ impl Pass {
             ));
         }
         let first = item.first.saturating_add(digits).saturating_add(1);
-        let operand = Field::new(first, item.end);
-        let number = self.field(here, operand, size, None)?;
+        let number = self.field(here, Field::new(first, item.end), size, None)?;
         Ok((size, number))
-    }
-
-    /// Adds the bits of a field, the upper ones first.
-    fn add_bits(&mut self, word: &mut BitWord, size: u32, number: u64) -> Result<(), Stop> {
-        for bit in 0..size {
-            let place = size.wrapping_sub(bit).wrapping_sub(1);
-            if word.used >= WORD_BITS {
-                self.end_word(word)?;
-            }
-            let one = bits_of(number.wrapping_shr(place), 1);
-            word.word |= one.wrapping_shl(WORD_BITS.wrapping_sub(1).wrapping_sub(word.used));
-            word.used = word.used.saturating_add(1);
-        }
-        Ok(())
-    }
-
-    /// Ends a word of bits: it is added, or goes into the word that was not full.
-    fn end_word(&mut self, word: &mut BitWord) -> Result<(), Stop> {
-        if word.is_open {
-            self.fill_last(word.word);
-        } else {
-            self.add_word(word.word & 0o7777)?;
-            word.count = word.count.saturating_add(1);
-        }
-        *word = BitWord {
-            word: 0,
-            used: 0,
-            is_open: false,
-            count: word.count,
-        };
-        Ok(())
     }
 
     /// Puts bits into the last word, which was not full.
@@ -234,47 +157,50 @@ impl Pass {
             *last |= bits;
         }
     }
-
-    /// Ends the fields of VFD: the last word ends in zeros, and the next VFD may go on in it.
-    fn end_bits(&mut self, here: &Here, word: BitWord, first: usize) -> Result<(), Stop> {
-        let mut word = word;
-        let used = word.used;
-        let was_open = word.is_open;
-        if used > 0 {
-            self.end_word(&mut word)?;
-        }
-        let count = i64::try_from(word.count).unwrap_or(0);
-        if was_open || used > 0 {
-            let cell = self.origin.wrapping_add(count).wrapping_sub(1);
-            self.open = Some(OpenWord { cell, used });
-        }
-        self.put(here, first, word.count)
-    }
 }
 
-/// A word of fields of bits: how many bits are used, whether it is one that was not full, and how many words were added before.
-#[derive(Clone, Copy)]
-struct BitWord {
-    word: u16,
-    used: u32,
-    is_open: bool,
-    count: usize,
+/// Adds the bits of a field, the upper ones first, and returns how many bits of the last word are then used.
+fn add_bits(words: &mut Vec<u16>, used: u32, size: u32, number: u64) -> Result<u32, Stop> {
+    let mut used = used;
+    for bit in 0..size {
+        if used >= WORD_BITS {
+            words.push(0)?;
+            used = 0;
+        }
+        used = used.saturating_add(1);
+        let one = bits_of(
+            number.wrapping_shr(size.wrapping_sub(bit).wrapping_sub(1)),
+            1,
+        );
+        if let Some(last) = words.last_mut() {
+            *last |= one.wrapping_shl(WORD_BITS.wrapping_sub(used));
+        }
+    }
+    Ok(used)
+}
+
+/// Adds the words of a text, two symbols each.
+fn put_text(words: &mut Vec<u16>, filling: Filling, symbols: &[u8]) -> Result<(), Stop> {
+    for word in 0..filling.size / 2 {
+        let at = word.saturating_mul(2);
+        let upper = u16::from(filling.code(symbols, at)).wrapping_mul(0o100);
+        let lower = u16::from(filling.code(symbols, at.saturating_add(1)));
+        words.push((upper | lower) & 0o7777)?;
+    }
+    Ok(())
 }
 
 /// Returns whether a text is a number of DATA: a sign, digits and a letter.
 fn is_number(text: &[u8]) -> bool {
-    let signs = match text.first() {
-        Some(b'+' | b'-') => 1,
-        _ => 0,
+    let digits = match text {
+        [b'+' | b'-', rest @ ..] => rest,
+        digits => digits,
     };
-    let (digits, _) = digits_at(text, signs, usize::MAX);
-    let end = signs.saturating_add(digits);
-    match text.get(end) {
-        None => digits > 0,
-        Some(letter) => digits > 0
-            && matches!(*letter, b'B' | b'D' | b'O')
-            && text.len() == end.saturating_add(1),
-    }
+    let digits = match digits {
+        [rest @ .., b'B' | b'D' | b'O'] => rest,
+        digits => digits,
+    };
+    !digits.is_empty() && digits_at(digits, 0, usize::MAX).0 == digits.len()
 }
 
 /// Returns the text between two equal symbols, which begins a text.

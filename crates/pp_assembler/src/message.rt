@@ -1,4 +1,5 @@
 //! What is wrong in a source.
+use crate::lines::Span;
 use std::alloc::{AllocError, AllocFailed};
 
 /// A part of a line: its first column, from 0, and the column after its last one.
@@ -41,22 +42,26 @@ pub enum Argument {
     Instruction(u8),
     /// The symbol that may be meant by this one, if there is one.
     NearestSymbol(Field),
-    /// The operation that may be meant by this one, if there is one.
-    NearestOperation(Field),
+    /// The operation that may be meant by this one, if there is one, at the statement with a number.
+    NearestOperation(Field, u32),
     /// The instruction that takes a greater operand than that with this code, if there is one.
     Wider(Field, u8),
+    /// A name that the symbols keep.
+    Kept(Span),
     /// What reaches the target of the relative jump with this code.
     Reaching(Field, u8),
+    /// The names of a macro's operands.
+    Names(Span),
 }
-
-/// How many arguments a fault has.
-pub const ARGUMENTS: usize = 4;
 
 /// What is wrong: a text, and what stands in it in place of each `{}`.
 #[derive(Clone, Copy)]
 pub struct Fault {
     pub text: &'static str,
-    pub arguments: [Argument; ARGUMENTS],
+    pub first: Argument,
+    pub second: Argument,
+    pub third: Argument,
+    pub fourth: Argument,
 }
 
 impl Fault {
@@ -64,20 +69,23 @@ impl Fault {
     pub fn new(text: &'static str) -> Self {
         Fault {
             text,
-            arguments: [Argument::Nothing; ARGUMENTS],
+            first: Argument::Nothing,
+            second: Argument::Nothing,
+            third: Argument::Nothing,
+            fourth: Argument::Nothing,
         }
     }
 
     /// Returns the fault with one more argument, after those that it has.
     pub fn with(self, argument: Argument) -> Self {
-        let mut arguments = self.arguments;
-        for place in &mut arguments {
-            if matches!(*place, Argument::Nothing) {
-                *place = argument;
-                break;
-            }
+        let mut fault = self;
+        match (self.first, self.second, self.third) {
+            (Argument::Nothing, ..) => fault.first = argument,
+            (_, Argument::Nothing, _) => fault.second = argument,
+            (_, _, Argument::Nothing) => fault.third = argument,
+            _ => fault.fourth = argument,
         }
-        Fault { arguments, ..self }
+        fault
     }
 
     pub fn part(self, part: Field) -> Self {
@@ -105,6 +113,11 @@ impl Fault {
         self.with(Argument::Decimal(number))
     }
 
+    /// Returns the fault with a count.
+    pub fn count(self, count: usize) -> Self {
+        self.decimal(u32::try_from(count).unwrap_or(u32::MAX))
+    }
+
     /// Returns that a text has no such symbol at its end.
     pub fn no_text_end(symbol: u8) -> Self {
         Fault::new("the text has no {} at its end").symbol(symbol)
@@ -125,6 +138,8 @@ pub enum Stop {
     Follows,
     /// A fault at a column, from 0, after which nothing is assembled.
     Ends(usize, Fault),
+    /// The source makes too much.
+    TooMuch(Fault),
     /// Memory ran out.
     NoMemory,
 }
@@ -133,6 +148,10 @@ impl Stop {
     /// Returns a fault at the first column of a part, which is its argument.
     pub fn of(text: &'static str, part: Field) -> Self {
         Stop::At(part.first, Fault::new(text).part(part))
+    }
+
+    pub fn too_much(text: &'static str) -> Self {
+        Stop::TooMuch(Fault::new(text))
     }
 
     /// Returns that this assembler does not know a part of the line yet.
@@ -156,7 +175,17 @@ impl<T: Drop> From<AllocFailed<T>> for Stop {
     }
 }
 
-/// A fault, or a warning, of a source.
+/// What is wrong with a source, or what is to be known, at a place of it.
+#[derive(Drop, PartialEq, Eq, PartialOrd, Ord)]
+pub struct Complaint {
+    /// From 1.
+    pub line: u32,
+    /// From 1.
+    pub column: u32,
+    pub text: Vec<u8>,
+}
+
+/// A fault, or a warning, of a statement.
 #[derive(Clone, Copy)]
 pub struct Message {
     /// From 1.

@@ -1,30 +1,29 @@
 //! The name that may be meant by one that is not known.
-use crate::symbols::{LONGEST, Name, name_of};
 use arrayvec::ArrayVec;
 
 /// How many names are looked at for the nearest.
 const MOST_NEAR: usize = 9;
 /// By how many characters these may be longer or shorter.
 const MOST_LONGER: usize = 3;
+/// How many characters a name has that is looked for, which may have a qualifier.
+const LONGEST: usize = 24;
 /// Parts of two names that are still to be compared.
-const MOST_PARTS: usize = 16;
+const MOST_PARTS: usize = 2 * LONGEST;
 
 /// A name that is near another one: the characters that both have, and those of both together.
 #[derive(Clone, Copy, Default)]
-struct Near {
-    name: Name,
+struct Near<'a> {
+    name: &'a [u8],
     equal: usize,
     all: usize,
 }
 
-impl Near {
+impl Near<'_> {
     /// Returns whether this name is nearer than another one, or as near and later in the alphabet.
     fn is_before(&self, other: &Near) -> bool {
-        let (one, two) = (
-            self.equal.wrapping_mul(other.all),
-            other.equal.wrapping_mul(self.all),
-        );
-        one > two || one == two && self.name.0 > other.name.0
+        let one = self.equal.wrapping_mul(other.all);
+        let two = other.equal.wrapping_mul(self.all);
+        one > two || one == two && self.name > other.name
     }
 }
 
@@ -32,7 +31,7 @@ impl Near {
 #[derive(Drop)]
 pub struct Nearest<'a> {
     name: &'a [u8],
-    near: ArrayVec<Near, MOST_NEAR>,
+    near: ArrayVec<Near<'a>, MOST_NEAR>,
 }
 
 impl<'a> Nearest<'a> {
@@ -45,31 +44,22 @@ impl<'a> Nearest<'a> {
     }
 
     /// Looks at a name.
-    pub fn see(&mut self, one: Name) {
-        let characters = one.characters();
-        let text = characters.get(..one.length()).unwrap_or(b"");
-        if !are_alike(text, self.name) {
+    pub fn see(&mut self, one: &'a [u8]) {
+        if !are_alike(one, self.name) {
             return;
         }
         let near = Near {
             name: one,
-            equal: equal_characters(text, self.name),
-            all: text.len().saturating_add(self.name.len()),
+            equal: equal_characters(one, self.name),
+            all: one.len().saturating_add(self.name.len()),
         };
         if near.equal.wrapping_mul(10) >= near.all.wrapping_mul(3) {
             self.keep(near);
         }
     }
 
-    /// Looks at the text of a name.
-    pub fn see_text(&mut self, text: &[u8]) {
-        if let Some(one) = name_of(text) {
-            self.see(one);
-        }
-    }
-
     /// Keeps a name in its place, if it is among the nearest.
-    fn keep(&mut self, near: Near) {
+    fn keep(&mut self, near: Near<'a>) {
         let mut last = near;
         for kept in &mut self.near {
             if last.is_before(kept) {
@@ -82,15 +72,11 @@ impl<'a> Nearest<'a> {
     }
 
     /// Returns the name that may be meant: of the nearest ones, that which begins alike.
-    pub fn found(&self) -> Option<Name> {
+    pub fn found(&self) -> Option<&'a [u8]> {
         let mut best = None;
         let mut most: usize = 0;
         for near in &self.near {
-            let characters = near.name.characters();
-            let count = equal_at_beginning(
-                characters.get(..near.name.length()).unwrap_or(b""),
-                self.name,
-            );
+            let count = equal_at_beginning(near.name, self.name);
             if best.is_none() || count > most {
                 best = Some(near.name);
                 most = count;
@@ -112,9 +98,7 @@ fn equal_at_beginning(one: &[u8], other: &[u8]) -> usize {
 
 /// Returns whether names have about the same length, and one has more than half of the characters of the other.
 fn are_alike(one: &[u8], name: &[u8]) -> bool {
-    if name.len() > LONGEST.wrapping_add(MOST_LONGER)
-        || one.len().abs_diff(name.len()) > MOST_LONGER
-    {
+    if name.len() > LONGEST || one.len().abs_diff(name.len()) > MOST_LONGER {
         return false;
     }
     let mut all: usize = 0;
@@ -133,105 +117,72 @@ fn are_alike(one: &[u8], name: &[u8]) -> bool {
     common.wrapping_mul(2) > all
 }
 
-/// Parts of two names, each from a first character to before a last one.
-#[derive(Clone, Copy, Default)]
-struct Part {
-    first: usize,
-    last: usize,
-    other_first: usize,
-    other_last: usize,
-}
-
 /// Returns how many characters two names have in common: the longest run of equal ones, and likewise before it and after it.
-fn equal_characters(one: &[u8], other: &[u8]) -> usize {
-    let mut parts: ArrayVec<Part, MOST_PARTS> = ArrayVec::new();
-    let _ = parts.try_push(Part {
-        first: 0,
-        last: one.len(),
-        other_first: 0,
-        other_last: other.len(),
-    });
+fn equal_characters<'a>(one: &'a [u8], other: &'a [u8]) -> usize {
+    let mut parts: ArrayVec<(&'a [u8], &'a [u8]), MOST_PARTS> = ArrayVec::new();
+    let _ = parts.try_push((one, other));
     let mut equal: usize = 0;
     for _ in 0..one.len().saturating_mul(2).saturating_add(1) {
-        let Some(part) = parts.pop() else {
+        let Some((one, other)) = parts.pop() else {
             break;
         };
-        let run = longest_run(one, other, part);
-        if run.last > run.first {
-            equal = equal.wrapping_add(run.last.wrapping_sub(run.first));
-            let _ = parts.try_push(Part {
-                last: run.first,
-                other_last: run.other_first,
-                ..part
-            });
-            let _ = parts.try_push(Part {
-                first: run.last,
-                other_first: run.other_last,
-                ..part
-            });
+        let Run {
+            first,
+            other_first,
+            length,
+        } = longest_run(one, other);
+        if length > 0 {
+            equal = equal.wrapping_add(length);
+            let (end, other_end) = (
+                first.saturating_add(length),
+                other_first.saturating_add(length),
+            );
+            let before = (one.get(..first), other.get(..other_first));
+            let after = (one.get(end..), other.get(other_end..));
+            for part in [before, after] {
+                if let (Some(one), Some(other)) = part {
+                    let _ = parts.try_push((one, other));
+                }
+            }
         }
     }
     equal
 }
 
-/// Returns the longest run of equal characters in two parts, the first one of several.
-fn longest_run(one: &[u8], other: &[u8], part: Part) -> Part {
-    let mut best = Part {
+/// Equal characters of two names: where they begin in each, and how many they are.
+#[derive(Clone, Copy)]
+struct Run {
+    first: usize,
+    other_first: usize,
+    length: usize,
+}
+
+/// Returns the longest run of equal characters in two names, the first one of several.
+fn longest_run(one: &[u8], other: &[u8]) -> Run {
+    let mut best = Run {
         first: 0,
-        last: 0,
         other_first: 0,
-        other_last: 0,
+        length: 0,
     };
-    for end in part.first..part.last {
-        best = longest_run_to(
-            one,
-            other,
-            Part {
-                last: end.saturating_add(1),
-                ..part
-            },
-            best,
-        );
+    for first in 0..one.len() {
+        best = longest_run_at(one, other, first, best);
     }
     best
 }
 
-/// Returns the longest run of equal characters that ends at the end of the first part, or the best one before it if none is longer.
-fn longest_run_to(one: &[u8], other: &[u8], part: Part, best: Part) -> Part {
+/// Returns the longest run of equal characters that begins at a character of the first name, or the best one before it if none is longer.
+fn longest_run_at(one: &[u8], other: &[u8], first: usize, best: Run) -> Run {
     let mut best = best;
-    for end in part.other_first..part.other_last {
-        let other_last = end.saturating_add(1);
-        let length = equal_before(one, other, Part { other_last, ..part });
-        if length > best.last.wrapping_sub(best.first) {
-            let (first, other_first) = (
-                part.last.wrapping_sub(length),
-                other_last.wrapping_sub(length),
-            );
-            best = Part {
+    let rest = one.get(first..).unwrap_or(b"");
+    for other_first in 0..other.len() {
+        let length = equal_at_beginning(rest, other.get(other_first..).unwrap_or(b""));
+        if length > best.length {
+            best = Run {
                 first,
-                last: part.last,
                 other_first,
-                other_last,
+                length,
             };
         }
     }
     best
-}
-
-/// Returns how many characters are equal at the ends of two parts.
-fn equal_before(one: &[u8], other: &[u8], part: Part) -> usize {
-    let most = part
-        .last
-        .wrapping_sub(part.first)
-        .min(part.other_last.wrapping_sub(part.other_first));
-    for count in 0..most {
-        let (at, other_at) = (
-            part.last.wrapping_sub(count).wrapping_sub(1),
-            part.other_last.wrapping_sub(count).wrapping_sub(1),
-        );
-        if one.get(at) != other.get(other_at) {
-            return count;
-        }
-    }
-    most
 }

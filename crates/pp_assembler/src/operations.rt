@@ -1,8 +1,10 @@
 //! The operations that are no instructions.
+use crate::blocks::Opening;
+use crate::conditions::Order;
 use crate::instructions::code_of;
 use Operation::{
     Base, Bits, Block, Data, Deck, End, Equate, Error, Expressions, Greatest, Ignored, Inside,
-    Least, Lines, Location, NotYet, Origin, Refused, Set, Shortest, Space, Subroutine, Zeros,
+    Least, Lines, Literals, Location, Origin, Qualifier, Refused, Set, Shortest, Space, Use, Zeros,
 };
 
 /// What a name in the operation field is.
@@ -33,19 +35,30 @@ pub enum Operation {
     End,
     /// What makes no words here.
     Ignored,
-    Subroutine,
-    /// A directive that is not known yet.
-    NotYet,
-    /// What begins a block, and is not known yet.
-    Block,
-    /// What reads other lines or renames operations, and is not known yet.
-    Lines,
+    Use,
+    Qualifier,
+    Literals,
+    Micro,
+    /// DECMIC, or OCTMIC.
+    NumberMicro { is_decimal: bool },
+    MicroCount,
+    Block(Opening),
+    Lines(Elsewhere),
     /// What is only within a block.
     Inside,
     /// What is never taken, and what to write instead.
     Refused(&'static str),
     /// No operation that is known.
     Unknown,
+}
+
+/// Where lines are that a directive performs, or what it does with operations.
+#[derive(Clone, Copy)]
+pub enum Elsewhere {
+    Deck,
+    Here,
+    Synonym,
+    Purge,
 }
 
 /// Which values are errors of the source.
@@ -61,7 +74,7 @@ pub enum Test {
 const NO_SUCH_INSTRUCTION: &str = "the 6600 has no such instruction";
 
 /// The operations that are no instructions, each with its names.
-pub static OPERATIONS: [(&str, Operation); 44] = [
+pub static OPERATIONS: [(&str, Operation); 61] = [
     ("CON", Expressions),
     ("DATA", Data),
     ("VFD", Bits),
@@ -85,24 +98,38 @@ pub static OPERATIONS: [(&str, Operation); 44] = [
     ("END", End),
     ("LDK", Shortest(0o14, 0o15, 0o20)),
     ("ADK", Shortest(0o16, 0o17, 0o21)),
-    ("SUBR", Subroutine),
     (
         "ABS SST ENTRY TITLE TTL SPACE EJECT LIST NOREF XREF COMMENT CTEXT ENDX NOLABEL NIL",
         Ignored,
     ),
-    ("USE QUAL LIT", NotYet),
-    ("MICRO DECMIC OCTMIC MICCNT", NotYet),
-    (
-        "IF IFC IFEQ IFNE IFGT IFGE IFLT IFLE IFPL IFMI IFPP IFCP SKIP",
-        Block,
-    ),
-    ("DUP ECHO", Block),
-    ("MACRO MACROE", Block),
-    ("RMT", Block),
-    ("XTEXT", Lines),
-    ("HERE", Lines),
-    ("OPSYN", Lines),
-    ("PURGMAC", Lines),
+    ("USE", Use),
+    ("QUAL", Qualifier),
+    ("LIT", Literals),
+    ("MICRO", Operation::Micro),
+    ("DECMIC", Operation::NumberMicro { is_decimal: true }),
+    ("OCTMIC", Operation::NumberMicro { is_decimal: false }),
+    ("MICCNT", Operation::MicroCount),
+    ("IF", Block(Opening::Attribute)),
+    ("IFC", Block(Opening::Texts)),
+    ("IFEQ", Block(Opening::Numbers(Order::Equal))),
+    ("IFNE", Block(Opening::Numbers(Order::NotEqual))),
+    ("IFGT", Block(Opening::Numbers(Order::Greater))),
+    ("IFGE", Block(Opening::Numbers(Order::NotLess))),
+    ("IFLT", Block(Opening::Numbers(Order::Less))),
+    ("IFLE", Block(Opening::Numbers(Order::NotGreater))),
+    ("IFPL", Block(Opening::Sign { is_minus: false })),
+    ("IFMI", Block(Opening::Sign { is_minus: true })),
+    ("IFPP", Block(Opening::Fixed(true))),
+    ("IFCP SKIP", Block(Opening::Fixed(false))),
+    ("DUP", Block(Opening::Repeat)),
+    ("ECHO", Block(Opening::Echo)),
+    ("MACRO", Block(Opening::Macro { has_names: false })),
+    ("MACROE", Block(Opening::Macro { has_names: true })),
+    ("RMT", Block(Opening::Remote)),
+    ("XTEXT", Lines(Elsewhere::Deck)),
+    ("HERE", Lines(Elsewhere::Here)),
+    ("OPSYN", Lines(Elsewhere::Synonym)),
+    ("PURGMAC", Lines(Elsewhere::Purge)),
     ("ENDIF ELSE ENDD ENDM LOCAL IRP STOPDUP", Inside),
     ("OPDEF PPOP", Refused("use MACRO")),
     ("EXT", Refused("use EQU")),
@@ -147,6 +174,6 @@ fn has_word(names: &str, name: &[u8]) -> bool {
 pub fn is_operation(name: &[u8]) -> bool {
     !matches!(
         operation_of(name),
-        Operation::None | Subroutine | Block | Lines | Inside | Refused(_) | Operation::Unknown
+        Operation::None | Block(_) | Lines(_) | Inside | Refused(_) | Operation::Unknown
     )
 }

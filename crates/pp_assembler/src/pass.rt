@@ -1,16 +1,25 @@
 //! One pass over the statements of a source: its counters, its names, and what it has made.
 use crate::fields::Statement;
-use crate::lines::{Join, Line};
+use crate::lines::{Join, Line, Lines, Span};
+use crate::macros::Repetition;
 use crate::message::{Argument, Fault, Field, Message, Stop};
+use crate::running::{Job, Run};
 use crate::symbols::{Definition, Symbols};
 use crate::texts::{Filling, Text, text_at, without_code};
+use crate::units::{Blocks, Literals, Unit};
 use crate::values::{Base, Expression, Scope, Value, number_of};
+use crate::vocabulary::Vocabulary;
 use std::alloc::{AllocError, Global};
 
 /// The number of cells of a memory.
 pub const CELLS: usize = 4096;
 /// How many statements a source has, those of a macro of its own among them.
-const MOST_STATEMENTS: u32 = 100_000;
+pub const MOST_STATEMENTS: u32 = 100_000;
+
+/// Returns that a source makes too many statements.
+pub fn too_many_statements() -> Stop {
+    Stop::too_much("more than 100000 (decimal) statements")
+}
 
 /// The line that is performed.
 #[derive(Clone, Copy)]
@@ -22,18 +31,47 @@ pub struct Here<'a> {
     pub joins: &'a [Join],
 }
 
-impl Here<'_> {
+impl<'a> Here<'a> {
+    /// Returns a line with an index.
+    pub fn new(lines: &'a Lines, index: usize) -> Self {
+        let nothing = Span { first: 0, end: 0 };
+        let line = lines.all.get(index).copied().unwrap_or(Line {
+            number: 0,
+            text: nothing,
+            read: nothing,
+            joins: nothing,
+            call: None,
+        });
+        Here {
+            index,
+            line,
+            text: lines.capitals_of(line),
+            joins: lines.joins_of(line),
+        }
+    }
+
+    /// Returns where a part of the line is in the capitals of all lines.
+    pub fn span_of(&self, part: Field) -> Span {
+        let before = self.line.read.first;
+        Span {
+            first: before.saturating_add(part.first),
+            end: before.saturating_add(part.end),
+        }
+    }
+
     /// Returns the line and the column, from 1, of a column of the line, from 0.
-    fn place_of(&self, column: usize) -> (u32, usize) {
+    pub fn place_of(&self, column: usize) -> (u32, usize) {
         if let Some(call) = self.line.call {
-            return (self.line.number, call.saturating_add(1));
+            return (self.line.number, call.column.saturating_add(1));
         }
         let mut place = (self.line.number, column.saturating_add(1));
         for join in self.joins {
             if join.column <= column {
                 place = (
                     join.number,
-                    column.saturating_sub(join.column).saturating_add(2),
+                    column
+                        .saturating_sub(join.column)
+                        .saturating_add(join.first),
                 );
             }
         }
@@ -47,6 +85,16 @@ impl Here<'_> {
             line,
             column: u32::try_from(column).unwrap_or(u32::MAX),
             statement: self.index,
+            fault,
+        }
+    }
+
+    /// Returns a message of the line that is the last one.
+    pub fn last_message(&self, fault: Fault) -> Message {
+        Message {
+            line: self.line.number,
+            column: 1,
+            statement: usize::MAX,
             fault,
         }
     }
@@ -108,16 +156,40 @@ pub struct Pass {
     pub has_ended: bool,
     pub has_more: bool,
     pub has_name: bool,
+    pub alloc: Global,
+    pub blocks: Blocks,
+    pub literals: Literals,
+    /// The name of the present program.
+    pub unit_name: Vec<u8>,
+    /// The programs that have ended.
+    pub units: Vec<Unit>,
     /// How many words and statements there are.
     pub made: usize,
     pub performed: u32,
+    /// How many lines macros have made, or HERE has performed.
+    pub made_lines: u32,
+    pub vocabulary: Vocabulary,
+    /// The index of the present line, and the run that it is of.
+    pub at: usize,
+    pub present: Run,
+    /// What is still to be done, first the last one.
+    pub jobs: Vec<Job>,
+    /// The names of the statements whose end is looked for.
+    pub open_names: Vec<Span>,
+    /// The lines between two IRP that the next lines of a macro are within.
+    pub parts: Vec<Repetition>,
 }
 
 impl Pass {
     /// Returns a pass before its first line.
-    pub fn new(alloc: Global, symbols: Symbols, is_last: bool) -> Result<Self, AllocError> {
+    pub fn new(
+        alloc: Global,
+        symbols: Symbols,
+        blocks: Blocks,
+        is_last: bool,
+    ) -> Result<Self, AllocError> {
         let cells = vec![in alloc; Slot { word: 0, line: 0 }; CELLS]?;
-        Ok(Pass {
+        let mut pass = Pass {
             is_last,
             symbols,
             base: None,
@@ -137,16 +209,44 @@ impl Pass {
             has_ended: false,
             has_more: false,
             has_name: false,
+            alloc,
+            blocks,
+            literals: Literals::new(alloc),
+            unit_name: Vec::new(alloc),
+            units: Vec::new(alloc),
             made: 0,
-            performed: 1,
-        })
+            performed: 0,
+            made_lines: 0,
+            vocabulary: Vocabulary::new(alloc),
+            at: 0,
+            present: Run::new(),
+            jobs: Vec::new(alloc),
+            open_names: Vec::new(alloc),
+            parts: Vec::new(alloc),
+        };
+        pass.begin_unit(b"")?;
+        Ok(pass)
+    }
+
+    /// Returns whether each name and each block is as in the pass before.
+    pub fn has_settled(&self) -> bool {
+        self.symbols.have_settled() && self.blocks.have_settled(&self.symbols.text)
     }
 
     /// Counts one more statement.
     pub fn count_statement(&mut self) -> Result<(), Stop> {
         self.performed = self.performed.saturating_add(1);
         if self.performed > MOST_STATEMENTS {
-            return Err(Stop::Ends(0, Fault::new("more than 100000 (decimal) statements")));
+            return Err(too_many_statements());
+        }
+        Ok(())
+    }
+
+    /// Counts one more line that another one makes.
+    pub fn count_made(&mut self) -> Result<(), Stop> {
+        self.made_lines = self.made_lines.saturating_add(1);
+        if self.made_lines > MOST_STATEMENTS {
+            return Err(too_many_statements());
         }
         Ok(())
     }
@@ -164,20 +264,26 @@ impl Pass {
         match stop {
             Stop::At(column, fault) => self.report(here, column, fault),
             Stop::Follows => Ok(()),
-            Stop::Ends(..) | Stop::NoMemory => Err(stop),
+            Stop::Ends(..) | Stop::TooMuch(_) | Stop::NoMemory => Err(stop),
         }
     }
 
     /// Keeps a warning, of each kind the first one.
     pub fn warn(&mut self, here: &Here, column: usize, fault: Fault) -> Result<(), Stop> {
-        if !self.is_last || has_kind(&self.warnings, fault) {
+        self.warn_at(here.message(column, fault))
+    }
+
+    /// Keeps a warning at its place, of each kind the first one.
+    pub fn warn_at(&mut self, message: Message) -> Result<(), Stop> {
+        if !self.is_last || has_kind(&self.warnings, message.fault) {
             return Ok(());
         }
-        Ok(self.warnings.push(here.message(column, fault))?)
+        Ok(self.warnings.push(message)?)
     }
 
     /// Sets the counters.
     pub fn move_to(&mut self, origin: i64, location: i64) {
+        self.reach();
         self.origin = origin;
         self.location = location;
         self.open = None;
@@ -192,12 +298,26 @@ impl Pass {
         is_address: bool,
         is_set: bool,
     ) -> Result<(), Stop> {
-        let definition = Definition {
-            value,
-            line: here.line.number,
-            is_address,
-            is_set,
-        };
+        self.define_as(
+            here,
+            name,
+            Definition {
+                value,
+                line: here.line.number,
+                is_address,
+                is_set,
+                is_here: false,
+            },
+        )
+    }
+
+    /// Gives a name of a line its meaning, or reports why that can't be.
+    pub fn define_as(
+        &mut self,
+        here: &Here,
+        name: Field,
+        definition: Definition,
+    ) -> Result<(), Stop> {
         match self.symbols.define(here.text, name, definition) {
             Ok(()) => Ok(()),
             Err(stop) => self.report_stop(here, stop),
@@ -268,7 +388,13 @@ impl Pass {
         bits: u32,
         code: Option<u8>,
     ) -> Result<u64, Stop> {
-        match self.checked_field(here, operand, bits, code) {
+        let number = self.checked_field(here, operand, bits, code);
+        self.reported(here, number)
+    }
+
+    /// Returns a number; 0 if it is wrong, which is reported.
+    pub fn reported(&mut self, here: &Here, number: Result<u64, Stop>) -> Result<u64, Stop> {
+        match number {
             Ok(number) => Ok(number),
             Err(stop) => {
                 self.report_stop(here, stop)?;
@@ -291,51 +417,64 @@ impl Pass {
                 return text_field(operand, text, alone, bits);
             }
         }
-        if text.first() == Some(&b'=') {
-            return Err(Stop::not_yet(operand));
-        }
-        let number = self.number(here, operand, false)?;
-        let top = 1i64.wrapping_shl(bits).wrapping_sub(1);
-        if number > top || number < top.wrapping_neg() {
-            let fault = Fault::new("{} (octal) does not fit in {} (decimal) bits{}");
-            let fault = fault.octal(number).decimal(bits);
-            return Err(Stop::At(
-                operand.first,
-                match code {
-                    Some(code) => fault.with(Argument::Wider(operand, code)),
-                    None => fault,
-                },
-            ));
-        }
-        let positive = if matches!(text, b"-0") {
-            top
-        } else if number >= 0 {
-            number
+        let number = if text.first() == Some(&b'=') {
+            self.literal(here, operand)?
         } else {
-            top.wrapping_add(number)
+            self.number(here, operand, false)?
         };
-        Ok(u64::try_from(positive).unwrap_or(0))
+        fitting(here, operand, number, bits, code)
     }
 
-    /// Adds a line to the listing, with words that have just been made.
-    pub fn row(&mut self, here: &Here, first: usize, has_address: bool) -> Result<(), Stop> {
-        let row = Row {
+    /// Returns a number without a name as one of so many bits.
+    pub fn number_field(&mut self, here: &Here, operand: Field, bits: u32) -> Result<u64, Stop> {
+        let number = self.number(here, operand, false)?;
+        fitting(here, operand, number, bits, None)
+    }
+
+    /// Returns what the listing has of a line without words.
+    fn row_of(&self, here: &Here) -> Row {
+        let end = self.words.len();
+        Row {
             statement: here.index,
             origin: self.origin,
             location: self.location,
-            first,
-            end: self.words.len(),
-            has_address,
+            first: end,
+            end,
+            has_address: false,
             value: None,
             is_set: false,
+        }
+    }
+
+    /// Adds a line with words to the listing.
+    pub fn row(&mut self, here: &Here, words: &[u16]) -> Result<(), Stop> {
+        if !self.is_last {
+            return Ok(());
+        }
+        let row = Row {
+            has_address: true,
+            end: self.words.len().saturating_add(words.len()),
+            ..self.row_of(here)
         };
+        self.words.extend_from_slice(words)?;
         self.add_row(row)
     }
 
     /// Adds a line without words to the listing.
     pub fn plain_row(&mut self, here: &Here, has_address: bool) -> Result<(), Stop> {
-        let first = self.words.len();
-        self.row(here, first, has_address)
+        self.add_row(Row {
+            has_address,
+            ..self.row_of(here)
+        })
+    }
+
+    /// Adds a line that names a number to the listing.
+    pub fn value_row(&mut self, here: &Here, value: Option<i64>, is_set: bool) -> Result<(), Stop> {
+        self.add_row(Row {
+            value,
+            is_set,
+            ..self.row_of(here)
+        })
     }
 
     /// Adds a line to the listing, in the last pass.
@@ -355,6 +494,36 @@ fn has_kind(warnings: &[Message], fault: Fault) -> bool {
         }
     }
     false
+}
+
+/// Returns a number as one of so many bits: minus is the ones complement.
+fn fitting(
+    here: &Here,
+    operand: Field,
+    number: i64,
+    bits: u32,
+    code: Option<u8>,
+) -> Result<u64, Stop> {
+    let top = 1i64.wrapping_shl(bits).wrapping_sub(1);
+    if number > top || number < top.wrapping_neg() {
+        let fault = Fault::new("{} (octal) does not fit in {} (decimal) bits{}");
+        let fault = fault.octal(number).decimal(bits);
+        return Err(Stop::At(
+            operand.first,
+            match code {
+                Some(code) => fault.with(Argument::Wider(operand, code)),
+                None => fault,
+            },
+        ));
+    }
+    let positive = if matches!(operand.of(here.text), b"-0") {
+        top
+    } else if number >= 0 {
+        number
+    } else {
+        top.wrapping_add(number)
+    };
+    Ok(u64::try_from(positive).unwrap_or(0))
 }
 
 /// Returns a text as a number of so many bits.

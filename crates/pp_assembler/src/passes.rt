@@ -4,12 +4,20 @@ ghost use Rattle.pp_assembler.specs.Cells.{IsProgram, IsStart};
 ghost use Rattle.pp_assembler.specs.Places.{IsOfLine, length_of, line_lengths};
 
 use crate::lines::{Lines, Span, cut_lines, read_lines};
+use crate::message::{Fault, Message};
 use crate::pass::{CELLS, Pass, Slot};
 use crate::performing::Ending;
-use crate::places::{placed, sorted};
+use crate::places::complaints;
 use crate::program::{Assembly, Cell, Program};
 use crate::symbols::Symbols;
+use crate::units::{Blocks, Unit};
 use std::alloc::{AllocError, Global};
+
+/// How many passes there are, until each block is where the pass before has put it.
+const MOST_PASSES: usize = 10;
+
+const UNSETTLED: &str =
+    "the addresses of blocks are others in each pass, for they depend on one another";
 
 /// Returns what a source makes.
 ///
@@ -22,18 +30,47 @@ pub fn assemble(alloc: Global, source: &[u8]) -> Result<Assembly, AllocError>
     ensures warnings { IfOk result (λ made. All (IsOfLine (line_lengths source.now)) made.warnings.items) }
 {
     let spans = cut_lines(alloc, source)?;
-    let lines = read_lines(alloc, source, &spans)?;
-    let mut first = Pass::new(alloc, Symbols::new(alloc), false)?;
-    if let Err(ending) = first.run(&lines) {
-        return ended(alloc, lines, first, &spans, ending);
+    let mut lines = read_lines(alloc, source, &spans)?;
+    let (pass, ending) = last_pass(alloc, &mut lines)?;
+    match ending {
+        Some(ending) => ended(alloc, lines, pass, &spans, ending),
+        None => assembly_of(alloc, lines, pass, &spans),
     }
-    let Pass { mut symbols, .. } = first;
+}
+
+/// Returns the last pass over lines, and why it does not go on to their end, if so.
+fn last_pass(alloc: Global, lines: &mut Lines) -> Result<(Pass, Option<Ending>), AllocError> {
+    let mut pass = Pass::new(alloc, Symbols::new(alloc), Blocks::new(alloc), false)?;
+    if let Err(ending) = pass.run(lines) {
+        return Ok((pass, Some(ending)));
+    }
+    for _ in 1..MOST_PASSES {
+        pass = next_pass(alloc, pass)?;
+        if let Err(ending) = pass.run(lines) {
+            return Ok((pass, Some(ending)));
+        }
+        if pass.has_settled() {
+            return Ok((pass, None));
+        }
+    }
+    pass.messages.push(Message {
+        line: 1,
+        column: 1,
+        statement: usize::MAX,
+        fault: Fault::new(UNSETTLED),
+    })?;
+    Ok((pass, None))
+}
+
+/// Returns the pass after one, which knows what this one has found.
+fn next_pass(alloc: Global, pass: Pass) -> Result<Pass, AllocError> {
+    let Pass {
+        mut symbols,
+        blocks,
+        ..
+    } = pass;
     symbols.begin_pass();
-    let mut last = Pass::new(alloc, symbols, true)?;
-    if let Err(ending) = last.run(&lines) {
-        return ended(alloc, lines, last, &spans, ending);
-    }
-    assembly_of(alloc, lines, last, &spans)
+    Pass::new(alloc, symbols, blocks.next(alloc), true)
 }
 
 /// Returns a program without words and with one message alone.
@@ -68,26 +105,49 @@ fn assembly_of(
 {
     let Pass {
         symbols,
+        vocabulary,
         cells,
         words,
         rows,
         messages,
         warnings,
         start,
+        mut units,
         ..
     } = pass;
-    let program = Program::new(cells_of(alloc, &cells)?, address_of(start));
-    let messages = placed(alloc, sorted(messages)?.as_slice(), spans)?;
-    let warnings = placed(alloc, sorted(warnings)?.as_slice(), spans)?;
-    Ok(Assembly {
+    let program = if units.is_empty() {
+        program_of(alloc, &cells, start)?
+    } else {
+        let Unit { program, .. } = units.remove(0);
+        program
+    };
+    let made = Assembly {
         program,
+        others: units,
         lines,
         symbols,
+        vocabulary,
         words,
         rows,
+        messages: Vec::new(alloc),
+        warnings: Vec::new(alloc),
+    };
+    let messages = complaints(alloc, &made, &messages, spans)?;
+    let warnings = complaints(alloc, &made, &warnings, spans)?;
+    Ok(Assembly {
         messages,
         warnings,
+        ..made
     })
+}
+
+/// Returns the program of these cells.
+pub fn program_of(
+    alloc: Global,
+    cells: &[Slot],
+    start: Option<u16>,
+) -> Result<Program, AllocError> {
+    Ok(Program::new(cells_of(alloc, cells)?, address_of(start)))
 }
 
 /// Returns an address of twelve bits.

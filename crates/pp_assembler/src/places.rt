@@ -3,22 +3,49 @@ ghost use Rattle.std.specs.Prelude.{◌<◌, All, IfOk, length, map};
 ghost use Rattle.pp_assembler.specs.Places.{IsOfLine, length_of};
 
 use crate::lines::Span;
-use crate::message::Message;
+use crate::message::{Complaint, Message};
+use crate::program::Assembly;
+use crate::wording::message_text;
 use std::alloc::{AllocError, Global};
 
-/// Returns messages in the order of their places.
-pub fn sorted(messages: Vec<Message>) -> Result<Vec<Message>, AllocError> {
-    let mut messages = messages;
-    messages.sort_by_key(|message| (u64::from(message.line) << 32) | u64::from(message.column))?;
-    Ok(messages)
-}
-
-/// Returns messages with places that are in a source with these lines.
-pub fn placed(
+/// Returns messages with their texts, in the order of their places, each once.
+pub fn complaints(
     alloc: Global,
+    made: &Assembly,
     messages: &[Message],
     spans: &[Span],
-) -> Result<Vec<Message>, AllocError>
+) -> Result<Vec<Complaint>, AllocError>
+    ensures { IfOk result (λ placed. All (IsOfLine (map length_of spans.now)) placed.items) }
+{
+    let mut found = Vec::new(alloc);
+    for message in messages {
+        found.push(Complaint {
+            line: message.line,
+            column: message.column,
+            text: message_text(alloc, made, message)?,
+        })?;
+    }
+    found.sort()?;
+    placed(alloc, unique(alloc, found)?.as_slice(), spans)
+}
+
+/// Returns sorted complaints, each once.
+fn unique(alloc: Global, sorted: Vec<Complaint>) -> Result<Vec<Complaint>, AllocError> {
+    let mut unique: Vec<Complaint> = Vec::new(alloc);
+    for complaint in sorted {
+        if unique.last() != Some(&complaint) {
+            unique.push(complaint)?;
+        }
+    }
+    Ok(unique)
+}
+
+/// Returns complaints with places that are in a source with these lines.
+fn placed(
+    alloc: Global,
+    messages: &[Complaint],
+    spans: &[Span],
+) -> Result<Vec<Complaint>, AllocError>
     ensures { IfOk result (λ placed. All (IsOfLine (map length_of spans.now)) placed.items) }
 {
     let mut placed = Vec::new(alloc);
@@ -26,24 +53,24 @@ pub fn placed(
         return Ok(placed);
     }
     for message in messages {
-        placed.push(within(*message, spans))?;
+        let text = Vec::from_slice(alloc, &message.text)?;
+        placed.push(within(message.line, message.column, text, spans))?;
     }
     Ok(placed)
 }
 
-/// Returns a message at a place that is in a source with these lines: the same place, if it is.
-fn within(message: Message, spans: &[Span]) -> Message
+/// Returns a complaint at a place that is in a source with these lines: the same place, if it is.
+fn within(line: u32, column: u32, text: Vec<u8>, spans: &[Span]) -> Complaint
     requires { 0 < length spans.now }
     ensures { IsOfLine (map length_of spans.now) result }
 {
-    let index = (message.line.max(1) as usize - 1).min(spans.len() - 1);
+    let index = (line.max(1) as usize - 1).min(spans.len() - 1);
     let span = spans[index];
     let most = span.end.saturating_sub(span.first).saturating_add(1);
-    let column = (message.column.max(1) as usize).min(most);
-    Message {
+    let column = (column.max(1) as usize).min(most);
+    Complaint {
         line: (index + 1) as u32,
         column: column as u32,
-        statement: message.statement,
-        fault: message.fault,
+        text,
     }
 }

@@ -3,9 +3,11 @@ ghost use Rattle.std.specs.Prelude.{◌≡◌};
 ghost use Rattle.pp_assembler.specs.Cells.{IsProgram, IsStart};
 
 use crate::lines::Lines;
-use crate::message::Message;
+use crate::message::Complaint;
 use crate::pass::Row;
 use crate::symbols::Symbols;
+use crate::units::Unit;
+use crate::vocabulary::Vocabulary;
 
 /// A word that a source puts into a cell of the memory.
 #[repr(C)]
@@ -62,14 +64,17 @@ impl Program {
 #[derive(Drop)]
 pub struct Assembly {
     pub program: Program,
+    /// The programs of further IDENTs.
+    pub others: Vec<Unit>,
     /// The lines, each with those that continue it.
     pub lines: Lines,
     pub symbols: Symbols,
+    pub vocabulary: Vocabulary,
     /// The words of the rows.
     pub words: Vec<u16>,
     pub rows: Vec<Row>,
     /// What is wrong, in the order of the lines.
-    pub messages: Vec<Message>,
+    pub messages: Vec<Complaint>,
     /// What is to be known, in the order of the lines.
-    pub warnings: Vec<Message>,
+    pub warnings: Vec<Complaint>,
 }

@@ -1,12 +1,13 @@
 //! The names of a source: labels, and names of numbers.
+use crate::lines::Span;
 use crate::message::{Argument, Fault, Field, Stop};
 use std::alloc::{AllocError, Global};
 
 /// How many characters a symbol has.
-pub const LONGEST: usize = 8;
+const LONGEST: usize = 8;
 
 /// What a name stands for. It has no value if its definition is wrong.
-#[derive(Clone, Copy)]
+#[derive(Clone, Copy, PartialEq, Eq)]
 pub struct Definition {
     pub value: Option<i64>,
     /// From 1.
@@ -14,16 +15,14 @@ pub struct Definition {
     pub is_address: bool,
     /// By SET, so that another SET may change it.
     pub is_set: bool,
+    /// By EQU *.
+    pub is_here: bool,
 }
 
-/// A name: its characters, the first one in the upper byte, with zeros after the last one.
-#[derive(Clone, Copy, Default)]
-pub struct Name(pub u64);
-
-/// A name of a source, and what it stands for in the pass before and in this one.
+/// What a name stands for in the pass before and in this one. Its key is the name, or with a qualifier /Q/NAME.
 #[derive(Clone, Copy)]
 pub struct Symbol {
-    pub name: Name,
+    pub key: Span,
     pub before: Option<Definition>,
     pub seen: Option<Definition>,
 }
@@ -31,45 +30,26 @@ pub struct Symbol {
 /// The names that a pass has met, and those that the pass before met.
 #[derive(Drop)]
 pub struct Symbols {
+    /// The text of all keys and other names.
+    pub text: Vec<u8>,
     pub all: Vec<Symbol>,
-    /// The labels of lines that END leaves out.
-    pub passed_over: Vec<u8>,
+    /// The labels of lines that are left out.
+    passed_over: Vec<Span>,
+    /// The qualifiers that QUAL names, the present one last.
+    qualifiers: Vec<Span>,
 }
 
-/// Returns whether a symbol may begin a name.
-fn begins_name(symbol: u8) -> bool {
-    symbol.is_ascii_uppercase()
-        || matches!(
-            symbol,
-            b'.' | b'#'
-                | b'%'
-                | b'@'
-                | b'&'
-                | b'!'
-                | b'?'
-                | b'<'
-                | b'>'
-                | b'['
-                | b']'
-                | b';'
-                | b'\\'
-                | b'\''
-                | b':'
-        )
-}
-
-/// Returns whether a symbol may go on with a name.
-fn continues_name(symbol: u8) -> bool {
-    !(symbol.is_ascii_lowercase()
-        || matches!(
-            symbol,
-            b' ' | 0x09..=0x0d | b'+' | b'-' | b'*' | b'/' | b',' | b'^' | b'"' | b'(' | b')' | b'_'
-        ))
+/// Where a name is looked up, and whether only names of the lines above count.
+#[derive(Clone, Copy)]
+pub struct Place {
+    pub name: Field,
+    pub is_from_above: bool,
 }
 
 /// Returns the column after the name that begins at a column, if one does.
 pub fn end_of_name(text: &[u8], at: usize) -> Option<usize> {
-    if !begins_name(*text.get(at)?) {
+    let first = *text.get(at)?;
+    if !first.is_ascii_uppercase() && !b".#%@&!?<>[];\\':".contains(&first) {
         return None;
     }
     for end in at.saturating_add(1)..text.len() {
@@ -81,47 +61,46 @@ pub fn end_of_name(text: &[u8], at: usize) -> Option<usize> {
     Some(text.len())
 }
 
-/// Returns a name of at most eight characters.
-pub fn name_of(text: &[u8]) -> Option<Name> {
-    if text.len() > LONGEST {
-        return None;
-    }
-    let mut name: u64 = 0;
-    for at in 0..LONGEST {
-        let symbol = text.get(at).copied().unwrap_or(0);
-        name = name.wrapping_mul(256).wrapping_add(u64::from(symbol));
-    }
-    Some(Name(name))
+/// Returns whether a symbol may go on with a name.
+fn continues_name(symbol: u8) -> bool {
+    !symbol.is_ascii_lowercase() && !b" \t\n\x0b\x0c\r+-*/,^\"()_".contains(&symbol)
 }
 
-impl Name {
-    /// Returns how many characters there are.
-    pub fn length(self) -> usize {
-        LONGEST.saturating_sub((self.0.trailing_zeros() / 8) as usize)
+/// Returns whether a key is that of a name with a qualifier, or without if that is empty.
+fn is_key(key: &[u8], qualifier: &[u8], name: &[u8]) -> bool {
+    if qualifier.is_empty() {
+        return key == name;
     }
-
-    /// Returns the characters, with zeros after the last one.
-    pub fn characters(self) -> [u8; LONGEST] {
-        self.0.to_be_bytes()
+    match key {
+        [b'/', rest @ ..] => match rest.strip_prefix(qualifier) {
+            Some([b'/', rest @ ..]) => rest == name,
+            _ => false,
+        },
+        _ => false,
     }
 }
 
 impl Symbols {
     pub fn new(alloc: Global) -> Self {
         Symbols {
+            text: Vec::new(alloc),
             all: Vec::new(alloc),
             passed_over: Vec::new(alloc),
+            qualifiers: Vec::new(alloc),
         }
     }
 
-    /// Returns the index of a name.
-    fn index_of(&self, name: Name) -> Option<usize> {
-        for at in 0..self.all.len() {
-            if self.all[at].name.0 == name.0 {
-                return Some(at);
-            }
-        }
-        None
+    /// Keeps a text.
+    pub fn keep(&mut self, text: &[u8]) -> Result<Span, AllocError> {
+        let first = self.text.len();
+        self.text.extend_from_slice(text)?;
+        let end = self.text.len();
+        Ok(Span { first, end })
+    }
+
+    /// Returns a text that is kept.
+    pub fn text_of(&self, text: Span) -> &[u8] {
+        self.text.get(text.first..text.end).unwrap_or(b"")
     }
 
     /// Begins the next pass.
@@ -130,33 +109,94 @@ impl Symbols {
             symbol.before = symbol.seen;
             symbol.seen = None;
         }
+        self.qualifiers.clear();
+    }
+
+    /// Returns whether each name stands for the same as in the pass before.
+    pub fn have_settled(&self) -> bool {
+        for symbol in &self.all {
+            if symbol.before != symbol.seen {
+                return false;
+            }
+        }
+        true
+    }
+
+    /// Qualifies the names that are defined from here on; * goes back to the qualifier before.
+    pub fn qualify(&mut self, name: &[u8]) -> Result<(), AllocError> {
+        if matches!(name, b"*") {
+            let _ = self.qualifiers.pop();
+            return Ok(());
+        }
+        let qualifier = self.keep(name)?;
+        Ok(self.qualifiers.push(qualifier)?)
+    }
+
+    /// Returns the present qualifier, which is empty if there is none.
+    pub fn qualifier(&self) -> &[u8] {
+        match self.qualifiers.last() {
+            Some(qualifier) => self.text_of(*qualifier),
+            None => b"",
+        }
     }
 
     /// Keeps the label of a line that is left out.
     pub fn pass_over(&mut self, label: &[u8]) -> Result<(), AllocError> {
-        self.passed_over.extend_from_slice(label)?;
-        self.passed_over.push(b' ')?;
-        Ok(())
+        let label = self.keep(label)?;
+        Ok(self.passed_over.push(label)?)
     }
 
     /// Returns whether a name is the label of a line that is left out, or that label and an X, as of a subroutine's exit.
     pub fn is_passed_over(&self, name: &[u8]) -> bool {
-        self.has_passed_over(name)
-            || name.last() == Some(&b'X')
-                && self.has_passed_over(name.get(..name.len().wrapping_sub(1)).unwrap_or(b""))
-    }
-
-    fn has_passed_over(&self, name: &[u8]) -> bool {
-        let mut first: usize = 0;
-        for at in 0..self.passed_over.len() {
-            if self.passed_over.get(at) == Some(&b' ') {
-                if self.passed_over.get(first..at) == Some(name) {
-                    return true;
-                }
-                first = at.saturating_add(1);
+        for label in &self.passed_over {
+            let label = self.text_of(*label);
+            if label == name || name.strip_suffix(b"X") == Some(label) {
+                return true;
             }
         }
         false
+    }
+
+    /// Returns the index of the symbol that has a name with a qualifier, or without if that is empty.
+    fn index_of(&self, qualifier: &[u8], name: &[u8]) -> Option<usize> {
+        for at in 0..self.all.len() {
+            if is_key(self.text_of(self.all[at].key), qualifier, name) {
+                return Some(at);
+            }
+        }
+        None
+    }
+
+    /// Returns the symbol that a name means: with its qualifier, or else with the present one, or else without.
+    pub fn meant(&self, name: &[u8]) -> Option<Symbol> {
+        if let [b'/', ..] = name {
+            let key = name.strip_prefix(b"//").unwrap_or(name);
+            return self.all.get(self.index_of(b"", key)?).copied();
+        }
+        if let Some(index) = self.index_of(self.qualifier(), name) {
+            match self.all.get(index) {
+                Some(symbol) if symbol.is_known() => return Some(*symbol),
+                _ => {}
+            }
+        }
+        self.all.get(self.index_of(b"", name)?).copied()
+    }
+
+    /// Returns whether a line above or the pass before has defined a name.
+    pub fn is_named(&self, name: &[u8]) -> bool {
+        if matches!(self.meant(name), Some(Symbol { seen: Some(_), .. })) {
+            return true;
+        }
+        let Some(index) = self.index_of(b"", name) else {
+            return false;
+        };
+        matches!(
+            self.all.get(index),
+            Some(Symbol {
+                before: Some(_),
+                ..
+            })
+        )
     }
 
     /// Gives a name of a line its meaning.
@@ -166,50 +206,74 @@ impl Symbols {
         field: Field,
         definition: Definition,
     ) -> Result<(), Stop> {
-        let text = field.of(line);
-        if end_of_name(text, 0) != Some(text.len()) {
-            return Err(Stop::of(why_no_symbol(text), field));
+        let name = field.of(line);
+        if end_of_name(name, 0) != Some(name.len()) {
+            return Err(Stop::of(why_no_symbol(name), field));
         }
-        let Some(name) = name_of(text) else {
+        if name.len() > LONGEST {
             return Err(Stop::of("the symbol {} is longer than 8 characters", field));
-        };
-        self.put(field, name, definition)
-    }
-
-    fn put(&mut self, field: Field, name: Name, definition: Definition) -> Result<(), Stop> {
-        let Some(index) = self.index_of(name) else {
-            let symbol = Symbol {
-                name,
-                before: None,
-                seen: Some(definition),
-            };
-            return Ok(self.all.push(symbol)?);
+        }
+        let Some(index) = self.index_of(self.qualifier(), name) else {
+            return self.add(name, definition);
         };
         let Some(symbol) = self.all.get_mut(index) else {
             return Ok(());
         };
-        if let Some(old) = symbol.seen {
-            if !(definition.is_set && old.is_set) {
+        match symbol.seen {
+            Some(old) if !definition.is_set || !old.is_set => {
                 let fault = Fault::new("{} is defined twice: line {} (decimal) has it too");
-                return Err(Stop::At(field.first, fault.part(field).decimal(old.line)));
+                Err(Stop::At(field.first, fault.part(field).decimal(old.line)))
+            }
+            _ => {
+                symbol.seen = Some(definition);
+                Ok(())
             }
         }
-        symbol.seen = Some(definition);
+    }
+
+    /// Adds a text that is kept to the text of all names.
+    fn copy(&mut self, kept: Span) -> Result<(), AllocError> {
+        for at in kept.first..kept.end {
+            if let Some(symbol) = self.text.get(at).copied() {
+                self.text.push(symbol)?;
+            }
+        }
         Ok(())
+    }
+
+    /// Adds a name with the present qualifier.
+    fn add(&mut self, name: &[u8], definition: Definition) -> Result<(), Stop> {
+        let first = self.text.len();
+        if let Some(qualifier) = self.qualifiers.last().copied() {
+            if qualifier.first < qualifier.end {
+                self.text.push(b'/')?;
+                self.copy(qualifier)?;
+                self.text.push(b'/')?;
+            }
+        }
+        self.text.extend_from_slice(name)?;
+        let key = Span {
+            first,
+            end: self.text.len(),
+        };
+        Ok(
+            self.all.push(Symbol {
+                key,
+                before: None,
+                seen: Some(definition),
+            })?,
+        )
+    }
+
+    /// Returns what a name stands for by a line above.
+    pub fn seen(&self, name: &[u8]) -> Option<Definition> {
+        self.meant(name)?.seen
     }
 
     /// Returns what a name stands for. Only a name of a line above counts if that is asked, and of SET in any case. In the first pass
     /// a name may stand for nothing yet.
-    pub fn look_up(&self, text: &[u8], at: Place, is_last: bool) -> Result<Definition, Stop> {
-        let index = match name_of(text) {
-            Some(name) => self.index_of(name),
-            None => None,
-        };
-        let symbol = match index {
-            Some(index) => self.all.get(index).copied(),
-            None => None,
-        };
-        let (before, seen) = match symbol {
+    pub fn look_up(&self, name: &[u8], at: Place, is_last: bool) -> Result<Definition, Stop> {
+        let (before, seen) = match self.meant(name) {
             Some(symbol) => (symbol.before, symbol.seen),
             None => (None, None),
         };
@@ -225,10 +289,21 @@ impl Symbols {
                 line: 0,
                 is_address: true,
                 is_set: false,
+                is_here: false,
             }),
-            (None, None) if self.is_passed_over(text) => Err(Stop::Follows),
-            (None, None) => Err(not_defined(at.name)),
+            (None, None) if self.is_passed_over(name) => Err(Stop::Follows),
+            (None, None) => {
+                let fault = Fault::new("{} is not defined{}").part(at.name);
+                Err(Stop::At(at.name.first, fault.with(Argument::NearestSymbol(at.name))))
+            }
         }
+    }
+}
+
+impl Symbol {
+    /// Returns whether this pass or the one before has met the name.
+    pub fn is_known(&self) -> bool {
+        self.seen.is_some() || self.before.is_some()
     }
 }
 
@@ -240,17 +315,4 @@ fn why_no_symbol(text: &[u8]) -> &'static str {
         }
         _ => "{} is no symbol: a symbol has none of + - * / , ^ ( ) _ \"",
     }
-}
-
-/// Returns that a name is not defined.
-pub fn not_defined(name: Field) -> Stop {
-    let fault = Fault::new("{} is not defined{}").part(name);
-    Stop::At(name.first, fault.with(Argument::NearestSymbol(name)))
-}
-
-/// Where a name is looked up, and whether only names of the lines above count.
-#[derive(Clone, Copy)]
-pub struct Place {
-    pub name: Field,
-    pub is_from_above: bool,
 }

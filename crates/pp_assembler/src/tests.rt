@@ -1,19 +1,11 @@
 //! Tests of the assembler: the words of a source, and what is wrong with others, as docs/ASSEMBLER.md has them.
-use crate::{assemble, message_text};
+use crate::{assemble, complaints_text};
 use std::test::Fail;
 
 /// Returns whether this is what is wrong with a source: a line for each message.
 fn is_wrong(rt: HostRuntime, source: &[u8], wanted: &[u8]) -> Result<bool, Fail> {
     let made = assemble(rt.alloc(), source)?;
-    let mut found = Vec::new(rt.alloc());
-    for message in &made.messages {
-        let line = message.line;
-        let column = message.column;
-        found.extend_from_slice(format!(in rt.alloc(); "{line}:{column}: ")?.as_bytes())?;
-        found.extend_from_slice(message_text(rt.alloc(), &made, message)?.as_slice())?;
-        found.push(b'\n')?;
-    }
-    Ok(found.as_slice() == wanted)
+    Ok(complaints_text(rt.alloc(), &made)?.as_slice() == wanted)
 }
 
 #[test]
@@ -38,7 +30,13 @@ fn says_what_is_wrong(rt: HostRuntime) -> Result<(), Fail> {
 
 #[test]
 fn refuses_by_name_what_it_does_not_know(rt: HostRuntime) -> Result<(), Fail> {
-    let source = b"   LDN 100B\n   USE BUFFERS\n";
-    assert!(rt; is_wrong(rt, source, b"2:4: USE is not taken by this assembler yet\n")?);
+    let source = b"   LDN 100B\n   CON \xc3\xa9\n";
+    assert!(rt;
+        is_wrong(
+            rt,
+            source,
+            b"2:8: \xc3\xa9 is not taken by this assembler yet\n"
+        )?
+    );
     Ok(())
 }

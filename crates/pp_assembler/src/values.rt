@@ -1,6 +1,6 @@
 //! Expressions: terms joined by +, - and ^, elements of a term joined by * and /, from left to right.
 use crate::message::{Fault, Field, Stop};
-use crate::symbols::{Place, Symbols, end_of_name, not_defined};
+use crate::symbols::{Place, Symbols, end_of_name};
 use crate::texts::{Filling, digits_at, is_alphanumeric, text_at, without_code};
 
 const MOST_BITS: u32 = 60;
@@ -204,21 +204,12 @@ impl<'a> Expression<'a> {
     }
 
     fn name(&mut self, end: usize) -> Result<Value, Stop> {
-        let text = self.text.get(self.at..end).unwrap_or(b"");
-        let name = match text {
-            [b'/', b'/', name @ ..] => name,
-            [b'/', ..] => return Err(self.too_great()),
-            name => name,
-        };
+        let name = self.text.get(self.at..end).unwrap_or(b"");
         let place = Place {
             name: self.part(self.at, end),
             is_from_above: self.scope.is_from_above,
         };
-        let symbol = match self.scope.symbols.look_up(name, place, self.scope.is_last) {
-            Ok(symbol) => symbol,
-            Err(Stop::Follows) if name.len() != text.len() => return Err(not_defined(place.name)),
-            Err(stop) => return Err(stop),
-        };
+        let symbol = self.scope.symbols.look_up(name, place, self.scope.is_last)?;
         let Some(number) = symbol.value else {
             return Err(Stop::Follows);
         };

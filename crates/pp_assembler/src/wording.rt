@@ -1,15 +1,16 @@
 //! The text of a message: what is wrong, and what to write instead.
-use crate::digits::put_octal;
-use crate::instructions::{INSTRUCTIONS, name_of};
+use crate::digits::{put_decimal, put_octal};
+use crate::fields::length_without_blanks;
+use crate::instructions::{INSTRUCTIONS, NAMES, name_of};
+use crate::lines::{Line, Span};
 use crate::message::{Argument, Fault, Field, Message};
 use crate::nearest::Nearest;
 use crate::operations::{OPERATIONS, Operation};
 use crate::program::Assembly;
-use crate::symbols::Name;
-use crate::texts::is_alphanumeric;
+use crate::texts::{after_blanks, is_alphanumeric};
 use std::alloc::{AllocError, Global};
 
-/// How many symbols of a line that SUBR made are shown.
+/// How many symbols of a line that a macro made are shown.
 const MOST_SHOWN: usize = 72;
 
 /// A text that is written, about a line in capitals.
@@ -42,13 +43,20 @@ pub fn message_text(
         out: Vec::new(alloc),
     };
     writer.fault(message.fault)?;
-    if let Some(line) = line {
-        if line.call.is_some() {
-            writer.text(b" (in the macro SUBR: ")?;
-            let text = assembly.lines.text_of(line).get(1..).unwrap_or(b"");
-            writer.text(text.get(..MOST_SHOWN).unwrap_or(text))?;
-            writer.text(b")")?;
-        }
+    if let Some(
+        Line {
+            call: Some(call),
+            text,
+            ..
+        },
+    ) = line
+    {
+        writer.text(b" (in the macro ")?;
+        writer.text(call.name.of(&assembly.lines.capitals))?;
+        writer.text(b": ")?;
+        let text = stripped(text.of(&assembly.lines.text));
+        writer.text(text.get(..MOST_SHOWN).unwrap_or(text))?;
+        writer.text(b")")?;
     }
     let Writer { out, .. } = writer;
     Ok(out)
@@ -62,7 +70,14 @@ impl Writer<'_> {
     /// Writes the text of a fault, with its arguments.
     fn fault(&mut self, fault: Fault) -> Result<(), AllocError> {
         let mut rest = fault.text;
-        for argument in &fault.arguments {
+        let Fault {
+            first,
+            second,
+            third,
+            fourth,
+            ..
+        } = fault;
+        for argument in &[first, second, third, fourth] {
             let Some((before, after)) = rest.split_once("{}") else {
                 break;
             };
@@ -82,17 +97,14 @@ impl Writer<'_> {
             Argument::Symbol(symbol) => self.text(&[symbol]),
             Argument::Octal(number) => put_octal(&mut self.out, number, 1),
             Argument::Cell(cell) => put_octal(&mut self.out, i64::from(cell), 4),
-            Argument::Decimal(number) => {
-                let digits = format!(in self.alloc; "{number}")?;
-                self.text(digits.as_bytes())
-            }
+            Argument::Decimal(number) => put_decimal(self.alloc, &mut self.out, number),
             Argument::Instruction(code) => self.instruction(code),
             Argument::NearestSymbol(name) => self.nearest_symbol(name),
-            Argument::NearestOperation(name) => {
-                self.nearest(nearest_operation(name.of(self.line)))
-            }
+            Argument::NearestOperation(name, number) => self.nearest_operation(name, number),
             Argument::Wider(operand, code) => self.wider(operand, code),
+            Argument::Kept(name) => self.text(self.assembly.symbols.text_of(name)),
             Argument::Reaching(target, code) => self.reaching(target, code),
+            Argument::Names(operands) => self.names(operands),
         }
     }
 
@@ -101,21 +113,49 @@ impl Writer<'_> {
     }
 
     fn nearest_symbol(&mut self, name: Field) -> Result<(), AllocError> {
+        let symbols = &self.assembly.symbols;
         let mut nearest = Nearest::new(name.of(self.line));
-        for symbol in &self.assembly.symbols.all {
-            nearest.see(symbol.name);
+        for symbol in &symbols.all {
+            if symbol.is_known() {
+                nearest.see(symbols.text_of(symbol.key));
+            }
         }
         self.nearest(nearest.found())
     }
 
+    /// Writes the operation that may be meant at the statement with a number.
+    fn nearest_operation(&mut self, name: Field, number: u32) -> Result<(), AllocError> {
+        let mut nearest = Nearest::new(name.of(self.line));
+        see_operations(&mut nearest);
+        let vocabulary = &self.assembly.vocabulary;
+        for one in &vocabulary.macros {
+            if one.from < number && number <= one.until {
+                nearest.see(vocabulary.text_of(one.name));
+            }
+        }
+        self.nearest(nearest.found())
+    }
+
+    /// Writes the names of a macro's operands.
+    fn names(&mut self, operands: Span) -> Result<(), AllocError> {
+        let vocabulary = &self.assembly.vocabulary;
+        for index in operands.first..operands.end {
+            if let Some(operand) = vocabulary.operands.get(index) {
+                self.text(if index > operands.first { b", " } else { b"" })?;
+                self.text(vocabulary.text_of(operand.name))?;
+                self.text(b"=")?;
+            }
+        }
+        Ok(())
+    }
+
     /// Writes the name that may be meant.
-    fn nearest(&mut self, name: Option<Name>) -> Result<(), AllocError> {
+    fn nearest(&mut self, name: Option<&[u8]>) -> Result<(), AllocError> {
         let Some(name) = name else {
             return Ok(());
         };
         self.text(b"; ")?;
-        let characters = name.characters();
-        self.text(characters.get(..name.length()).unwrap_or(b""))?;
+        self.text(name)?;
         self.text(b" is")
     }
 
@@ -182,23 +222,27 @@ fn is_distance(text: &[u8]) -> bool {
     }
 }
 
-/// Returns the operation that may be meant by a name.
-fn nearest_operation(name: &[u8]) -> Option<Name> {
-    let mut nearest = Nearest::new(name);
+/// Returns a text without the blanks at its ends.
+fn stripped(text: &[u8]) -> &[u8] {
+    let text = text.get(..length_without_blanks(text)).unwrap_or(text);
+    text.get(after_blanks(text, 0)..).unwrap_or(b"")
+}
+
+/// Looks at the operations that are no macros.
+fn see_operations(nearest: &mut Nearest) {
     for code in 0..INSTRUCTIONS {
         if code != 0o24 && code != 0o25 {
-            nearest.see_text(name_of(code as u8).as_slice());
+            nearest.see(NAMES[code].as_slice());
         }
     }
     for (names, operation) in &OPERATIONS {
         if !matches!(
             operation,
-            Operation::Lines | Operation::Inside | Operation::Refused(_)
+            Operation::Lines(_) | Operation::Inside | Operation::Refused(_)
         ) {
             for one in names.split_whitespace() {
-                nearest.see_text(one.as_bytes());
+                nearest.see(one.as_bytes());
             }
         }
     }
-    nearest.found()
 }

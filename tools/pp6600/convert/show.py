@@ -9,8 +9,7 @@ from ..shell.shown import show_lines
 
 DESCRIPTION = """Shows each line of a script after '> ', and below it the answer. The exit status is 0 if no line was refused, else
 1. With --turn N it shows the lines that lead to turn N: those of the actions that are in effect at the end of the script, up to
-there, with the last STEP cut short. At a terminal a line that is refused has the reason below its answer. A DUMP CR of the tool's
-own is written first and after each DUMP, and once something is watched, after each STEP."""
+there, with the last STEP cut short. At a terminal a line that is refused has the reason below its answer."""
 
 
 def main() -> int:

@@ -8,7 +8,8 @@ from ..engine.assembler import COMPLAINTS, LISTING, WORDS, Assembler, assembler_
 from ..shell.ending import shown_text
 from ..shell.text_files import lines_in, lines_of, named
 
-NOT_YET = " is not taken by this assembler yet"  # how the only message of the library ends about what Python's assembler may take
+# How the only message of the library ends where it stops: Python's assembler may take what it does not, and warns up to a limit.
+STOPS = (" is not taken by this assembler yet", "more than 100000 (decimal) words", "more than 100000 (decimal) statements")
 PLAIN_TEXT = re.compile(rb"[\t\n\r -~]*")  # in other texts a column may be something else
 
 
@@ -32,7 +33,7 @@ def by_library(assembler: Assembler, source: bytes, path: Optional[str], form: s
     """Assembles a source by the library; None if it does not take it."""
     text, faults = assembler.text(source, COMPLAINTS)
     complaints = lines_of(text.decode("ascii"))
-    if faults and any(complaint.endswith(NOT_YET) for complaint in complaints[:faults]):
+    if faults and any(complaint.endswith(STOPS) for complaint in complaints[:faults]):
         return None
 
     def lines() -> List[str]:

@@ -3,12 +3,12 @@ the cell of the next word, and no jump."""
 
 from __future__ import annotations
 
-from typing import TYPE_CHECKING, Iterator, List, NamedTuple, Optional, Sequence, Set
+from typing import TYPE_CHECKING, Iterator, List, NamedTuple, Optional, Set
 
 from ..run.conditions import RJM, parsed
 from ..run.forms import CELLS, PROCESSORS, Place
 from ..run.origin_search import SET, TURN, OriginSearch, Step
-from ..run.search import Made, around, last_moments
+from ..run.search import Made, Search, around, spans
 from ..run.session import Session
 from ..run.tape import Position, Tape
 from ..run.turn import Processor
@@ -18,7 +18,6 @@ if TYPE_CHECKING:
     from .sources import Source
 
 LJM = "LJM"
-AT_FIRST, MORE, MOST = 1, 8, 0o10000  # arrivals at an address that are looked at
 
 
 class Rjm(NamedTuple):
@@ -45,13 +44,9 @@ class SubroutineCall(NamedTuple):
 
 def arrivals(run: Session, number: int, address: int, first: int, last: int) -> Iterator[int]:
     """Yields the turns after one of a run, up to another one, after which P came to be an address, the latest first."""
-    most, seen = AT_FIRST, 0
-    while most <= MOST:
-        moments = last_moments(run, parsed(f"P {number:o} = {address:o}"), most, first, last)
-        yield from (moment.turn for moment in reversed(moments[:len(moments) - seen]))
-        if len(moments) < most:
-            return
-        seen, most = len(moments), most * MORE
+    search = Search(run, parsed(f"P {number:o} = {address:o}"))
+    for start, end in spans(last, first):
+        yield from reversed([turn for _, turn in search.found(start, end)])
 
 
 def turn_made(run: Session, turn: int) -> Made:

@@ -7,7 +7,7 @@ from .source.encoding import distance, operands_of
 from .source.machine import CODES, LAST, Form, form_of
 from .source.messages import Fault, Follows
 from .source.state import State
-from .source.statements import Field, Line, Statement, parts_of, statement_of
+from .source.statements import Field, Line, Statement, statement_of
 from .source.symbols import Symbol
 from .printed import SUBR
 

@@ -2,7 +2,7 @@
 operand. What is in doubt is said with its line and column."""
 
 import re
-from typing import Dict, Iterator, List, NamedTuple, Optional, Sequence, Tuple
+from typing import Dict, List, NamedTuple, Optional, Sequence, Tuple
 
 from ..run.forms import CELLS
 from .listed_words import Told, told_by

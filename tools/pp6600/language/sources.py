@@ -4,7 +4,7 @@ A cell is of the line whose location it is, or else of the line whose origin it 
 program that moved itself by LOC keeps its lines. The second word of an instruction may be another one, for RJM writes it."""
 
 import os
-from typing import Dict, Iterable, Iterator, List, NamedTuple, Optional, Sequence, Tuple
+from typing import Dict, Iterator, List, NamedTuple, Optional, Sequence, Tuple
 
 from ..failure import Failure, Faults
 from ..run.forms import Place

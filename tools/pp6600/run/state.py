@@ -6,7 +6,7 @@ milliseconds although it has 41,000 cells."""
 from __future__ import annotations
 
 from itertools import zip_longest
-from typing import Dict, Iterable, Iterator, List, Mapping, NamedTuple, Optional, Sequence, Tuple, Union
+from typing import Iterable, Iterator, List, Mapping, NamedTuple, Optional, Sequence, Tuple, Union
 
 from ..engine import interface as flat
 from .console import Console

@@ -399,15 +399,6 @@ def of_word(place: Place, word: Optional[Place], parts: Optional[Tuple[int, ...]
     return Write(place, True, (Source(word, parts),) if word else (), () if word else (NO_WORD,))
 
 
-def cells_written(word: int) -> Optional[range]:
-    """Returns the cells of its processor that an instruction writes, if its first word alone says which they are; else None."""
-    code, d = word >> 6, word & 0o77
-    places = {effect.place for effect in INSTRUCTIONS[code].effects}
-    if "PHASE" in places or "X" in places and (code in INDIRECT or code in INDEXED):
-        return None
-    return range(d, d + 5) if "D5" in places else range(d, d + ("X" in places))
-
-
 def address_is_in_cell(word: int) -> bool:
     """Returns whether the instruction of a word has its operand's address, or a part of it, in cell d."""
     code, d = word >> 6, word & 0o77

@@ -5,12 +5,6 @@ import subprocess
 from typing import Any, Callable, List
 
 from .command_line import Failure, run
-from .options import TOOLS
-
-
-def tool_names() -> List[str]:
-    """Returns the names of the tools: the files of that folder whose names have no ending."""
-    return sorted(name for name in os.listdir(TOOLS) if "." not in name and os.path.isfile(os.path.join(TOOLS, name)))
 
 
 def checked_program(path: str, *words: str) -> List[str]:

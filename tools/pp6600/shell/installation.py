@@ -12,8 +12,9 @@ import shutil
 import subprocess
 import sys
 import tempfile
-from typing import Dict, Iterable, Iterator, List, NamedTuple, Optional, Tuple, Union
+from typing import Dict, Iterator, NamedTuple, Optional, Tuple, Union
 
+from ..__main__ import MODULES
 from ..engine.choice import HOME, LIBRARIES, NAMES, first_that_starts, handed_out, machine_here, of_checkout, verified
 from ..failure import Failure
 from .completions import filled
@@ -94,11 +95,6 @@ def part(path: str) -> Manifest:
     return {path: read(whole)} if os.path.isfile(whole) else {f"{path}/{name}": entry for name, entry in files_below(whole).items()}
 
 
-def tool_names() -> List[str]:
-    """Returns the names of the tools of a checkout."""
-    return sorted(entry.name for entry in os.scandir(os.path.join(TOP, "tools")) if entry.is_file() and "." not in entry.name)
-
-
 def manual_pages() -> Manifest:
     """Returns the manual pages of a checkout."""
     with tempfile.TemporaryDirectory() as room:
@@ -113,14 +109,14 @@ def packed(path: str) -> File:
     return File(gzip.compress(read(path).data, 9, mtime=0))
 
 
-def completions(tools: Iterable[str]) -> Manifest:
+def completions() -> Manifest:
     """Returns the completions of shells; bash and fish look for a file with the name of the command."""
     bash, fish = "share/bash-completion/completions", "share/fish/vendor_completions.d"
     paths = {"bash": f"{bash}/pp6600", "fish": f"{fish}/pp6600.fish", "zsh": "share/zsh/site-functions/_pp6600"}
     texts = {shell: read(os.path.join(TOP, "share", f"completion.{shell}")).data.decode() for shell in paths}
     return {**{path: File(filled(shell, texts[shell]).encode()) for shell, path in paths.items()},
-            **{f"{bash}/pp6600-{name}": SymbolicLink("pp6600") for name in tools},
-            **{f"{fish}/pp6600-{name}.fish": SymbolicLink("pp6600.fish") for name in tools}}
+            **{f"{bash}/pp6600-{name}": SymbolicLink("pp6600") for name in MODULES},
+            **{f"{fish}/pp6600-{name}.fish": SymbolicLink("pp6600.fish") for name in MODULES}}
 
 
 def programs_for(machine: str, *options: str) -> Dict[str, str]:
@@ -135,18 +131,17 @@ def programs_for(machine: str, *options: str) -> Dict[str, str]:
 
 def of_this_checkout(programs: Dict[str, str]) -> Manifest:
     """Returns what a checkout installs, with these programs by their names."""
-    tools = tool_names()
     found: Manifest = {f"{OWN}/{name}": read(path)._replace(runs=not name.endswith(LOADED)) for name, path in programs.items()}
     found.update({f"{OWN}/{name}": read(os.path.join(TOP, path)) for name, path in IN_OWN.items()})
     found["bin/pp6600"] = read(os.path.join(TOP, "pp6600"))
     found["bin/pp6600-python"] = SymbolicLink(f"../{OWN}/pp6600-python")
-    found.update({f"bin/pp6600-{name}": SymbolicLink(f"../{OWN}/tools/{name}") for name in tools})
+    found.update({f"bin/pp6600-{name}": SymbolicLink(f"../{OWN}/tools/{name}") for name in MODULES})
     found.update({f"{OWN}/{path}": entry for path, entry in part("tools").items()})
     found.update({f"{PAGES}/{path}": entry for name in IN_PAGES for path, entry in part(name).items() if not OF_CHECKOUT.match(path)})
     found[f"{PAGES}/tools"] = SymbolicLink(f"../../{OWN}/tools")
     found.update({f"share/doc/pp6600/{name}": SymbolicLink(f"../../pp6600/{name}") for name in ("tools", *(path.split("/")[0] for path in IN_PAGES))})
     found["share/doc/pp6600/changelog.gz"] = packed(os.path.join(TOP, "CHANGELOG.md"))
-    return without_lost_links({**found, **completions(tools), **manual_pages()})
+    return without_lost_links({**found, **completions(), **manual_pages()})
 
 
 def of_this_installation(programs: Dict[str, str]) -> Manifest:

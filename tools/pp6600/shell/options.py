@@ -13,8 +13,6 @@ from ..failure import Failure
 from ..run.forms import CELLS, CLOCK, PROCESSORS
 from .ending import write
 
-TOOLS = os.path.dirname(os.path.dirname(os.path.dirname(os.path.abspath(__file__))))
-
 
 class Option(NamedTuple):
     """An option of the simulator: what its value is called, what it is, and the values that there are; none if there are many."""

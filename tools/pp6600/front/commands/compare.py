@@ -70,31 +70,25 @@ class Comparison:
         self.turns = min(side.turns for side in sides)
         self.known = set()
 
-    def after(self, turn, with_central=True, has_settings=True):
+    def after(self, turn, has_settings=True):
         """Returns the differences after a turn, but those at known places."""
         runs = [side.at(turn, has_settings) for side in self.sides]
         states = [state_of(run) for run in runs]
         found = list(states[0].differences(states[1]))
         for program in self.versions:
             found = [*program.differences(states), *(difference for difference in found if not program.replaces(difference))]
-        found += central_differences(*map(central_of, runs)) if with_central else ()
+        found += central_differences(*map(central_of, runs))
         return [difference for difference in found if difference[0] not in self.known]
 
-    def first_after(self, same, end, with_central):
-        """Returns the first turn after which they differ, of those after a turn where they are the same; or None."""
-        turns = [same + (end - same) * number // SAMPLES for number in range(1, SAMPLES + 1)]
-        for turn in dict.fromkeys(turn for turn in turns if turn > same):
-            if self.after(turn, with_central):
-                return halve(same, turn, lambda middle: bool(self.after(middle, with_central)))
+    def first(self):
+        """Returns the first turn after which they differ, or None. They are the same at the beginning."""
+        same = 0
+        for number in range(1, SAMPLES + 1):
+            turn = self.turns * number // SAMPLES
+            if turn > same and self.after(turn):
+                return halve(same, turn, lambda middle: bool(self.after(middle)))
             same = turn
         return None
-
-    def first(self):
-        """Returns the first turn after which they differ, or None. Central memory is long, so it is looked at when the rest
-        has said where."""
-        turn = self.first_after(0, self.turns, False)
-        end = self.turns if turn is None else turn - 1
-        return self.first_after(0, end, True) or turn if end and self.after(end) else turn
 
 
 def parting(sides, number):

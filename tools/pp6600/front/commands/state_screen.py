@@ -7,7 +7,7 @@ from ...run.session import Session
 from ...run.tape import counted
 from ...run.turn import states_of
 from ...shell.command_line import add_script, add_turn, arguments, script_lines, simulator, write_lines
-from ...shell.script import Refusals, replayed
+from ...shell.script import Refusals
 
 DESCRIPTION = """Shows the machine at the end of a script, or after a turn, on one screen: the ten processors with the two words
 from P on, the name of the instruction, and WAITS if it waits as the channels are; the channels and the clock beside them, the
@@ -62,20 +62,15 @@ def screen(run, symbols):
     return lines + watch_lines(run.demand("DUMP W")) + left[len(right):] + (call_lines(run, symbols) if symbols.sources() else [])
 
 
-def run_to_end(asked, symbols):
-    """Returns a run that has performed a script, and its refused lines."""
-    lines = symbols.loading(script_lines(asked.script))
+def performed(asked, symbols):
+    """Returns a run that has performed a script, or its actions up to a turn, and the refused lines."""
     run, refusals = Session(simulator(asked)), Refusals()
-    for number, line in counted(lines):
+    for number, line in counted(symbols.loading(script_lines(asked.script))):
         refusals.note(number, line, run.act(line))
+    if asked.turn is not None:
+        run.cut(run.position)
+        run.goto(run.tape.after_turn(asked.turn))
     return run, refusals
-
-
-def run_to_turn(asked, symbols):
-    """Returns a run that has performed the actions of a script up to a turn, and its refused lines. Nothing is watched."""
-    run, script = replayed(asked, symbols, asked.script, asked.turn)
-    run.goto(run.tape.end)
-    return run, script.refusals
 
 
 def main():
@@ -85,7 +80,7 @@ def main():
     add_script(parser)
     asked = parser.parse()
     symbols = symbols_of(asked)
-    run, refusals = (run_to_end if asked.turn is None else run_to_turn)(asked, symbols)
+    run, refusals = performed(asked, symbols)
     write_lines(screen(run, symbols))
     run.end()
     return refusals.status()

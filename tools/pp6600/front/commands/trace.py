@@ -125,29 +125,21 @@ class Touches(Test):
         return word & 0o77 == self.channel and word >> 6 in CHANNEL_CODES
 
 
-def positions_of(asked, run, last):
-    """Yields the positions before the turns that a command line asks for, up to a last turn; of a channel all that may touch it."""
-    tape, processors, first = run.tape, asked.processor or range(PROCESSORS), asked.first - 1
+def positions_of(asked, run, first, last):
+    """Yields the positions before the turns after one, and up to another, that a command line asks for; of a channel all that may touch it."""
+    tape, processors = run.tape, asked.processor or range(PROCESSORS)
     if asked.channel is not None:
-        return positions_of_touches(asked, run, min(first, last), last)
-    if asked.last is not None:
-        first = max(last - asked.last * PROCESSORS, first)
+        search = Search(run, Condition([Touches(asked.channel, processors)]))
+        return (position for position, _ in search.found(first, last))
     end = tape.at_turn(last)
-    found = (position for position, line in takewhile(lambda stop: stop[0] < end, tape.stops(first, processors)) if line == STEP)
-    return found if asked.last is None else list(found)[-asked.last:]
+    return (position for position, line in takewhile(lambda stop: stop[0] < end, tape.stops(first, processors)) if line == STEP)
 
 
-def positions_of_touches(asked, run, first, last):
-    """Yields the positions before the turns after one, and up to another, that may touch the channel."""
-    search = Search(run, Condition([Touches(asked.channel, asked.processor or range(PROCESSORS))]))
-    return (position for position, _ in search.found(first, last))
-
-
-def last_lines(asked, run, tracer, last):
-    """Returns the lines of the last turns that touched the channel, as many as the command line asks for."""
+def last_lines(asked, run, tracer, first, last):
+    """Returns the last lines of turns, as many as the command line asks for."""
     found = []
-    for start, end in spans(last, min(asked.first - 1, last)):
-        found[:0] = filter(None, map(tracer.line, list(positions_of_touches(asked, run, start, end))))
+    for start, end in spans(last, first, PROCESSORS * asked.last):
+        found[:0] = filter(None, map(tracer.line, list(positions_of(asked, run, start, end))))
         if len(found) >= asked.last:
             break
     return found[-asked.last:]
@@ -167,10 +159,10 @@ def main():
     symbols = symbols_of(asked)
     run, script = replayed(asked, symbols, asked.script)
     last = run.tape.turns if asked.to is None else min(asked.to, run.tape.turns)
-    tracer = Tracer(run, asked.channel, symbols)
-    if asked.channel is None or asked.last is None:
-        write_lines(filter(None, map(tracer.line, positions_of(asked, run, last))))
+    first, tracer = min(asked.first - 1, last), Tracer(run, asked.channel, symbols)
+    if asked.last is None:
+        write_lines(filter(None, map(tracer.line, positions_of(asked, run, first, last))))
     else:
-        write_lines(last_lines(asked, run, tracer, last))
+        write_lines(last_lines(asked, run, tracer, first, last))
     run.close()
     return script.status()

@@ -27,6 +27,5 @@ def main():
     symbols = symbols_of(asked)
     lines = symbols.loading([] if script is None else script_lines(script))
     panel = Panel(LoggedSession(simulator(asked), devices_of(asked)), symbols)
-    ended_by = terminal.run(panel, lines, asked.turn)
+    terminal.run(panel, lines, asked.turn)
     panel.session.close()
-    return 128 + ended_by if ended_by else 0

@@ -51,9 +51,7 @@ class Terminal:
     """A terminal under curses. Use it in a `with` statement, which puts the terminal back whatever happens."""
 
     def __init__(self):
-        self.size_may_differ = self.is_to_suspend = False
-        self.end_signal = None
-        self.interrupted = False
+        self.size_may_differ = self.is_to_suspend = self.interrupted = False
 
     def __enter__(self):
         self.reading, self.writing = os.pipe()
@@ -78,13 +76,13 @@ class Terminal:
             curses.endwin()
 
     def note_signal(self, number, frame):
-        """Notes a signal; the loop that waits for keys sees it."""
+        """Notes a signal; the loop that waits for keys sees it. One that ends the panel does so at once."""
         if number == signal.SIGTSTP:
             self.is_to_suspend = True
         elif number == signal.SIGINT:
             self.interrupted = True
         elif number in (signal.SIGTERM, signal.SIGHUP):
-            self.end_signal = number
+            sys.exit(128 + number)
         else:
             self.size_may_differ = True
 
@@ -145,7 +143,7 @@ class Terminal:
     def keys(self, seconds):
         """Returns the names of the keys that come in so many seconds (None: however long), or an empty list."""
         keys = self.typed_keys()
-        if not keys and not (self.size_may_differ or self.is_to_suspend or self.end_signal or self.interrupted):
+        if not keys and not (self.size_may_differ or self.is_to_suspend or self.interrupted):
             self.wait(seconds)
             keys = self.typed_keys()
         if self.interrupted:
@@ -218,16 +216,13 @@ class Loop:
         panel.is_stopped, panel.show = self.is_stopped, self.draw
 
     def run(self):
-        """Performs keys until one ends the panel. Returns the number of a signal that ended it, else None."""
+        """Performs keys until one ends the panel."""
         self.draw()
         while not self.panel.is_ended:
             keys = self.pending or self.terminal.keys(None)
             self.pending = []
-            if self.terminal.end_signal:
-                return self.terminal.end_signal
             self.see_to_terminal()
             self.press(keys)
-        return None
 
     def press(self, keys):
         """Performs keys. While more of them wait, not every state is drawn."""
@@ -266,14 +261,13 @@ class Loop:
             self.pending = []
             return True
         self.pending += keys
-        return self.terminal.end_signal is not None
+        return False
 
 
 def run(panel, script, turn=None):
-    """Shows a panel that performs a script, goes to a turn, and then performs keys. Returns the number of a signal that ended
-    it, else None."""
+    """Shows a panel that performs a script, goes to a turn, and then performs keys."""
     with Terminal() as terminal:
         panel.resize(*terminal.take_size())
         loop = Loop(terminal, panel)
         panel.perform_script(script, turn)
-        return loop.run()
+        loop.run()

@@ -4,7 +4,7 @@ counted."""
 import re
 from typing import TYPE_CHECKING, Callable, Dict, List, NamedTuple, Optional, Sequence, Tuple
 
-from .macros import arguments_of, define, replaced
+from .macros import arguments_of, define, replaced, short_enough
 from .messages import Fault
 from .statements import Field, Line, Statement, parts_of
 from .texts import CODE_OF
@@ -180,9 +180,14 @@ def echo(state: "Pass", statement: Statement, lines: Sequence[Line]) -> None:
     sizes = {len(items) for items in lists.values()}
     if len(sizes) > 1:
         state.warn("echo", statement.operation.column, "the lists of ECHO are of several lengths; the shortest one ends it")
-    for values in zip(*lists.values()):
-        own = dict(zip(lists, values))
-        state.run([line._replace(text=replaced(line.capitals, own)) for line in lines])
+    items = [dict(zip(lists, values)) for values in zip(*lists.values())]
+    for made in [[echoed(state, statement, line, own) for line in lines] for own in items]:
+        state.run(made)
+
+
+def echoed(state: "Pass", statement: Statement, line: Line, values: Dict[str, str]) -> Line:
+    state.count_made()
+    return line._replace(text=short_enough(replaced(line.capitals, values), statement.operation))
 
 
 # -- conditions

@@ -233,6 +233,8 @@ def number_micro(state: State, statement: Statement) -> None:
 
 def micro_count(state: State, statement: Statement) -> None:
     """MICCNT names how many symbols a micro has."""
+    if not statement.location.text:
+        raise Fault(statement.operation.column, f"{statement.operation.text} wants a symbol before it")
     name = the_only(statement)
     text = micro_text(state, name)
     if text is None:

@@ -30,8 +30,7 @@ def operands_of(state: State, form: Form, statement: Statement) -> List[Field]:
     if least <= len(operands) <= most:
         return operands
     name, wrong = statement.operation, operands[most] if len(operands) > most else statement.operation
-    end = name.column + len(name.text)
-    far = "; what begins in column 30 or later is a comment" if not operands and state.line.text[end:].strip() else ""
+    far = "; what begins in column 30 or later is a comment" if not operands and state.after_operation.strip() else ""
     raise Fault(wrong.column, f"{name.text} takes {form.value}{far}")
 
 

@@ -33,7 +33,7 @@ def define(state: "Pass", statement: Statement, body: Sequence[Line]) -> None:
     name, names, label = statement.location, arguments_of(statement.operand), Field("", 0)
     has_names = statement.operation.text == "MACROE"
     if not name.text:
-        if not names:
+        if not names or not names[0].text:
             raise Fault(statement.operation.column, f"{statement.operation.text} wants a name")
         name, label, *names = [*names, Field("", 0)] if len(names) == 1 else names
     pairs = [(Field(one.text.partition("=")[0] if has_names else one.text, one.column), one.text.partition("=")[2]) for one in names]
@@ -116,10 +116,16 @@ def made_line(state: "Pass", one: Line, values: Dict[str, str], name: Field) -> 
     """Returns a line that a macro's call makes of one of its lines."""
     line = state.line
     column, outer = line.call.column if line.call else name.column, line.call.lines if line.call else ()
-    text = replaced_line(state, one, values)
+    text = short_enough(replaced_line(state, one, values), name)
+    state.count_made()
+    return Line(line.number, text, Call(column, name.text, (*outer, one.number)))
+
+
+def short_enough(text: str, name: Field) -> str:
+    """Returns the text of a line that an operation makes."""
     if len(text) > LONGEST:
         raise Fault(name.column, f"a line that {name.text} makes has more than {LONGEST} (decimal) symbols")
-    return Line(line.number, text, Call(column, name.text, (*outer, one.number)))
+    return text
 
 
 def replaced_line(state: "Pass", line: Line, values: Dict[str, str]) -> str:

@@ -45,10 +45,16 @@ class Pass(State):
         self.macros: Dict[str, Macro] = {}
         self.synonyms: Dict[str, str] = {}  # of operations, by OPSYN
         self.remote: Dict[str, List[Line]] = {}  # lines of RMT by their names
-        self.depth = self.nested = self.locals = self.performed = 0
+        self.depth = self.nested = self.locals = self.performed = self.made_lines = 0
         self.has_more = False  # after END
         self.run([Line(0, text) for text in SUBR])
         self.rows = []
+
+    def count_made(self) -> None:
+        """Counts a line that another one makes."""
+        self.made_lines += 1
+        if self.made_lines > MOST_STATEMENTS:
+            raise TooMuch(f"more than {MOST_STATEMENTS} (decimal) statements")
 
     def new_local(self) -> str:
         self.locals += 1
@@ -118,9 +124,11 @@ class Pass(State):
         if '"' in line.text and line.text[:1] != "*":
             line = line._replace(text=MICRO.sub(self.micro, line.capitals))
         statement = statement_of(line, self.macros)
-        if statement and statement.operation.text in self.synonyms:
-            return statement._replace(operation=statement.operation._replace(text=self.synonyms[statement.operation.text]))
-        return statement
+        if not statement:
+            return None
+        name = statement.operation.text
+        self.after_operation = line.text[statement.operation.column + len(name):]
+        return statement._replace(operation=statement.operation._replace(text=self.synonyms.get(name, name)))
 
     def micro(self, found: "re.Match[str]") -> str:
         """Returns what a name between two marks stands for; the same text if it is no micro, as in a comment."""
@@ -200,6 +208,8 @@ class Pass(State):
     def run_remote(self, names: Sequence[str]) -> None:
         """Performs the lines of RMT with these names."""
         lines = [line for name in names for line in self.remote.pop(name, [])]
+        for _ in lines:
+            self.count_made()
         self.run(lines)
 
     def end(self) -> None:
@@ -230,6 +240,8 @@ def here(state: Pass, statement: Statement) -> None:
 def opsyn(state: Pass, statement: Statement) -> None:
     """OPSYN gives an operation another name; a macro with it is the same macro."""
     old, new = the_only(statement).text, statement.location.text
+    if not new:
+        raise Fault(statement.operation.column, f"{statement.operation.text} wants a name before it")
     if old in state.macros:
         state.macros[new] = state.macros[old]
     else:

@@ -83,6 +83,7 @@ class State:
         self.symbols: Symbols = Symbols(before.symbols if before else None)
         self.is_last = before is not None
         self.line = Line(0, "")
+        self.after_operation = ""  # what follows the operation of the present line
         self.base: Optional[int] = None
         self.bases: List[Optional[int]] = []  # that BASE * goes back to
         self.qualifier, self.qualifiers = "", [""]

@@ -25,17 +25,20 @@ function sourceOf(name, lines, rows) {
 
 // The names of addresses, the addresses of labels, the texts of lines by their addresses, and the cells of return addresses by their jumps.
 function labelsOf(lines, rows, names) {
-  const all = names.map((text) => /^(\S+)( =)? ([0-7]+)$/.exec(text)).map(([, name, equals, digits]) => ({ name, equals, number: parseInt(digits, 8) }));
+  const found = (text) => /^(?!Z\.[0-7]{4})(\S+)( =)? ([0-7]+)$/.exec(text); // not those of LOCAL, which are a macro's own
+  const all = names.map(found).filter(Boolean).map(([, name, equals, digits]) => ({ name, equals, number: parseInt(digits, 8) }));
   const byNumber = (kind) => new Map(all.filter(({ equals }) => Boolean(equals) === kind).reverse().map(({ name, number }) => [number, name]));
   const labels = byNumber(false), has = new Set(all.filter(({ equals }) => !equals).map(({ name, number }) => `${name} ${number}`));
   const exits = all.filter(({ name, equals, number }) => !equals && has.has(`${name}X ${number - 1}`)).map(({ number }) => number - 1);
   const called = new Set(rows.filter(({ words }) => words[0] === RJM).map(({ words }) => words[1]));
   const jumps = rows.filter(({ words, location }) => words[0] === LJM && called.has(location + 1)).map(({ location }) => location);
-  const text = ({ number, words }) => [words[0], untabbed(lines[number - 1]).trim()];
+  const words = rows.flatMap((row) => row.words.map((_, at) => ({ ...row, at })));
+  const begun = (all, first) => [...new Map(all.map((word) => [word[first] + word.at, word]))].filter(([, { at }]) => !at)
+    .map(([address, { number, words: [word] }]) => [address, [word, untabbed(lines[number - 1]).trim()]]);
   return {
-    names: namesOf(labels, byNumber(true), new Set(rows.flatMap(({ location, words }) => words.map((_, at) => location + at)))),
+    names: namesOf(labels, byNumber(true), new Set(words.map(({ location, at }) => location + at))),
     addresses: Object.fromEntries([...labels].map(([number, name]) => [name, number])),
-    texts: Object.fromEntries([...rows.map((row) => [row.origin, text(row)]), ...rows.map((row) => [row.location, text(row)]).reverse()]),
+    texts: Object.fromEntries([...begun(words, "origin"), ...begun([...words].reverse(), "location")]),
     entries: [...new Set([...exits, ...jumps])].map((address) => [address, address + 1]),
   };
 }

@@ -10,7 +10,7 @@ const barrel = { folded: false, all: [], channels: [], used: new Set() }; // cha
 function findChannels(first) {
   if (!first) barrel.used = new Set(Object.keys(film.devices).map(Number));
   for (const place of film.places.subarray(film.starts[first])) if (channelAt(place) >= 0) barrel.used.add(channelAt(place));
-  for (const { word } of film.next) if (turning.isOfChannel(word >> 6)) barrel.used.add(word & 0o77);
+  for (const number of film.turned.subarray(first)) if (turning.isOfChannel((number % CELLS) >> 6)) barrel.used.add(number & 0o77);
   barrel.all = [...barrel.used].filter((c) => c <= CLOCK).sort((one, other) => one - other);
 }
 
@@ -107,12 +107,8 @@ function markOfSlot(n, sizes) {
 
 // The middle of the ring: the action, what it was, and the first cell or word that it changed.
 function middleOf({ cx, cy, isFlat }) {
-  const lines = middleLines(isFlat), step = lines.length > 4 ? 1.15 : 1.3;
-  return lines.map((text, at) => {
-    const y = cy + 0.35 + (at - (lines.length - 1) / 2) * step, width = LETTER * (text.length + 1);
-    return [shape("rect", { x: cx - width / 2, y: y - 0.95, width, height: step, class: "under" }),
-      shape("text", { x: cx, y, class: at ? "middle" : "middle strong" }, text)];
-  });
+  const lines = middleLines(isFlat), step = lines.length > 4 ? 1.15 : 1.3, first = cy + 0.35 - ((lines.length - 1) / 2) * step;
+  return lines.map((text, at) => shape("text", { x: cx, y: first + at * step, class: at ? "middle" : "middle strong" }, text));
 }
 
 // After a turn also A and Q of its processor. A flat ring has room for longer lines.

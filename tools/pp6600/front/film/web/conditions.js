@@ -41,8 +41,8 @@ function returnTest(processor, entries) {
   let one = null;
   const end = (n, numbers) => {
     if (!one || one.phase) return false;
-    const { p, code, row } = one, now = numbers[register(n, 0)], jump = jumpOf.get(now);
-    if (code === 2 && jump !== undefined && now !== p) stored.set(jump, (p + row.words) & 0o7777);
+    const { p, code, words } = one, now = numbers[register(n, 0)], jump = jumpOf.get(now);
+    if (code === 2 && jump !== undefined && now !== p) stored.set(jump, (p + words) & 0o7777);
     const wanted = stored.get(p);
     return entries.has(p) && stored.delete(p) && wanted !== now;
   };

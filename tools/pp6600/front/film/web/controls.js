@@ -58,8 +58,8 @@ function findChange(direction) {
 function show() {
   shown.changed = new Set(changesIn(film.at));
   showMemory();
-  fillTable(tableOf("processors"), PROCESSOR_HEADS, range(PROCESSORS).map(processorRow));
-  fillTable(tableOf("channels"), ["", "state", "", "register", ""], range(CHANNELS + 1).map(channelRow));
+  fillRows("processors", range(PROCESSORS).map(processorRow));
+  fillRows("channels", range(CHANNELS + 1).map(channelRow));
   for (const part of [showSource, showPictures, showWords, showReader, showPrinter, showWatches, showScript, showChosen, showOrigin,
     showPosition, showLanes, showBarrel, showSigns]) part();
 }
@@ -207,12 +207,13 @@ const NARROW = "(max-width: 999px)";
 
 function placeSections() {
   const [left, right] = document.querySelectorAll(".column"), isNarrow = matchMedia(NARROW).matches;
-  const first = film.sources || isNarrow ? ["lanes"] : [], second = ["source", "memory", "central", "frame"];
-  const sections = (names) => names.map(byId);
-  left.prepend(...sections(isNarrow ? [...first, "source"] : first));
-  if (!first.length) document.querySelector("main").before(byId("lanes"));
-  if (isNarrow) byId("watches").after(...sections(second.slice(1)));
-  else right.prepend(...sections(second));
+  const [run, own, ...others] = ["lanes", "source", "memory", "central", "frame"].map(byId);
+  if (film.sources || isNarrow) left.prepend(run);
+  else document.querySelector("main").before(run);
+  right.prepend(own, ...others);
+  if (!isNarrow) return;
+  run.after(own);
+  byId("watches").after(...others);
 }
 
 // Lets a function act on the text of a form's field. If it returns what is wrong with it, this is said beside the field, which else is left.

@@ -10,20 +10,16 @@ const makeButton = (className, text, onclick, more = {}) => make("button", { typ
 
 // Sees that an element has these parts, descriptions and texts, in lists of any depth; what is empty is left out.
 function fill(element, ...parts) {
+  const all = parts.flat(Infinity).filter((part) => (part ?? "") !== "");
   let next = element.firstChild;
-  for (const part of parts.flat(Infinity)) {
-    if ((part ?? "") === "") continue;
+  for (const part of all) {
     const isThere = next && (next.localName || "") === (part.kind || "");
     const node = isThere ? next : element.insertBefore(newNode(element, part), next);
     next = node.nextSibling;
     if (part.kind) update(node, part);
     else if (node.data !== String(part)) node.data = part;
   }
-  while (next) {
-    const { nextSibling } = next;
-    next.remove();
-    next = nextSibling;
-  }
+  for (const node of [...element.childNodes].slice(all.length)) node.remove();
 }
 
 const newNode = (parent, { kind }) => (kind ? document.createElementNS(kind === "svg" ? SVG : parent.namespaceURI, kind) : new Text());
@@ -51,7 +47,4 @@ const cell = (className, parts, more = {}) => make("td", { className, ...more },
 const row = (className, ...parts) => make("tr", { className }, parts.map((part) => (part && part.kind === "td" ? part : cell("", part))));
 const tableOf = (id) => document.querySelector(`#${id} table`);
 
-function fillTable(table, head, rows) {
-  const heads = head.map((text) => make("th", { scope: "col" }, text));
-  fill(table, heads.length ? make("thead", {}, make("tr", {}, heads)) : null, make("tbody", {}, rows));
-}
+const fillRows = (id, rows) => fill(tableOf(id).tBodies[0], rows);

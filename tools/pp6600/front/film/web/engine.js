@@ -1,7 +1,7 @@
 // ---- the worker of this page, which has the session: what is typed goes to it, and what comes of it is added to the film
 
 const engine = {
-  worker: null, requests: [], chain: Promise.resolve(), doing: Promise.resolve(), isBuilt: false, isOpening: false, isHeld: false,
+  worker: null, requests: [], chain: Promise.resolve(), doing: Promise.resolve(), isBuilt: false, isHeld: false, opening: null,
   given: null, branches: [], fragment: "", page: `<!DOCTYPE html>\n${document.documentElement.outerHTML}`,
   get isBusy() { return this.requests.length > 0; },
 };
@@ -53,7 +53,7 @@ function failed(text) {
 async function received(data) {
   engine.chain = engine.chain.then(async () => {
     while (engine.isHeld) await new Promise((done) => setTimeout(done, 50));
-    if (data.rows && engine.isOpening && data.rows.kinds.length) openAnew();
+    if (engine.opening && data.rows && data.rows.kinds.length) openAnew(engine.opening);
     if (data.rows) taken(data);
     if (data.isWorking) say("searching ..", false);
     if (data.isPart || data.isWorking) return;
@@ -75,9 +75,9 @@ function say(text, isWrong) { fill(byId("said"), text); byId("said").className =
 // ---- the session
 
 // A film without moments takes the place of the one that is shown, when the first moments of another session have come.
-function openAnew() {
-  engine.isOpening = false;
-  openRows({ ...engine.about, ...engine.parts });
+function openAnew({ options, deck, panel }) {
+  engine.opening = null;
+  openRows({ ...engine.about, ...options, deck: linesOfOctals(deck), panel: linesOfOctals(panel).flat() });
   if (!engine.isBuilt) return;
   Object.assign(shown, { chosen: null, changes: [], origin: null, originLines: new Set(), columns: [] });
   byId("chosen").hidden = true;
@@ -86,10 +86,9 @@ function openAnew() {
 
 // Performs a script from the beginning, with the files of a run. The film is that of the new session only if this could be opened.
 engine.open = async (given, request = "open", words = {}) => {
-  engine.parts = { ...given.options, deck: linesOfOctals(given.deck), panel: linesOfOctals(given.panel).flat() };
-  engine.isOpening = true;
+  engine.opening = given;
   const reply = await ask(request, { given, about: engine.about, module: engine.module, ...words });
-  Object.assign(engine, { module: null, isOpening: false, given: reply.isFault ? engine.given : given }); // the worker has the module
+  Object.assign(engine, { module: null, opening: null, given: reply.isFault ? engine.given : given }); // the worker has the module
   return reply;
 };
 
@@ -109,6 +108,7 @@ async function act(lines) {
   if (reply.isGone) return (await begin(inEffect(film.at))) && act(lines);
   const isNew = lastMoment() > end, [, , condition] = UNTIL.exec(lines.at(-1)) || [];
   if (isNew) moveTo(lastMoment());
+  else show(); // the line and its answer
   const found = !isNew || reply.isWrong ? null : condition === undefined ? foundBy(film.lines.at(-1)) : changeFound(condition);
   if (found) choose(placeNamed(found.name));
   say(reply.said + (found ? found.text : ""), reply.isWrong);

@@ -7,11 +7,10 @@ const PARTS_OF_RUN = [0o10000, 0o1000, 0o100]; // how many moments can be seen a
 let LANE = 13, LABEL = 46, LETTERS = 11, NAMES = 1;
 const lanes = { all: [], processors: [], channels: [], firstTurn: -1, from: 0, to: 0, folded: true }; // folded: the quiet ones are one line
 
-// Begins with no moments. The lanes are those of the processors, and then those of the channels.
-function forgetLanes() {
-  const lane = (name) => ({ name, begins: [0], kinds: [IDLE], seen: new Set(), columns: null });
-  const some = { processors: range(PROCESSORS).map((n) => lane(`PP ${two(n)}`)), channels: range(CHANNELS).map((c) => lane(`H ${two(c)}`)) };
-  Object.assign(lanes, { ...some, firstTurn: -1 });
+// The lanes of no moments. Of those of processors the active moments are turns that do not pass; settings are lines that set a processor.
+function newLanes() {
+  const laneOf = (kind) => (n) => ({ name: `${kind} ${two(n)}`, begins: [0], kinds: [IDLE], seen: new Set(), active: [] });
+  return { processors: range(PROCESSORS).map(laneOf("PP")), channels: range(CHANNELS).map(laneOf("H")), firstTurn: -1, settings: [] };
 }
 
 // Notes what the moments from a first one on are: a lane has the stretches of moments that are of one kind.
@@ -22,12 +21,14 @@ function growLanes(first) {
     lane.begins.push(moment);
     lane.kinds.push(kind);
   };
-  if (!first) forgetLanes();
+  if (!first) Object.assign(lanes, newLanes());
   for (let moment = Math.max(first, 1); moment < film.count; moment++) {
     if (isTurn(moment)) {
       if (lanes.firstTurn < 0) lanes.firstTurn = moment;
-      goOn(lanes.processors[film.processor[moment]], moment, film.kinds[moment]);
-    }
+      const lane = lanes.processors[film.processor[moment]], kind = film.kinds[moment];
+      goOn(lane, moment, kind);
+      if (kind !== IDLE) lane.active.push(moment);
+    } else if (film.kinds[moment] === LINE && processorSet(moment) >= 0) lanes.settings.push(moment);
     for (let at = film.starts[moment]; at < film.starts[moment + 1]; at++) {
       const c = film.places[at] - layout.states, n = film.places[at] - layout.phase;
       if (c >= 0 && c < CHANNELS) goOn(lanes.channels[c], moment, film.now[at]);
@@ -57,9 +58,8 @@ function buildLanes() {
   byId("fold").onclick = () => { lanes.folded = !lanes.folded; show(); };
   byId("zoom").onchange = show;
   const picture = byId("picture");
-  picture.onpointerdown = (event) => { picture.setPointerCapture(event.pointerId); lanes.held = true; moveToPixel(event); };
-  picture.onpointermove = (event) => lanes.held && moveToPixel(event);
-  picture.onpointerup = picture.onpointercancel = () => { lanes.held = false; };
+  picture.onpointerdown = (event) => { picture.setPointerCapture(event.pointerId); moveToPixel(event); };
+  picture.onpointermove = (event) => picture.hasPointerCapture(event.pointerId) && moveToPixel(event);
 }
 
 // Chooses the part of the run that the lanes show, so that the present moment is in it. The whole run has some room at its end, so that

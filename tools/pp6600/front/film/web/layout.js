@@ -56,14 +56,10 @@ const nameWith = (kind, indices) => [kind, ...indices.map((index, at) => octal(i
 
 // The kind and the indices of the number at a place, its upper half too; or null if it has no name.
 function kindAt(place) {
-  let at = isUpper(place) ? wordOfUpper(place) : place;
-  const [kind, { first, sizes }] = Object.entries(KINDS).findLast(([, one]) => one.first <= at), indices = [];
-  at -= first;
-  for (const size of [...sizes].reverse()) {
-    indices.unshift(at % size);
-    at = Math.floor(at / size);
-  }
-  return at ? null : { kind, indices };
+  const word = isUpper(place) ? wordOfUpper(place) : place;
+  const [kind, { first, sizes }] = Object.entries(KINDS).findLast(([, one]) => one.first <= word);
+  const last = sizes.at(-1), at = word - first, indices = [[], [at], [Math.floor(at / last), at % last]][sizes.length];
+  return at < sizes.reduce((count, size) => count * size, 1) ? { kind, indices } : null;
 }
 
 // The name of the number at a place, as M 00 0106; "" of one that has none.
@@ -104,13 +100,12 @@ function watchesIn(numbers) {
 // The kinds of a moment: what a processor did in a turn; another action; a BACK or FORWARD; turns that were not recorded.
 const IDLE = 0, WAITING = 1, BUSY = 2, BLOCK = 3, LINE = 4, JUMP = 5, SKIP = 6;
 
-// What the page gets of the moments: of each its kind, and of a turn its processor, P and the row of its instruction; where its changes
+// What the page gets of the moments: of each its kind, and of a turn its processor, P and the number of its instruction; where its changes
 // begin among the places, with the numbers there before and after it; and where its writes begin, with the places that each read. In what
 // the recorder delivers the starts are those of the next one.
 const ROWS = {
   kinds: Uint8Array, processor: Uint8Array, p: Uint16Array, turned: Int32Array, starts: Uint32Array, places: Int32Array, was: Int32Array,
   now: Int32Array, writeStarts: Uint32Array, writes: Int32Array, whats: Int32Array, readStarts: Uint32Array, reads: Int32Array,
-  readParts: Uint8Array,
 };
 
 // Returns the first of so many numbers from 0 on for which something no longer holds; it holds for all before.

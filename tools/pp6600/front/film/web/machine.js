@@ -12,20 +12,18 @@ const numberWith = (kind, ...indices) => number(placeWith(kind, ...indices));
 // A text in which a word after @ is the name of a number.
 const withNumbers = (text) => text.split(" ").map((word) => [word[0] === "@" ? number(placeNamed(word.slice(1))) : word, " "]);
 
+// A cell with an instruction; what it does is said to who points at it.
+const instructionCell = (text) => cell("", text, { title: meaningOf(text.slice(0, 3)) });
 const heading = (text, more = {}) => cell("name", text, more);
 
 // ---- processors and channels
 
-const PROCESSOR_HEADS = ["", "", "P", "at P", "instruction", "A", "Q", "phase", "waits for"];
-
 function processorRow(n) {
-  const p = numberOf("P", n), next = nextOf(n), isNext = numberOf("SLOT") === n;
-  const words = [p, ...(next.second ? [(p + 1) % CELLS] : [])].map((at) => numberWith("M", n, at));
-  const [a, q, phase] = ["A", "Q", "PHASE"].map((kind) => numberWith(kind, n)), name = next.block ? `${next.name} in its block` : next.name;
-  const parts = [isNext ? ">" : "", `PP ${two(n)}`, numberWith("P", n), words, name, a, q, phase, next.waits];
-  const more = { 1: { onclick: () => chooseMemory(n) }, 4: { title: meaningOf(name.slice(0, 3)) } };
-  const cells = parts.map((part, at) => cell(at === 1 ? "name" : "", part, { "data-head": PROCESSOR_HEADS[at], ...more[at] }));
-  return row(classes({ next: isNext, acted: hasTurn(n), chosen: n === memory.processor }), ...cells);
+  const p = numberOf("P", n), next = nextOf(n), is = { next: numberOf("SLOT") === n, acted: hasTurn(n), chosen: n === memory.processor };
+  const words = (next.second ? [p, (p + 1) % CELLS] : [p]).map((at) => numberWith("M", n, at));
+  const name = instructionCell(next.block ? `${next.name} in its block` : next.name);
+  return row(classes(is), is.next ? ">" : "", heading(`PP ${two(n)}`, { onclick: () => chooseMemory(n) }), numberWith("P", n), words, name,
+    ...["A", "Q", "PHASE"].map((kind) => numberWith(kind, n)), next.waits);
 }
 
 const hasTurn = (n) => isTurn(film.at) && film.processor[film.at] === n; // whether this moment is a turn of it
@@ -56,13 +54,15 @@ function showCell(processor, address, always) {
 
 // The processor that memory follows: that of the latest turn that did not pass, if its lane is not quiet; or one that a line has set.
 function followed() {
-  for (let at = resolve(film.at); at > 0; at = resolve(at - 1)) {
-    const n = film.processor[at], kind = film.kinds[at], isLoud = isTurn(at) && kind !== IDLE && !lanes.processors[n].quiet;
-    const set = kind === LINE && changesIn(at).length ? kindAt(changesIn(at)[0]) : null;
-    if (isLoud) return n;
-    if (set && ["M", "A", "P", "Q", "PHASE"].includes(set.kind)) return set.indices[0];
-  }
-  return 0;
+  const turns = lanes.processors.map((lane, n) => [lane.quiet ? 0 : changeBefore(lane.active, film.at), n]);
+  const line = changeBefore(lanes.settings, film.at), [latest, n] = turns.reduce((one, other) => (other[0] > one[0] ? other : one));
+  return line > latest ? processorSet(line) : n;
+}
+
+// The processor whose cell or register a line has set, or -1.
+function processorSet(moment) {
+  const { kind, indices } = (changesIn(moment).length && kindAt(changesIn(moment)[0])) || {};
+  return ["M", "A", "P", "Q", "PHASE"].includes(kind) ? indices[0] : -1;
 }
 
 function showMemory() {
@@ -82,7 +82,7 @@ function showMemory() {
 }
 
 function showCells(n, marked) {
-  fillTable(tableOf("cells"), ["", ..."01234567", "display code"], range(MEMORY_ROWS).map((at) => {
+  fillRows("cells", range(MEMORY_ROWS).map((at) => {
     const all = range(8).map((one) => (memory.first + 8 * at + one) % CELLS), text = all.map((address) => displayCode(cellOf(n, address)));
     return row("", heading(four(all[0])), ...all.map(marked), cell("text", text.join("")));
   }));
@@ -93,10 +93,11 @@ function showProgram(n, p, marked) {
   const { address, back } = nextOf(n).block || { address: p, back: null }, isText = memory.as === "text";
   const rows = programWindow(n, memory.top, memory.from === "P" ? address ?? p : memory.at, MEMORY_ROWS, [p, address, back]);
   memory.top = rows[0].address;
-  fillTable(tableOf("program"), ["", "", "words", "instruction", "", isText ? "display code" : ""], rows.map(({ address: at, words }) => {
-    const name = wordsText(at, words), numbers = words.map((_, one) => marked((at + one) % CELLS)), title = meaningOf(name.slice(0, 3));
+  fill(document.querySelector("#program th:last-child"), isText ? "display code" : "");
+  fillRows("program", rows.map(({ address: at, words }) => {
+    const numbers = words.map((_, one) => marked((at + one) % CELLS));
     const texts = [textOfListing(n, at, words[0]) || addressName(n, at), isText ? words.map(displayCode).join("") : ""];
-    return row("", at === p ? ">" : at === back ? "r" : "", breakpoint(n, at, four(at)), numbers, cell("", name, { title }),
+    return row("", at === p ? ">" : at === back ? "r" : "", breakpoint(n, at, four(at)), numbers, instructionCell(wordsText(at, words)),
       ...texts.map((text) => cell("text", text)));
   }));
 }
@@ -113,9 +114,9 @@ function showCentralWord(address, always) {
 function showWords() {
   const words = range(CENTRAL_ROWS).map((at) => central.first + at), half = FRAME_WORDS / 2;
   setField("central-at", octal(central.first, 6));
-  fillTable(tableOf("central"), [], words.map((at) => row("", heading(octal(at, 6)), numberWith("C", at))));
+  fillRows("central", words.map((at) => row("", heading(octal(at, 6)), numberWith("C", at))));
   const frameRow = (at) => row("", ...[at, at + half].flatMap((word) => [heading(two(word)), numberWith("XP", word)]));
-  fillTable(tableOf("frame"), [], range(half).map(frameRow));
+  fillRows("frame", range(half).map(frameRow));
 }
 
 // Shows the parts of the machine that the moments from a first one on use, of those that not every run uses; with 0 the film is another one.

@@ -7,9 +7,8 @@ const writtenPlace = (place) => place.places[place.places.length - 1]; // of a n
 
 // A write by its number: its place, its kind, and its sources, each a place with the parts of a word that it is, as bits; 0 is the whole.
 function writeAt(at) {
-  const { readStarts, reads, readParts, writes, whats } = film, first = readStarts[at];
-  const sources = [...reads.subarray(first, readStarts[at + 1])].map((place, one) => ({ place, parts: readParts[first + one] }));
-  return { at, place: writes[at], what: whats[at], sources };
+  const { readStarts, reads, writes, whats } = film, read = [...reads.subarray(readStarts[at], readStarts[at + 1])];
+  return { at, place: writes[at], what: whats[at], sources: read.map((one) => ({ place: one % PART, parts: Math.floor(one / PART) })) };
 }
 
 function writesOf(moment) {
@@ -103,6 +102,14 @@ function sourceText({ place, parts }) {
   return isWord(place) && parts ? `${nameOf(place)} part ${some.join(" ")}` : nameOf(place);
 }
 
+// The constant of a write, in words; or "".
+function constantText(moment, { what }) {
+  const { word, second } = turnOf(moment), name = CONSTANTS[what >> CONSTANT_FROM], d = two(word & 0o77);
+  const texts = { d, m: second, dm: d + second };
+  if (name in texts) return `the constant ${texts[name]}`;
+  return { return: "the return address", "no word": "zero, past the last central word" }[name] || name;
+}
+
 // What wrote a step's number, in words.
 function causeText(step) {
   const { moment, write } = step, when = whenText(Math.max(0, moment));
@@ -114,7 +121,7 @@ function causeText(step) {
   if (column) return `${when}, the card reader, card ${four(column.card)} column ${octal(column.column, 3)}`;
   if (isDevice(step)) return `${when}, the status of the ${film.devices[step.place - layout.words]}`;
   const times = step.times > 1 ? `, ${octal(step.times)} times since ${whenText(step.earliest)}` : "";
-  const names = [...step.links.map(sourceText), film.constants[write.what >> CONSTANT_FROM]].filter(Boolean).join(" and ") || "zero";
+  const names = [...step.links.map(sourceText), constantText(moment, write)].filter(Boolean).join(" and ") || "zero";
   const verb = write.what & AT_END ? "at its end, of " : !(write.what & MOVED) ? "of " : step.links.length ? "from " : "";
   return `${when}, ${turnText(moment)}${times}, ${verb}${names}`;
 }
@@ -130,23 +137,21 @@ function lineCause(moment, word) {
 function linesOfOrigin(root) {
   const rows = [], todo = [{ link: root, depth: 0, after: null }], seen = new Set();
   while (todo.length) {
-    const { link, depth, after } = todo.pop(), { step } = link, name = nameOf(link.place);
-    if (!step) {
-      rows.push({ step: link, depth, after, text: `${name}: further back` });
-      continue;
-    }
-    const number = atMoment(Math.max(0, step.moment), () => textAt(placeNamed(name)));
-    const cause = seen.has(step) ? `as above, ${whenText(step.moment)}` : causeText(step);
-    const row = { step, depth, after, text: `${name} ${number}: ${cause}` };
+    const { link, depth, after } = todo.pop(), { step = null } = link, isNew = step !== null && !seen.has(step), name = nameOf(link.place);
+    const row = { step: step || link, depth, after, text: step ? textOfStep(name, step, isNew) : `${name}: further back` };
     rows.push(row);
-    if (seen.has(step)) continue;
+    if (!isNew) continue;
     seen.add(step);
-    const same = step.links.length === 1 ? step.links : step.links.filter((one) => one.place === step.place).slice(-1);
-    const others = step.links.filter((one) => !same.includes(one));
-    todo.push(...same.map((one) => ({ link: one, depth, after: row })),
-      ...others.reverse().map((one) => ({ link: one, depth: depth + 1, after: row })));
+    const same = step.links.length === 1 ? step.links : step.links.filter(({ place }) => place === step.place).slice(-1);
+    const others = step.links.filter((one) => !same.includes(one)).reverse();
+    todo.push(...[...same, ...others].map((one, at) => ({ link: one, depth: depth + (at < same.length ? 0 : 1), after: row })));
   }
   return rows;
+}
+
+function textOfStep(name, step, isNew) {
+  const number = atMoment(Math.max(0, step.moment), () => textAt(placeNamed(name)));
+  return `${name} ${number}: ${isNew ? causeText(step) : `as above, ${whenText(step.moment)}`}`;
 }
 
 // ---- on the page

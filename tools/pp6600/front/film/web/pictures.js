@@ -19,7 +19,8 @@ function showPictures() {
   const moment = resolve(film.at), isOwn = hasPictures(engine.given.script), isBeyond = isOwn && moment >= film.pictures.moments;
   const why = !isOwn ? "it is known for the script of the file alone" : isBeyond ? "this is what it showed at the end of the script" : "";
   fill(byId("pictures"), devicesShown().map(({ name, channel, shown: all }, at) => {
-    const [, seen] = (isOwn && all.findLast(([from]) => from <= moment)) || [0, []], html = seen.map((line) => film.pictures.lines[line]).join("");
+    const [, seen] = (isOwn && all.findLast(([from]) => from <= moment)) || [0, []];
+    const html = seen.map((line) => film.pictures.lines[line]).join("");
     if (!pictures[at] || pictures[at].html !== html) pictures[at] = { html, picture: make("div", { innerHTML: html }) };
     return make("figure", {}, make("figcaption", {}, `${name} on channel ${two(channel)}`),
       make("p", {}, why && `this page has no ${name}: ${why}`), pictures[at].picture);

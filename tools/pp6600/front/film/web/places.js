@@ -14,7 +14,7 @@ const numberOf = (kind, ...indices) => film.numbers[placeOf(kind, ...indices)];
 
 // ---- what happened, in words
 
-const turnOf = (moment) => film.next[film.turned[moment]];
+const turnOf = (moment) => instructionOf(film.turned[moment]);
 const lineOf = (moment) => film.lines[film.lineAt[moment]];
 const lineText = (moment) => lineOf(moment).text.trim();
 const skippedText = (moment) => `${octal(film.skips.get(moment))} turns that were not recorded`;

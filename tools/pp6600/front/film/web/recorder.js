@@ -4,9 +4,6 @@
 class Recorder {
   constructor(simulator, about) {
     Object.assign(this, { simulator, reader: about.reader, printer: about.printer, readerModes: about.modes.reader });
-    this.instructions = new Map(); // the number of its row in `next` of each instruction
-    this.next = [];
-    this.sentConstants = 0;
     this.count = 0; // moments
     this.beginDelivery();
     this.endMoment(LINE, 0, 0, 0);
@@ -21,41 +18,26 @@ class Recorder {
     const { numbers } = this.simulator;
     this.one = turning.processor(numbers, n);
     this.states = [numbers[layout.states + this.reader], numbers[layout.states + this.printer]];
-    this.row = this.rowOf(this.one);
   }
 
-  tell(place, was, now) {
-    this.rows.places.push(place);
-    this.rows.was.push(was);
-    this.rows.now.push(now);
-  }
+  tell(place, was, now) { this.push({ places: place, was, now }); }
 
   end(n) {
     if (n === NO_TURN) return this.endMoment(LINE, 0, 0, 0);
     const { numbers } = this.simulator, { one } = this, kind = turning.kindOf(one, numbers);
     this.addWritesOfDevices(turning.writes(one, numbers, (...write) => this.addWrite(...write)));
-    return this.endMoment(kind, n, one.p, this.row);
+    return this.endMoment(kind, n, one.p, numberOfInstruction(one));
   }
 
+  push(numbers) { for (const name of Object.keys(numbers)) this.rows[name].push(numbers[name]); }
+
   addWrite(place, what, read) {
-    const { rows } = this;
-    rows.writes.push(place);
-    rows.whats.push(what);
-    for (let at = 0; at < read.length; at += 2) {
-      rows.reads.push(read[at]);
-      rows.readParts.push(read[at + 1]);
-    }
-    rows.readStarts.push(rows.reads.length);
+    this.rows.reads.push(...read);
+    this.push({ writes: place, whats: what, readStarts: this.rows.reads.length });
   }
 
   endMoment(kind, processor, p, turned) {
-    const { rows } = this;
-    rows.kinds.push(kind);
-    rows.processor.push(processor);
-    rows.p.push(p);
-    rows.turned.push(turned);
-    rows.starts.push(rows.places.length);
-    rows.writeStarts.push(rows.writes.length);
+    this.push({ kinds: kind, processor, p, turned, starts: this.rows.places.length, writeStarts: this.rows.writes.length });
     this.count++;
   }
 
@@ -73,17 +55,7 @@ class Recorder {
   // The column that the reader has put on its channel; none if that was its status.
   columnRead() {
     const [card, column, mode] = this.simulator.numbers.subarray(layout.reader, layout.reader + 3);
-    return this.readerModes[mode] === "READING" ? [layout.deck + COLUMNS * card + column - 1, 0] : [];
-  }
-
-  // The number of the row for an instruction that a processor is about to perform, or that began its block transfer.
-  rowOf(one) {
-    const second = turning.secondOf(one), isBlock = one.phase !== 0, key = `${one.word} ${second} ${isBlock}`;
-    if (!this.instructions.has(key)) {
-      this.instructions.set(key, this.instructions.size);
-      this.next.push({ name: turning.nameOf(one), word: one.word, second, isBlock });
-    }
-    return this.instructions.get(key);
+    return this.readerModes[mode] === "READING" ? [layout.deck + COLUMNS * card + column - 1] : [];
   }
 
   // ---- other actions
@@ -94,13 +66,11 @@ class Recorder {
   // Reads all numbers after a BACK or FORWARD, or after turns that were not recorded.
   readAll(kind) { this.simulator.readAll((place, was, now) => this.tell(place, was, now)); this.endMoment(kind, 0, 0, 0); }
 
-  // What has come since the last delivery.
+  // The rows of what has come since the last delivery.
   take() {
     const rows = Object.fromEntries(Object.entries(ROWS).map(([name, Kind]) => [name, new Kind(this.rows[name])]));
-    const delivery = { rows, next: this.next.splice(0), constants: turning.constants().slice(this.sentConstants) };
-    this.sentConstants += delivery.constants.length;
     this.beginDelivery();
-    return delivery;
+    return rows;
   }
 }
 

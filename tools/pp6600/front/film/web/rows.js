@@ -16,7 +16,7 @@ function openRows(about) {
   const rows = Object.entries({ ...ROWS, ...OWN_ROWS }).map(([name, Kind]) => [name, new Kind(isStarts(name) ? 1 : 0)]);
   film = {
     ...about, ...Object.fromEntries(rows), numbers: new Int32Array(setLayout(about.central)), count: 0, at: -1, highestTurn: 0,
-    lines: [], next: [], constants: [], jumps: new Map(), skips: new Map(), breaks: [], // breaks: the moments of jumps and skips
+    lines: [], jumps: new Map(), skips: new Map(), breaks: [], // breaks: the moments of jumps and skips
     phases: range(PROCESSORS).map(() => []), // of each processor the moments that changed its phase
   };
   turning.open(about);
@@ -40,11 +40,11 @@ function append(name, more) {
 }
 
 // Adds what has come.
-function grow({ rows, next, constants, lines, jumps, skips }) {
+function grow({ rows, lines, jumps, skips }) {
   if (film.count) goTo(lastMoment());
   const first = film.count, firstLine = film.lines.length;
   for (const [name, more] of Object.entries(rows)) append(name, more);
-  for (const [name, more] of Object.entries({ next, constants, lines })) film[name].push(...more);
+  film.lines.push(...lines);
   for (const [moment, to] of jumps) film.jumps.set(moment, to);
   for (const [moment, turns] of skips) film.skips.set(moment, turns);
   film.count += rows.kinds.length;
@@ -57,17 +57,12 @@ function grow({ rows, next, constants, lines, jumps, skips }) {
 
 // How many turns and moments are in effect after a moment.
 function after(moment) {
-  const kind = film.kinds[moment];
-  if (kind === JUMP || kind === SKIP) film.breaks.push(moment);
-  if (kind === JUMP) {
-    const [target, turn] = film.jumps.get(moment);
-    film.turn[moment] = turn;
-    film.depth[moment] = target < 0 ? -1 : film.depth[target];
-  } else if (moment) {
-    film.turn[moment] = film.turn[moment - 1] + (kind === SKIP ? film.skips.get(moment) : isTurn(moment) ? 1 : 0);
-    film.depth[moment] = film.depth[moment - 1] + 1;
-  }
-  film.highestTurn = Math.max(film.highestTurn, film.turn[moment]);
+  const kind = film.kinds[moment], isJump = kind === JUMP, turns = kind === SKIP ? film.skips.get(moment) : isTurn(moment) ? 1 : 0;
+  const [from, turn] = isJump ? film.jumps.get(moment) : [moment - 1, (film.turn[moment - 1] ?? 0) + turns];
+  if (isJump || kind === SKIP) film.breaks.push(moment);
+  film.turn[moment] = turn;
+  film.depth[moment] = (film.depth[from] ?? -1) + (isJump ? 0 : 1);
+  film.highestTurn = Math.max(film.highestTurn, turn);
 }
 
 const changesIn = (moment) => film.places.subarray(film.starts[moment], film.starts[moment + 1]);

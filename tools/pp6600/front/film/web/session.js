@@ -2,6 +2,7 @@
 
 const MOST_MOMENTS = 1 << 20, FULL = 5 << 18, AFTER_LONG = 0o10000, LONGEST_ANSWER = 40;
 const MOVES = { BACK: -1, FORWARD: 1 };
+const moveBy = (distance) => `${distance < 0 ? "BACK" : "FORWARD"} ${octal(Math.abs(distance))}`;
 
 // The actions of a session: those in effect, and behind them those that were taken back.
 class Tape {
@@ -53,11 +54,9 @@ class Session {
   // `control` has pause(), which waits until messages were taken, and then whether to stop: isStopped(). `wanted` are parts of the tape,
   // each a first and a last position, that are recorded also in a long STEP.
   constructor(calls, about, control, wanted = []) {
-    Object.assign(this, { calls, control, wanted });
-    const { history, central, reader, printer, deck, panel } = about;
-    this.options = { history, central, reader, printer, deck, panel };
+    Object.assign(this, { calls, about, control, wanted });
     turning.open(about);
-    this.simulator = new Simulator(calls, this.options);
+    this.simulator = new Simulator(calls, about);
     this.recorder = new Recorder(this.simulator, about);
     this.tape = new Tape();
     this.position = 0;
@@ -124,17 +123,12 @@ class Session {
 
   // How so many turns are recorded: all, or if the session would become too long the last ones and those that are wanted.
   partsOf(turns) {
-    if (this.recorder.count + turns <= MOST_MOMENTS) return [{ count: turns, isRecorded: true }];
-    const end = this.position + turns, parts = [];
-    let at = this.position;
-    for (const [from, to] of [...this.wanted, [end - AFTER_LONG, end]]) {
-      const [low, high] = [Math.max(from, at), Math.min(to, end)];
-      if (low >= high) continue;
-      if (low > at) parts.push({ count: low - at, isRecorded: false });
-      parts.push({ count: high - low, isRecorded: true });
-      at = high;
-    }
-    return parts;
+    const begin = this.position, end = begin + turns, isShort = this.recorder.count + turns <= MOST_MOMENTS;
+    const ranges = isShort ? [[begin, end]] : [...this.wanted, [end - AFTER_LONG, end]];
+    const points = [begin, end, ...ranges.flat()].filter((at) => at >= begin && at <= end).sort((one, other) => one - other);
+    const isRecorded = (from, to) => ranges.some(([low, high]) => low < to && from < high);
+    const parts = points.slice(1).map((to, at) => ({ count: to - points[at], isRecorded: isRecorded(points[at], to) }));
+    return parts.filter(({ count }) => count > 0);
   }
 
   // Returns whether a watch ended the turns.
@@ -186,7 +180,7 @@ class Session {
     this.simulator.session = session;
     this.moved(position);
     const slot = two(this.simulator.numbers[layout.slot]);
-    return [`${distance < 0 ? "BACK" : "FORWARD"} ${octal(Math.abs(distance))} SLOT ${slot}`, "replayed"];
+    return [`${moveBy(distance)} SLOT ${slot}`, "replayed"];
   }
 
   // Beyond what the simulator keeps: the latest change of what is watched now.
@@ -209,14 +203,14 @@ class Session {
     let at = moment;
     while (at > 0 && this.jumps.has(at)) [at] = this.jumps.get(at);
     const position = at < 0 ? -1 : this.tape.positionOf(at), distance = position - this.position;
-    if (position >= 0 && distance) await this.perform(`${distance < 0 ? "BACK" : "FORWARD"} ${octal(Math.abs(distance))}`);
+    if (position >= 0 && distance) await this.perform(moveBy(distance));
     return position >= 0;
   }
 
   // ---- simulators of their own over the same tape
 
   async simulatorAt(position) {
-    const simulator = new Simulator(this.calls, this.options);
+    const simulator = new Simulator(this.calls, this.about);
     await this.replay(simulator, this.tape.between(0, position), null, () => false);
     simulator.readAll(() => {});
     return simulator;
@@ -251,7 +245,7 @@ class Session {
   take() {
     const lines = this.lines.slice(this.sent);
     this.sent = this.lines.length;
-    return { ...this.recorder.take(), lines, jumps: [...this.jumps], skips: this.skips.splice(0) };
+    return { rows: this.recorder.take(), lines, jumps: [...this.jumps], skips: this.skips.splice(0) };
   }
 }
 

@@ -49,12 +49,9 @@ class Simulator {
   // writes only registers, channels, devices or watches.
   readAfter(words, observer) {
     observer.begin(NO_TURN);
-    if (words[0] === "DEADSTART") this.readAll((place, was, now) => observer.tell(place, was, now));
-    else {
-      for (const [place] of placesOfSetting(words)) if (place < layout.A || place >= layout.central) this.read(place, 1, observer);
-      this.read(layout.A, layout.paper - layout.A, observer);
-      this.read(layout.slot, layout.central - layout.slot, observer);
-    }
+    for (const [place] of placesOfSetting(words)) if (place < layout.A || place >= layout.central) this.read(place, 1, observer);
+    this.read(layout.A, layout.paper - layout.A, observer);
+    this.read(layout.slot, layout.central - layout.slot, observer);
     observer.end(NO_TURN);
   }
 
@@ -92,9 +89,8 @@ class Simulator {
 
   // Puts a number, which comes as two words of 32 bits.
   put(place, low, high, observer) {
-    if (!isWord(place)) return this.note(place, low, observer);
-    this.note(place, low & 0x3fffffff, observer);
-    return this.note(upperOf(place), high * 4 + (low >>> HALF), observer);
+    this.note(place, isWord(place) ? low & 0x3fffffff : low, observer);
+    if (isWord(place)) this.note(upperOf(place), high * 4 + (low >>> HALF), observer);
   }
 
   note(place, number, observer) {

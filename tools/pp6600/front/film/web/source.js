@@ -151,7 +151,7 @@ function showSource() {
   document.body.classList.toggle("sourced", n === memory.processor);
   byId("source-of").value = n;
   fill(document.querySelector("#source h2"), `Source of PP ${two(n)}: ${one.name}`);
-  fillTable(table, [], one.lines.map((line) => sourceRow(one, line, line.number === here.number ? here : null, line.number === performed)));
+  fillRows("source", one.lines.map((line) => sourceRow(one, line, line.number === here.number ? here : null, line.number === performed)));
   byId("source").classList.toggle("marked", one.lines.some(({ mark }) => mark));
   showTimes(one);
   if (source.scrolled !== `${n} ${film.at}`) keepInView(table.rows[(film.at === one.led ? one.line : here.number) - 1], !source.scrolled);

@@ -2,20 +2,23 @@
 
 // What a write is: a bit each, and above them the number of its constant.
 const MOVED = 1, BY_DEVICE = 2, AT_END = 8, CONSTANT_FROM = 4;
+const PART = 1 << 22; // a source is a place, and above it the parts of a word that are read, a bit each; none is the whole
+const CONSTANTS = ["", "d", "m", "dm", "return", "zero", "no word"]; // by their numbers
+const constant = (name) => CONSTANTS.indexOf(name) << CONSTANT_FROM;
+
+// An instruction as one number: its word, and above it the second word plus 1, 0 if it has none, or more in a block transfer that it began.
+const numberOfInstruction = (one) => one.word + CELLS * (one.phase ? CELLS + 1 : one.words === 2 ? one.second + 1 : 0);
+
+function instructionOf(number) {
+  const word = number % CELLS, second = Math.floor(number / CELLS) - 1, hasSecond = second >= 0 && second < CELLS;
+  return { name: turning.nameOf({ word }), word, second: hasSecond ? four(second) : "", isBlock: second >= CELLS };
+}
 
 const turning = (() => {
   const BLOCK_INPUT = 0o71, FRAME_P = 0b11, WITHOUT_B_FIELD = 0b1111, STATES = { inactive: 0, empty: 1, full: 2, function: 3 };
-  const STATE_LETTERS = "IEFX", NAMED_CONSTANTS = new Set(["d", "m", "dm", "return", "word", "zero", ...Object.keys(STATES)]);
-  let tables, constants;
-
-  // Takes the tables as they come: a row has a name, its words, the states in which it goes on, and its effects.
-  function open(about) {
-    const effectsOf = (some) => some.map(([place, moved, sources]) => ({ place, moved, sources }));
-    const rowOf = ([, words, states, effects]) => ({ words, states, effects: effectsOf(effects) });
-    const each = (all, made) => Object.fromEntries(Object.entries(all).map(([key, one]) => [key, made(one)]));
-    tables = { ...about, table: about.table.map(rowOf), blocks: each(about.blocks, rowOf), ends: each(about.ends, effectsOf) };
-    constants = new Map([["", 0]]);
-  }
+  const STATE_LETTERS = "IEFX", UNREAD = new Set([...CONSTANTS, "word", "P", ...Object.keys(STATES)]); // what no place is read for
+  // A row has a name, its words, the states in which it goes on, and its effects: each a place, whether a number is moved, and the sources.
+  let tables;
 
   // ---- a processor before a turn
 
@@ -29,8 +32,8 @@ const turning = (() => {
   function processor(numbers, n) {
     const [p, a, q, phase] = REGISTERS.map((first) => numbers[first + n]), cells = n * CELLS;
     const word = phase || numbers[cells + p], second = numbers[cells + ((p + 1) & 0o7777)], code = word >> 6;
-    const row = (phase ? tables.blocks : tables.table)[code], d = word & 0o77;
-    const one = { n, p, a, q, phase, word, second, code, d, row, cells, numbers };
+    const [, words, states, effects] = (phase ? tables.blocks : tables.table)[code];
+    const one = { n, p, a, q, phase, word, second, code, d: word & 0o77, words, states, effects, cells, numbers };
     one.state = stateOf(one);
     one.operand = operandOf(one);
     return one;
@@ -44,12 +47,9 @@ const turning = (() => {
     return address < CELLS ? address : address - (CELLS - 1);
   }
 
-  function stateOf({ d, phase, numbers }) {
-    if (d < CHANNELS) return STATE_LETTERS[numbers[layout.states + d]];
-    return d === CLOCK ? "F" : phase ? "I" : "-";
-  }
-
-  const wouldWait = (one) => Boolean(one.row.states) && !(one.phase && one.a === 0) && !one.row.states.includes(one.state);
+  const stateOf = ({ d, phase, numbers }) =>
+    (d < CHANNELS ? STATE_LETTERS[numbers[layout.states + d]] : d === CLOCK ? "F" : phase ? "I" : "-");
+  const wouldWait = (one) => Boolean(one.states) && !(one.phase && one.a === 0) && !one.states.includes(one.state);
 
   // The channel that it waits for, with the state in which it goes on; or "".
   const waits = (one) => (wouldWait(one) ? `${two(one.d)} ${one.d < CLOCK ? tables.waits_for[one.code] : "never"}` : "");
@@ -77,14 +77,14 @@ const turning = (() => {
   function kindOf(one, after) {
     const [p, a, q, phase] = REGISTERS.map((first) => after[first + one.n]);
     const isUnmoved = p === one.p && a === one.a && q === one.q && phase === one.phase;
-    one.waited = one.row.states !== null && isUnmoved;
+    one.waited = one.states !== null && isUnmoved;
     if (one.waited) return WAITING;
     if (tables.blocks[one.code]) return BLOCK;
-    return isUnmoved || !one.row.effects.length ? IDLE : BUSY;
+    return isUnmoved || !one.effects.length ? IDLE : BUSY;
   }
 
   function effectsOf(one, after) {
-    if (!one.phase || after[register(one.n, 3)] !== 0) return one.waited ? [] : one.row.effects;
+    if (!one.phase || after[register(one.n, 3)] !== 0) return one.waited ? [] : one.effects;
     one.ends = one.code === BLOCK_INPUT && one.a ? "input" : "block";
     return tables.ends[one.ends];
   }
@@ -92,23 +92,21 @@ const turning = (() => {
   // Whether a conditional jump wrote P. One to the instruction after it is as if P had gone on, and one by no cells is a stop.
   function jumped(one, after) {
     if (isIn(one.code, 3, 8) && (one.d === 0 || one.d === 0o77)) return false;
-    return after[register(one.n, 0)] !== ((one.p + one.row.words) & 0o7777);
+    return after[register(one.n, 0)] !== ((one.p + one.words) & 0o7777);
   }
 
-  // Calls add(place, what, sources) for each write of a turn; the sources are places and parts of a word in turn. Returns the state that it
-  // made of its channel, or null.
+  // Calls add(place, what, sources) for each write of a turn. Returns the state that it made of its channel, or null.
   function writes(one, after, add) {
     const needsJump = !one.phase && isConditional(one.code);
     let state = null;
-    for (const effect of effectsOf(one, after)) {
-      if (effect.place === "S") state = STATES[effect.sources[0]];
-      else if (effect.place !== "PHASE" && (effect.place !== "P" || !needsJump || jumped(one, after))) writesOf(one, effect, add);
+    for (const [place, moved, sources] of effectsOf(one, after)) {
+      if (place === "S") state = STATES[sources[0]];
+      else if (place !== "PHASE" && (place !== "P" || !needsJump || jumped(one, after))) writesOf(one, place, moved, sources, add);
     }
     return one.d === CLOCK ? null : state;
   }
 
-  function writesOf(one, effect, add) {
-    const { place, moved, sources } = effect;
+  function writesOf(one, place, moved, sources, add) {
     if (place === "C") return toWord(wordFrom(one, 0), placesOf(one, sources[0]), add);
     if (place === "C20") return frameWords.forEach((from, at) => toWord(wordFrom(one, at), [from], add));
     if (place === "F20") return frameWords.forEach((to, at) => ofWord(to, wordFrom(one, at), at ? 0 : WITHOUT_B_FIELD, add));
@@ -120,42 +118,26 @@ const turning = (() => {
   const frameWords = range(FRAME_WORDS).map((at) => layout.frame + at);
 
   // What is moved to a central word, and from parts of one; -1 is a word that there is not.
-  const toWord = (word, from, add) => word >= 0 && add(word, MOVED, from.flatMap((place) => [place, 0]));
-  const ofWord = (to, word, parts, add) => (word < 0 ? add(to, MOVED | constant("zero, past the last central word"), [])
-    : add(to, MOVED, [word, parts]));
+  const toWord = (word, from, add) => word >= 0 && add(word, MOVED, from);
+  const ofWord = (to, word, parts, add) => (word < 0 ? add(to, MOVED | constant("no word"), []) : add(to, MOVED, [word + PART * parts]));
 
   function readBy(one, sources) {
-    const read = [];
-    for (const symbol of sources) {
-      if (symbol === "F") read.push(layout.frame, FRAME_P);
-      else if (NAMED_CONSTANTS.has(symbol) || symbol === "P" || (symbol === "I" && !one.d) || isZeroed(one, symbol)) continue;
-      else for (const from of placesOf(one, symbol)) read.push(from, 0);
-    }
-    return read;
+    const isRead = (symbol) => !UNREAD.has(symbol) && !(symbol === "I" && !one.d) && !isZeroed(one, symbol);
+    return sources.filter(isRead).flatMap((symbol) => (symbol === "F" ? [layout.frame + PART * FRAME_P] : placesOf(one, symbol)));
   }
 
   // Whether the cell from which P comes is the one that the end of a block input has just made zero.
   const isZeroed = (one, symbol) => symbol === "R" && one.ends === "input" && one.p === 0;
 
   function constantIn(one, sources) {
-    const { d, second } = one, texts = { d: two(d), m: four(second), dm: two(d) + four(second) };
-    for (const symbol of sources) {
-      if (symbol in texts) return constant(`the constant ${texts[symbol]}`);
-      if (symbol === "return") return constant("the return address");
-      if (symbol === "zero" || isZeroed(one, symbol)) return constant("zero");
-    }
-    return 0;
-  }
-
-  function constant(text) {
-    if (!constants.has(text)) constants.set(text, constants.size);
-    return constants.get(text) << CONSTANT_FROM;
+    const symbol = sources.find((name) => CONSTANTS.includes(name) || isZeroed(one, name)) || "";
+    return constant(isZeroed(one, symbol) ? "zero" : symbol);
   }
 
   // ---- in words
 
-  const nameOf = (one) => `${tables.names[one.code]} ${two(one.d)}`;
-  const secondOf = (one) => (!one.phase && one.row.words === 2 ? four(one.second) : "");
+  const nameOf = ({ word }) => `${tables.names[word >> 6]} ${two(word & 0o77)}`;
+  const secondOf = (one) => (!one.phase && one.words === 2 ? four(one.second) : "");
 
   // The address of its instruction, in a block what cell 0000 says; null if it is not there.
   function addressOf(one) {
@@ -177,7 +159,7 @@ const turning = (() => {
     dm: (one) => two(one.d) + four(one.second), n: (one) => octal(one.d < 0o40 ? one.d : 0o77 - one.d), x: (one) => four(one.operand),
     "x+1": (one) => four((one.operand + 1) & 0o7777), X: (one) => four(cell(one, one.operand)), D: (one) => four(cell(one, one.d)),
     "D..": (one) => fives(one.d), "P..": (one) => fives(one.p), H: (one) => four(one.numbers[layout.words + one.d]),
-    near: (one) => four(target(one.p, one.d)), on: (one) => four((one.p + one.row.words) & 0o7777),
+    near: (one) => four(target(one.p, one.d)), on: (one) => four((one.p + one.words) & 0o7777),
     back: (one) => four((cell(one, 0) + 1) & 0o7777), wanted: (one) => tables.waits_for[one.code],
     state: (one) => ({ I: "is inactive", E: "is empty", F: "is full", X: "has a function code" })[one.state],
   };
@@ -189,11 +171,11 @@ const turning = (() => {
   function sentence(one) {
     const choices = tables.sentences.of[(one.phase ? "b" : "") + two(one.code)], never = one.d >= CLOCK;
     const text = wouldWait(one) ? tables.sentences[never ? "waits_ever" : "waits"] : choices.find(([condition]) => holds(one, condition))[1];
-    const address = one.phase ? addressOf(one) : null, hasSecond = tables.table[one.code].words === 2;
+    const address = one.phase ? addressOf(one) : null, hasSecond = tables.two_words.includes(one.code);
     const second = one.phase ? (address === null || !hasSecond ? "" : four(cell(one, address + 1))) : secondOf(one);
     return `${nameOf(one)} ${second}`.trim() + `: ${text.replace(/\{(.*?)\}/g, (_, name) => SAYS[name](one))}`;
   }
 
-  const namesOfConstants = () => [...constants.keys()];
-  return { open, processor, kindOf, writes, waits, sentence, nameOf, secondOf, addressOf, target, isOfChannel, constants: namesOfConstants };
+  const open = (about) => { tables = about; };
+  return { open, processor, kindOf, writes, waits, sentence, nameOf, secondOf, addressOf, target, isOfChannel };
 })();

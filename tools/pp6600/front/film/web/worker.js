@@ -67,7 +67,7 @@ const REQUESTS = {
 
   // The answers to a check after other lines, in a session of their own, which this one does not see.
   async answers({ given, lines, check }) {
-    const other = new LibrarySession(worker.calls, withFiles({ ...worker.session.options, ...given }, given));
+    const other = new LibrarySession(worker.calls, withFiles({ ...worker.session.about, ...given }, given));
     other.answer(ofLines(lines));
     const { text } = other.answer(check);
     other.close();

@@ -1,0 +1,179 @@
+"""The blocks of tests/film.txt: what is done in the page of a film, and what it then shows.
+
+The file begins with names for what is looked at and for what is done, in the page's own words (JavaScript); X is the rest of the line:
+  let NAME [X] = ..   a look: yes, no, none, a number or a text; of several one after the other, with | between them
+  do NAME [X] = ..    an action
+A block begins with == and what it shows. Its other lines:
+  NAME| TEXT          a line of a file; those before the first block are for all. <NAME at a film has its lines in the script
+  > LINE              one more line of the script
+  $ film ..           a film with these options of the tool is opened, at the #address if there is one
+  $ shown NAME        one of docs/films; $ class is the page of a class
+Each line from here on is one step or several, with -> between them:
+  : KEYS              keys that are pressed: characters, and names in angles
+  click SELECTOR      the mouse; click-at LOOK clicks where a look says
+  open [#address]     the same film again; open saved NAME is a page that it has saved
+  look WIDTH HEIGHT   the window's size in pixels, then dark or print
+  saved NAME          the page saves this file, which has the bytes of the script or of the block's file
+  keep LOOK           what is seen now, for `LOOK is kept` and `LOOK is another`
+  LOOK = TEXT         what is seen comes to be this; with ~ it has this text in it, and with > it is a greater number
+"""
+
+import json
+import os
+import re
+import shlex
+import time
+
+from tests.cases import encoded, part, text_of
+from tests.films import PageCase, shown_film
+from tests.panels import keys_in
+from tests.support import TOP, run, write
+
+PATIENCE = 120  # seconds for what a page comes to show
+LINE = re.compile(r"(?:let|do) |== |\$ |> ?|[\w. ]+\| ?|")
+DEFINED = re.compile(r"(let|do) ([\w-]+)(?: X)? = (.*)")
+CHECK = re.compile(r"(?P<name>[\w-]+)(?: (?P<argument>.*?))?? (?P<relation>=|~|>|is)(?: (?P<wanted>.*))?")
+OPENED = re.compile(r"(film|shown|class)(.*?)(?: (#\S+))?")
+RELATIONS = {"=": lambda shown, wanted: shown == wanted, "~": lambda shown, wanted: wanted in shown,
+             ">": lambda shown, wanted: int(shown) > int(wanted)}
+CONTROLS = ("button", "combobox", "textbox", "slider", "checkbox", "searchbox", "spinbutton")
+HELPERS = r"""const octal = (n) => n.toString(8), textOf = (one) => one.innerText ?? one.textContent;
+const seenOf = (one, between) => [...one.childNodes].filter((part) => !part.hidden).map((part) => part.textContent).join(between);
+const shownOf = (it) => Array.isArray(it) ? it.map(shownOf).join(" | ") : it === true ? "yes" : it === false ? "no"
+  : String(it ?? "none").replaceAll("\n", " ; ");"""
+
+
+def blocks():
+    """Returns the looks and actions of tests/film.txt, its files, and its blocks: a title, and pairs of a mark and a text."""
+    defined, files, found = {}, {}, []
+    for line in re.sub("^#.*\n|\n(?=  )", "", part(os.path.join(TOP, "tests"), "film.txt").decode(), flags=re.M).splitlines():
+        mark = LINE.match(line)[0]
+        text = line[len(mark):]
+        if mark in ("let ", "do "):
+            kind, name, code = DEFINED.fullmatch(line).groups()
+            assert defined.setdefault(name, (kind, code)) == (kind, code), f"{name} is defined twice"
+        elif mark == "== ":
+            found.append((text, []))
+        elif found and line:
+            found[-1][1].append((mark.strip(), text))
+        elif line:
+            files[mark.strip()] = files.get(mark.strip(), "") + text_of(text)
+    return defined, files, found
+
+
+DEFINED_NAMES, FILES, BLOCKS = blocks()
+
+
+class BlockCase(PageCase):
+    """Tests of blocks, each in a folder of its own."""
+
+    def check(self, lines):
+        for name in ("examples", "exercises", "tests"):
+            os.symlink(os.path.join(TOP, name), self.path(name))
+        self.files, self.kept, self.saved_files = dict(FILES), {}, self.room()
+        for mark, text in lines:
+            if mark.endswith("|"):
+                self.files[mark] = self.files.get(mark, "") + text_of(text)
+        for mark, text in self.files.items():
+            write(self.path(mark[:-1]), encoded(text))
+        self.browser.save_into(self.saved_files)
+        self.script = "".join(text_of(text) for mark, text in lines if mark == ">")
+        for mark, text in lines:
+            if mark == "$":
+                self.begin(text)
+            elif not mark:
+                for step in text.split(" -> "):
+                    with self.subTest(step):
+                        self.perform(step)
+
+    def begin(self, text):
+        """Opens a film."""
+        kind, words, address = OPENED.fullmatch(text).groups()
+        words = shlex.split(words)
+        if kind == "shown":
+            self.page = shown_film(words[0])
+        elif kind == "class":
+            self.page = self.path("class.html")
+            self.assertEqual(0, run("exercises/hand-out", self.page).status)
+        else:
+            named = [word for word in words if word[0] == "<" and f"{word[1:]}|" in self.files]
+            begun = "".join(self.files[f"{word[1:]}|"] for word in named)
+            self.script = encoded(begun + self.script).decode("latin-1")
+            self.page = self.film(*(word for word in words if word not in named), script=self.script, status=None, folder=self.folder)
+        self.browser.open(self.page, address or "")
+
+    def perform(self, step):
+        """Performs a step of a block."""
+        name, _, rest = step.partition(" ")
+        command = getattr(self, "do_" + name.replace("-", "_"), None)
+        if name == ":":
+            for key in keys_in(rest):
+                self.browser.key(" " if key == "Space" else key)
+        elif command:
+            command(rest)
+        elif DEFINED_NAMES.get(name, ("",))[0] == "do":
+            self.evaluate(f"{{ {DEFINED_NAMES[name][1]}; }}", rest)
+        else:
+            self.compare(**CHECK.fullmatch(step).groupdict())
+
+    def evaluate(self, code, argument):
+        return self.value(f"((X) => {{ {HELPERS} return (async () => {code})(); }})({json.dumps(argument)})")
+
+    def look(self, name, argument):
+        """Returns what is seen, as a text."""
+        if name == "sheets":
+            self.browser.paper(self.path("paper.pdf"))
+            return str(len(re.findall(rb"/Type /Page\b(?!s)", part(self.folder, "paper.pdf"))))
+        if name == "controls-without-a-name":
+            nodes = [node for node in self.browser.ask("Accessibility.getFullAXTree")["nodes"] if not node["ignored"]]
+            controls = [node for node in nodes if node["role"]["value"] in CONTROLS]
+            self.assertGreater(len(controls), 100)
+            return "".join(map(str, (node for node in controls if not node.get("name", {}).get("value", "").strip())))
+        try:
+            return self.evaluate(f"shownOf(await ({DEFINED_NAMES[name][1]}))", argument)
+        except RuntimeError as fault:  # as long as what is looked at is not there
+            return str(fault)
+
+    def compare(self, name, argument, relation, wanted):
+        """Waits until a look shows what is wanted."""
+        if relation == "is":
+            seen = self.look(name, argument) == self.kept[name, argument]
+            self.assertEqual(wanted == "kept", seen)
+            return
+        is_so, end = RELATIONS[relation], time.monotonic() + PATIENCE
+        while not is_so(shown := self.look(name, argument), wanted or ""):
+            self.assertLess(time.monotonic(), end, f"it shows {shown}")
+            time.sleep(0.05)
+
+    # ---- what is done with the browser
+
+    def do_click(self, selector):
+        self.browser.click(selector)
+
+    def do_click_at(self, name):
+        self.browser.click_at(*map(float, self.look(name, "").split(" | ")))
+
+    def do_open(self, rest):
+        saved = rest.partition("saved ")[2]
+        self.browser.open(self.saved_file(saved) if saved else self.page, "" if saved else rest)
+
+    def do_look(self, rest):
+        width, height, *form = rest.split()
+        self.browser.look(int(width), int(height), dark="dark" in form, media="print" if "print" in form else "")
+
+    def do_keep(self, rest):
+        name, _, argument = rest.partition(" ")
+        self.kept[name, argument or None] = self.look(name, argument or None)
+
+    def do_saved(self, name):
+        wanted = self.script.encode("latin-1") if name == "script" else encoded(self.files[f"{name}|"])
+        path = self.saved_file(name)
+        self.assertEqual(wanted, part(os.path.dirname(path), name))
+
+    def saved_file(self, name):
+        """Waits for a file that the page saves, and returns its path."""
+        path, end = os.path.join(self.saved_files, name), time.monotonic() + PATIENCE
+        while not os.path.exists(path) or not os.path.getsize(path):
+            self.assertLess(time.monotonic(), end, f"{name} is not saved")
+            time.sleep(0.05)
+        return path

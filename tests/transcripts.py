@@ -1,0 +1,99 @@
+"""Transcripts: commands of a shell and what they write, standard error too, in one folder.
+
+A line that begins with $ is a command, and the lines from <<END to END are its own; the others are what it writes. A line that begins
+with # is a note; `# needs NAME ..` names commands, and
+modules of Python as module:NAME, without which the transcript is skipped. `at-terminal COMMAND` runs a command at a
+terminal. The name of the folder is left out of what is written, as is that of the repository.
+"""
+
+import glob
+import importlib.util
+import os
+import re
+import shlex
+import shutil
+import subprocess
+
+from tests.cases import part
+from tests.support import PATIENCE, TOP, Case, program, read, tool_here, write
+
+AT_TERMINAL = """#!/bin/sh
+exec python3 -c 'import pty, sys; sys.exit(pty.spawn(sys.argv[1:]) >> 8)' "$@" </dev/null | tr -d '\\r'
+"""
+COMMAND = re.compile(r"^\$ (.*<<END.*\n(?:.*\n)*?END|.*)\n", re.M)  # with its own lines
+MARK = "====\n"
+# A tool with words that need no shell, on a file or nothing, and whether its status is shown. Such a tool runs in the tests' own process.
+ALONE = re.compile(r"tools/(?!talk|panel|debug)([\w-]+)((?: (?:[\w./:=,+@%-]+|'[^']*'))*)(?: <([\w./-]+))?(; echo \$\?)?")
+
+
+class Shell:
+    """A bash in a folder."""
+
+    def __init__(self, folder):
+        self.folder = folder
+        self.process = subprocess.Popen(["bash"], cwd=folder, stdin=subprocess.PIPE, stdout=subprocess.PIPE, stderr=subprocess.STDOUT,
+                                        env={**os.environ, "PP6600": program(), "PATH": f"{folder}/bin:{os.environ['PATH']}"})
+
+    def perform(self, command):
+        """Performs a command. Returns what it writes, standard error too."""
+        found = ALONE.fullmatch(command)
+        if found and ".py" not in command:
+            name, words, path, shows_status = found.groups()
+            script = part(self.folder, path).decode("latin-1") if path else ""
+            done = tool_here(name, *shlex.split(words), script=script, folder=self.folder, is_one=True)
+            return done.out + (f"{done.status}\n" if shows_status else "")
+        self.process.stdin.write(f"{{\n{command}\n}} </dev/null\n{{ status=$?; echo; echo '{MARK}'; (exit $status); }}\n".encode())
+        self.process.stdin.flush()
+        written = b""
+        while not written.endswith(f"\n{MARK}\n".encode()):
+            line = self.process.stdout.readline()
+            if not line:
+                raise EOFError(written.decode())
+            written += line
+        return written[:-len(MARK) - 2].decode("utf-8", "replace")
+
+    def end(self):
+        self.process.communicate(timeout=PATIENCE)
+
+
+def is_here(name):
+    """Returns whether a command is here, or a module of Python."""
+    kind, _, module = name.partition("module:")
+    return importlib.util.find_spec(module) is not None if module else shutil.which(kind) is not None
+
+
+class TranscriptCase(Case):
+    """Tests of transcripts, each in a folder of its own."""
+
+    def check(self, path):
+        text = read(path)
+        for names in re.findall("^# needs (.*)$", text, re.M):
+            missing = [name for name in names.split() if not is_here(name)]
+            if missing:
+                self.skipTest(f"{', '.join(missing)} is not here")
+        begin, *parts = COMMAND.split(re.sub("^#.*\n|^\n", "", text, flags=re.M))
+        self.assertEqual("", begin)
+        shell = self.shell()
+        for command, wanted in zip(parts[::2], parts[1::2]):
+            with self.subTest(command):
+                self.assertEqual(wanted, self.written(shell, command))
+
+    def shell(self):
+        """Returns a shell in the folder of the test, where the repository's parts are."""
+        for name in ("examples", "exercises", "tests", "tools"):
+            os.symlink(os.path.join(TOP, name), self.path(name))
+        os.symlink(program(), self.path("pp6600"))
+        write(self.path("bin", "at-terminal"), AT_TERMINAL, 0o755)
+        shell = Shell(self.folder)
+        self.addCleanup(shell.end)
+        return shell
+
+    def written(self, shell, command):
+        """Returns what a command writes, without empty lines and names of folders."""
+        text = re.sub("^\n", "", shell.perform(command), flags=re.M)
+        return text.replace(f"{self.folder}/", "").replace(f"{TOP}/", "")
+
+
+def transcripts(folder):
+    """Returns the names of the transcripts of a folder of tests/, and their paths."""
+    return [(os.path.basename(path)[:-len(".txt")], path) for path in sorted(glob.glob(os.path.join(TOP, "tests", folder, "*.txt")))]
