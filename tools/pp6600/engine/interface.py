@@ -57,8 +57,6 @@ class Records(NamedTuple):
 class Engine(Protocol):
     """A session of the machine. Numbers of places are those of the flat order; `most` is at least 1."""
 
-    is_proved: bool
-
     def answer(self, text: str) -> List[str]:
         """Performs lines of the console, and returns the lines of their answers."""
 

@@ -196,8 +196,6 @@ class LibrarySession:
 class LibraryEngine:
     """The proved engine of the tools: a session with the options of the program. It keeps its rooms from call to call."""
 
-    is_proved = True
-
     def __init__(self, path: str, words: Sequence[str]) -> None:
         """The words are the options of the program."""
         try:

@@ -38,8 +38,6 @@ def flat_place(place: int) -> int:
 class PlainEngine:
     """A session of the simulator in plain Python."""
 
-    is_proved = False
-
     def __init__(self, words: Sequence[str]) -> None:
         """The words are the options of the program."""
         try:

@@ -13,7 +13,6 @@ from ..failure import Failure
 from .forms import CELLS, CLOCK, MOST_TURNS, PROCESSORS, Place, Registers, fields, is_refusal, registers_of, words_of
 from .turn import Processor
 
-SIZES_OF_CENTRAL = (0o400000, 0o200000, 0o100000)
 LONGEST_LINE = 255
 Self = TypeVar("Self", bound="Console")
 NO_ANSWER = re.compile("[ \t]*([*][\t -~]*)?")  # a note, or a line without words
@@ -129,14 +128,10 @@ class Console:
         """Returns a line of DUMP C for each central word from first to last."""
         return self.demand(f"DUMP C {number_of('a central address', first):o} {number_of('a central address', last):o}")
 
-    @functools.cached_property
+    @property
     def central_size(self) -> int:
-        """Returns how many words central memory has."""
-        for size in SIZES_OF_CENTRAL:
-            answer = self.ask(f"DUMP C {size - 1:o} {size - 1:o}")
-            if answer and answer[0].startswith("C "):
-                return size
-        raise Failure("central memory has another size than it may have")
+        """How many words central memory has."""
+        return 0o2000 * int(self.words[self.words.index("--central") + 1] if "--central" in self.words else 128)
 
     @functools.cached_property
     def reader_channel(self) -> int:

@@ -91,11 +91,6 @@ def out_of_range(words: Sequence[str], central: int) -> str:
     return f"{named(words, len(words) - 2)} is over {words[-1]}"
 
 
-def size_of_central(words: Sequence[str]) -> int:
-    """Returns how many words central memory has in a simulator that was begun by these words."""
-    return 0o2000 * int(words[words.index("--central") + 1] if "--central" in words else 128)
-
-
 def reason(line: str, answer: str, central: int = CENTRAL_ADDRESSES) -> str:
     """Returns in a line why a line was refused, with the first line of its answer; nothing if there is no more to say. Central
     memory has so many words."""

@@ -8,7 +8,7 @@ from __future__ import annotations
 
 import itertools
 from collections import deque
-from typing import Callable, Dict, Iterator, List, NamedTuple, Optional, Sequence, Set, Tuple
+from typing import Any, Callable, Dict, Iterator, List, NamedTuple, Optional, Sequence, Set, Tuple
 
 from ..engine import interface as flat
 from ..engine.interface import Records
@@ -176,6 +176,14 @@ class FoundTurn(NamedTuple):
     made: Made
     numbers: List[Tuple[str, str, str]]  # names, with the digits before and after the turn
     is_named: bool  # whether the numbers are shown with their names
+
+    def text(self, symbols: Any) -> str:
+        """Returns its line: its number, the processor with its P and instruction, the numbers before and after it, and the line of its
+        source."""
+        parts = [f" {f'{name} ' if self.is_named else ''}WAS {was} NOW {now}" for name, was, now in self.numbers]
+        slot, processor = self.made.slot, self.made.processor
+        address, line = symbols.beside(slot, processor.registers["P"]), symbols.line_at_p(slot, processor)
+        return f"TURN {self.turn:o} PP {slot:02o} P {address} {processor.name}{''.join(parts)}{line}"
 
 
 class Search:

@@ -174,7 +174,7 @@ class Tape:
         self.runs += pairs(repeat(turns_of(turns), count), replies)
         self.starts += map(Position, pairs(ends, range(ends.start + 1, ends.stop + 1, turns + 1)))
         for sums in (self.turns_before, self.units_before):
-            after = range(sums[-1] + turns, sums[-1] + count * turns + 1, turns)
+            after = list(range(sums[-1] + turns, sums[-1] + count * turns + 1, turns))
             sums += pairs(after, after)
 
     def _add(self, run: Action, turns: int, units: int) -> None:

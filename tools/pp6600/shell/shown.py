@@ -4,7 +4,7 @@ import sys
 from typing import Iterable, List, Optional
 
 from ..failure import Failure
-from ..run.reasons import reason, size_of_central
+from ..run.reasons import reason
 from ..run.session import Session
 from ..run.tape import counted
 from .ending import complain, flush, shown_text, write
@@ -25,7 +25,7 @@ def show_answer(run: Session, line: str, lines: List[str]) -> None:
         write(text)
     is_refused = bool(lines) and lines[0].startswith("ERR ")
     if is_refused and sys.stdout is not None and sys.stdout.isatty():
-        why = reason(line, lines[0], size_of_central(run.words))
+        why = reason(line, lines[0], run.central_size)
         if why:
             write(f"  {shown_text(why)}")
 

@@ -8,7 +8,6 @@ from ...language.display_code import SYMBOLS
 from ...language.names import AllSymbols
 from ...language.symbol_options import add_symbols, symbols_of
 from ...run.conditions import Changes, column_of, first_place
-from ...run.moments import text_of
 from ...run.recording import AT_ONCE, Recording
 from ...run.search import Condition, Search
 from ...run.state import differences
@@ -37,7 +36,7 @@ def place_changes(run, place, symbols=AllSymbols()):
     for start, end, action in zip(run.tape.starts, run.tape.starts[1:], run.tape.runs):
         if action.line == STEP:
             run.goto(start)
-            yield from (text_of(search.moment(*found), symbols) for found in search.turns(end))
+            yield from (search.moment(*found).text(symbols) for found in search.turns(end))
         elif place in places_of_setting(action.line):
             run.goto(start)
             (_, was), = column.shown(run)

@@ -5,7 +5,6 @@ from itertools import islice
 from ...language.names import AllSymbols
 from ...language.symbol_options import add_symbols, symbols_of
 from ...run import conditions
-from ...run.moments import text_of
 from ...run.search import Search, last_moments
 from ...shell.command_line import Failure, arguments, count, words_after, write
 from ...shell.script import replayed
@@ -55,7 +54,7 @@ def main():
     run, script = replayed(asked, symbols, path)
     is_found = False
     for found in turns_found(asked, condition, run):
-        write(text_of(found, symbols), at_once=not asked.all)
+        write(found.text(symbols), at_once=not asked.all)
         is_found = True
     run.close()
     if not is_found:

@@ -11,9 +11,7 @@ from ...language.calls import calls, sentence
 from ...language.names import AllSymbols
 from ...run.device import DeviceFailure
 from ...run.forms import KINDS, Place
-from ...run.line_search import turn_of_line_before, turn_of_next_line
-from ...run.moments import text_of
-from ...run.searches import Stopped, last_before, next_found
+from ...run.searches import Stopped, last_before, next_found, turn_of_line_before, turn_of_next_line
 from ...run.session import REPLAYED
 from ...shell.keyboard import FIRST_WORDS, card
 from ..keys import ARROWS, PAGES, PANEL
@@ -312,7 +310,7 @@ class Panel:
             new = f"in turns {history.turns + 1:o} to {history.last_turn + self.session.most_new:o}"
             self.message = f"NONE: {text}, {new if find is next_found else f'before turn {history.turns:o}'}"
         else:
-            self.show_turn(found.turn, [text_of(found, self.symbols)])
+            self.show_turn(found.turn, [found.text(self.symbols)])
 
     def go_by_lines(self, find, count):
         """Goes on to where the chosen processor begins another line of its source; or back to where it began the line that it is
