@@ -382,17 +382,16 @@ impl Pass {
         body: Span,
     ) -> Result<(), Stop> {
         let count = self.give_lists(lines, statement)?;
-        let first = lines.all.len();
         for _ in 0..count {
             self.vocabulary.give_items()?;
             self.echo_lines(lines, statement.operation, body)?;
         }
         let size = body.end.saturating_sub(body.first);
-        for item in 0..count {
-            let before = count.saturating_sub(item).saturating_sub(1);
-            let first = first.saturating_add(before.saturating_mul(size));
-            let end = first.saturating_add(size);
+        let mut end = lines.all.len();
+        for _ in 0..count {
+            let first = end.saturating_sub(size);
             self.push_run(Span { first, end }, 1, 0)?;
+            end = first;
         }
         Ok(())
     }
