@@ -12,7 +12,7 @@ from tests.support import Case, add_tests, program
 
 from pp6600 import INACTIVE, NOTHING, Attached, Device, Failure, full
 from pp6600.convert.cells import set_lines
-from pp6600.front.debug.debugged import Debugged
+from pp6600.front.debug.debugged import MachineWithDevices
 from pp6600.front.debug.running import Runner
 from pp6600.run import new_turns
 from pp6600.run.past import Past
@@ -52,7 +52,7 @@ class Walk:
         channels = choose.sample([0, 1, 5, 0o11], choose.randint(1, 3))
         self.words = [program(), "--panel", panel]
         self.devices = [RandomDevice(choose.randrange(4000), channel) for channel in channels]
-        self.machine = Debugged(self.words, self.devices)
+        self.machine = MachineWithDevices(self.words, self.devices)
         self.places = [f"H {channel:o}" for channel in channels]
         for at, number in enumerate(choose.sample(range(10), 3)):
             for line in set_lines(number, 0o100, [f"{word:04o}" for word in random_program(choose, channels, at == 0)]):

@@ -12,7 +12,7 @@ from ...shell.device_options import device_of
 from ...shell.options import OPTIONS, processor
 from ...shell.text_files import script_lines, shown
 from .breakpoints import DATA, Breakpoints
-from .debugged import Debugged, latest_turn
+from .debugged import MachineWithDevices, MachineWithoutDevices, latest_turn
 from .listings import Listings
 from .own import OwnSources
 from .protocol import BadRequest
@@ -173,7 +173,7 @@ class Adapter(Requests, Setting):
         lines = script_lines(str(script)) if script else []
         symbols = symbols_from(*(pairs(arguments.get(name), name) for name in ("symbols", "sources")), arguments.get("text"))
         devices = devices_from(arguments.get("devices"))
-        own, machine = OwnSources(symbols), Debugged(words, devices)
+        own, machine = OwnSources(symbols), MachineWithDevices(words, devices) if devices else MachineWithoutDevices(words)
         self.end_simulator()
         self.machine, self.arguments, self.own = machine, arguments, own
         if self.listings is None:

@@ -11,7 +11,7 @@ from ...run.state import state_of
 from ...run.tape import STEP
 from .terms import Tally
 
-MADE_AT_ONCE = 0o2000  # turns of a session with devices
+MADE_AT_ONCE = 0o2000  # turns that a session with devices makes
 
 
 def is_turn(tape, position):
@@ -24,17 +24,17 @@ def latest_turn(tape, number, position):
     return next((at for at in reversed(range(position)) if tape.slot(at) == number and is_turn(tape, at)), None)
 
 
-class Debugged(Attached):
-    """A session, perhaps with devices; with its scouts, which perform what is on the tape and know no device, the hits of its breakpoints,
-    and its state as it was when it was last looked at."""
+class Debugged:
+    """What a session that is debugged has beside its run: its scouts, the hits of its breakpoints, and its state as it was when it was last
+    looked at."""
 
-    def __init__(self, words, devices):
+    def __init__(self, *words):
         self.scouts, self.tallies = {}, {}
-        super().__init__(without_history(words), devices)
+        super().__init__(*words)
 
     def scout(self, name="looks"):
         if name not in self.scouts:
-            self.scouts[name] = Session(self.words, self.tape, is_search=True)
+            self.scouts[name] = Session(without_history(self.words), self.tape, is_search=True)
         return self.scouts[name]
 
     def close(self):
@@ -72,14 +72,6 @@ class Debugged(Attached):
             scout.goto(min(scout.position, position))
             scout.history.ahead = min(scout.history.ahead, position - scout.position)
 
-    def add_turns(self, most):
-        """Adds turns to the tape, at most so many. They are made by who goes there, but with devices at once."""
-        if not self.devices:
-            self.tape.append(STEP, most)
-            return
-        with self.at(self.tape.end):
-            self.act(f"STEP {min(most, MADE_AT_ONCE):o}")
-
     def next_turn(self, number):
         """Returns the position before the next turn of a processor. After the tape come turns."""
         at = self.position
@@ -95,3 +87,23 @@ class Debugged(Attached):
         if position == self.tape.end:
             self.add_turns(most)
         return min(self.tape.starts[self.tape.run_after(position) + 1], position + most)
+
+
+class MachineWithoutDevices(Debugged, Session):
+    """A session without devices."""
+
+    def add_turns(self, most):
+        """Adds turns to the tape, so many; they are made by who goes there."""
+        self.tape.append(STEP, most)
+
+
+class MachineWithDevices(Debugged, Attached):
+    """A session with devices, which makes each new turn itself. The scouts perform what is on the tape, and know no device."""
+
+    def __init__(self, words, devices):
+        super().__init__(without_history(words), devices)
+
+    def add_turns(self, most):
+        """Makes new turns at the end of the tape, at most so many."""
+        with self.at(self.tape.end):
+            self.act(f"STEP {min(most, MADE_AT_ONCE):o}")
