@@ -26,7 +26,7 @@ from pp6600.language.sources import names_of
 
 COUNT = int(os.environ.get("PP6600_SOURCES", "3000"))
 FORMS = ("words", "set", "listing")
-WRONG = 1  # the status of tools/assemble
+LITERAL = "*         LITERAL"  # in the listing
 
 
 def text_of(lines):
@@ -34,9 +34,9 @@ def text_of(lines):
 
 
 def rows_with_words(program):
-    """Returns what the form LINES has."""
+    """Returns what the form LINES has: no line has the words of literals."""
     return [" ".join([f"{row.line.number:o}", *(f"{number:04o}" for number in (row.location, row.origin, *row.words))])
-            for row in program.rows if row.words]
+            for row in program.rows if row.words and row.line.text != LITERAL]
 
 
 def names_in(program):

@@ -129,8 +129,8 @@ enum {
     PP6600_COMPLAINTS = 0, /* a line for each fault and then each warning, as "3:18: LATER is not defined": line and column, from 1 */
     PP6600_WORDS = 1,      /* a line for each word, as "0100 1405", and "P 0100" if END says where the program begins */
     PP6600_LISTING = 2,    /* the listing */
-    PP6600_LINES = 3,      /* a line for each row of the listing that has words: the number of its line of the source, the address of its
-                            * first word, the address to which this is loaded, and its words, as "5 0101 0101 0100 0300" */
+    PP6600_LINES = 3,      /* a line for each row of the listing that has words and no literal: the number of its line of the source, the
+                            * address of its first word, the address to which this is loaded, its words, as "5 0101 0101 0100 0300" */
     PP6600_NAMES = 4       /* a line for each label, as "START 0100", and for each other name of one number, as "SIZE = 12" */
 };
 
