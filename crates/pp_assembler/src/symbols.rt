@@ -39,10 +39,11 @@ pub struct Symbols {
     qualifiers: Vec<Span>,
 }
 
-/// Where a name is looked up, and whether only names of the lines above count.
+/// Where a name is looked up, the column of a message about it, and whether only names of the lines above count.
 #[derive(Clone, Copy)]
 pub struct Place {
     pub name: Field,
+    pub column: usize,
     pub is_from_above: bool,
 }
 
@@ -282,7 +283,7 @@ impl Symbols {
             (None, Some(later)) if !at.is_from_above && !later.is_set => Ok(later),
             (None, Some(later)) => {
                 let fault = Fault::new("{} is defined only later, in line {} (decimal)");
-                Err(Stop::At(at.name.first, fault.part(at.name).decimal(later.line)))
+                Err(Stop::At(at.column, fault.part(at.name).decimal(later.line)))
             }
             (None, None) if !at.is_from_above && !is_last => Ok(Definition {
                 value: Some(0),
@@ -294,7 +295,7 @@ impl Symbols {
             (None, None) if self.is_passed_over(name) => Err(Stop::Follows),
             (None, None) => {
                 let fault = Fault::new("{} is not defined{}").part(at.name);
-                Err(Stop::At(at.name.first, fault.with(Argument::NearestSymbol(at.name))))
+                Err(Stop::At(at.column, fault.with(Argument::NearestSymbol(at.name))))
             }
         }
     }

@@ -332,7 +332,8 @@ impl Pass {
             return Err(Stop::of(OF_ANOTHER_PROGRAM, operand));
         }
         let place = Place {
-            name: operand,
+            name: Field::new(operand.end.saturating_sub(name.len()), operand.end),
+            column: operand.first,
             is_from_above: false,
         };
         match self.symbols.look_up(name, place, self.is_last)?.value {

@@ -205,8 +205,10 @@ impl<'a> Expression<'a> {
 
     fn name(&mut self, end: usize) -> Result<Value, Stop> {
         let name = self.text.get(self.at..end).unwrap_or(b"");
+        let part = self.part(self.at, end);
         let place = Place {
-            name: self.part(self.at, end),
+            name: part,
+            column: part.first,
             is_from_above: self.scope.is_from_above,
         };
         let symbol = self.scope.symbols.look_up(name, place, self.scope.is_last)?;

@@ -60,7 +60,7 @@ def libraries_beside(name: str) -> List[str]:
     """Returns the paths of the libraries that belong to a program, the best first."""
     folder, library = os.path.dirname(os.path.abspath(name)), library_here()
     led_to = os.path.dirname(os.path.realpath(name))  # by links
-    built = os.path.normpath(os.path.join(folder, "..", "..", "..", "targets", "out"))  # where ./prove puts what it makes of crates/pp6600/out
+    built = os.path.normpath(os.path.join(led_to, "..", "..", "..", "targets", "out"))  # where ./prove puts what it makes of crates/pp6600/out
     places = (folder, os.path.join(folder, "dist"), os.path.join(folder, "lib"), led_to, built)
     return [path for path in (os.path.join(place, library) for place in places) if library and os.path.exists(path)]
 

@@ -12,7 +12,7 @@ from typing import Any, Callable, Dict, Iterator, List, NamedTuple, Optional, Se
 
 from ..engine import interface as flat
 from ..engine.interface import Records
-from .forms import CELLS, CLOCK, PROCESSORS, REGISTERS, STATES, Place, Registers
+from .forms import CLOCK, PROCESSORS, STATES, Place, Registers
 from .session import Session
 from .tape import Position
 from .turn import Processor
