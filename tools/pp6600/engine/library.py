@@ -101,6 +101,9 @@ class LibrarySession:
         self._handle = Handle()
         library, self._at = load(path), byref(self._handle)
         self.calls = {name: functools.partial(getattr(library, f"pp6600_{name}"), self._at) for name in CALLS}
+        self._text: Any = ctypes.create_string_buffer(ANSWER_ROOM)  # kept from call to call, with what is said of an answer
+        self.answered = c_size_t(), c_size_t(), c_uint32(), c_uint32()
+        self.counted = tuple(map(byref, self.answered))
         text, count, status = ctypes.create_string_buffer(TEXT_ROOM), c_size_t(), c_uint32()
         if not all(0 <= number < MOST_OF_BYTE for number in (reader, printer)) or \
                 not all(0 <= number < MOST_OF_WORD for number in (history, central)):
@@ -131,10 +134,10 @@ class LibrarySession:
         """Performs lines, and returns their answers. It asks with more room as long as an answer does not fit."""
         texts, lines, refused, taken, size, status = [], 0, 0, 0, max(room, 1), ROOM
         while status == ROOM:
-            into, left, numbers = ctypes.create_string_buffer(size), typed[taken:], (c_size_t(), c_size_t(), c_uint32(), c_uint32())
-            status = self._call("answer", left, c_size_t(len(left)), into, c_size_t(size), *map(byref, numbers))
-            more, count, performed, rejected = (number.value for number in numbers)
-            texts.append(into.raw[:count])
+            left, into = typed[taken:], self._text if size <= len(self._text) else ctypes.create_string_buffer(size)
+            status = self._call("answer", left, c_size_t(len(left)), into, c_size_t(size), *self.counted)
+            more, count, performed, rejected = (number.value for number in self.answered)
+            texts.append(into[:count])
             lines, refused, taken = lines + performed, refused + rejected, taken + more
             size = max(2 * size, LEAST_ROOM) if more == 0 else max(room, 1)
         return Answers(b"".join(texts), lines, refused, taken)
@@ -212,9 +215,7 @@ class LibraryEngine:
         self._answer, self._looks = self.session.calls["answer"], self.session.calls["looks"]  # which are called most often
         self.text: Any = ctypes.create_string_buffer(ANSWER_ROOM)
         self.size, self.room = c_size_t(), c_size_t(ANSWER_ROOM)
-        self.answered = c_size_t(), c_size_t(), c_uint32(), c_uint32()
-        self.taken, self.count, _, self.refused = self.answered
-        self.counted = tuple(map(byref, self.answered))
+        (self.taken, self.count, _, self.refused), self.counted = self.session.answered, self.session.counted
         self.looked: Sequence[int] = ()  # the places of the latest looks, and for how many turns there is room
         self.most_seen, self.most = 0, c_uint32()
 
