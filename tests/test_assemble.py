@@ -6,6 +6,7 @@ import os
 import random
 import re
 
+from .assembler_sources import sections
 from .support import TOP, Case, add_tests, blocks, names_of_codes, read, run, tool
 
 from pp6600.language.listing import ListingSymbols
@@ -73,17 +74,6 @@ class Encoding(Case):
                         address += len(wanted(code, d, m))
             with self.subTest(f"{code:02o} {NAMES[code]}"):
                 self.assertEqual(dict(enumerate(words, 0o100)), made(lines))
-
-
-def sections(name):
-    """Returns the sections of a file of cases by their headings: each case is the lines of a source, and what follows these."""
-    found = {}
-    for part in read("tests", "programs", name).split("\n# ")[1:]:
-        heading, _, text = part.partition("\n")
-        cases = [case.splitlines() for case in re.split(r"\n\n+", text.strip("\n"))]
-        found[heading.partition(".")[0]] = [([line[1:] for line in case if line.startswith("|")],
-                                            [line for line in case if not line.startswith("|")]) for case in cases]
-    return found
 
 
 class Words(Case):

@@ -12,10 +12,8 @@ import unittest
 from ctypes import byref, c_size_t, c_uint16, c_uint32
 from unittest import mock
 
-from . import test_disassemble
+from .assembler_sources import sections, sources, window
 from .support import LIBRARY, TOP, Case, tool
-from .test_assemble import sections
-from .test_assembler_crate import sources
 
 from pp6600.engine.assembler import COMPLAINTS, DONE, LINES, NAMES, ROOM, Cell, assembler_here
 from pp6600.engine.library import REFUSED
@@ -87,10 +85,9 @@ class Library(Case):
     def test_cells(self):
         choose = random.Random(7)
         for _ in range(600):
-            cells = test_disassemble.Law.window(choose, choose.choice((1, 2, 3, 8, 20, 60, 400)))
+            cells = window(choose, choose.choice((1, 2, 3, 8, 20, 60, 400)))
             entries = [choose.choice(list(cells)) for _ in range(choose.choice((0, 1, 2, 5)))] + [choose.randrange(0o10000)]
             self.assertEqual(list(Disassembler(cells, entries).lines()), assembler_here().disassembled(cells, entries).decode().splitlines())
-
 
     def test_rooms(self):
         """What has no room for all of a text gets nothing of it, and how much room it needs; another status leaves it as it was too."""

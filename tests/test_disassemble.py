@@ -7,6 +7,7 @@ it writes of some is in tests/sessions/disassemble.txt.
 import os
 import random
 
+from .assembler_sources import CELLS, window
 from .support import Case
 
 from pp6600.language.source.disassembler import Disassembler
@@ -14,8 +15,6 @@ from pp6600.language.source.passes import assembled
 
 SEED, COUNT = map(int, os.environ.get("PP6600_WINDOWS", "0:1200").split(":"))
 WHOLE = 200  # windows for each whole memory
-CELLS = 0o10000
-LIKELY = (0, 0o100, 0o200, 0o300, 0o376, 0o2400, 0o1077, 0o7777)  # words that are treated in their own way
 
 
 class Law(Case):
@@ -27,23 +26,11 @@ class Law(Case):
         wrong = [address for address in sorted({*cells, *got}) if cells.get(address) != got.get(address)]
         self.assertEqual([], wrong[:1], "\n".join(lines[:40]))
 
-    @staticmethod
-    def window(choose, size):
-        """Returns cells at random, some of which name one another, with gaps."""
-        first = choose.choice((0, min(0o100, CELLS - size), CELLS - size, choose.randrange(CELLS - size + 1)))
-        likely = (*LIKELY, *(choose.randrange(first, first + size) for _ in range(4)))
-        cells = {address: choose.choice(likely) if choose.random() < 0.4 else choose.randrange(CELLS)
-                 for address in range(first, first + size)}
-        for _ in range(choose.choice((0, 0, 1, 3))):
-            if len(cells) > 1:
-                del cells[choose.choice(list(cells))]
-        return cells
-
     def test_labels(self):
         """Labels of a listing are kept, also inside instructions, on subroutines and outside the cells; whatever they are."""
         choose = random.Random(SEED)
         for number in range(COUNT // 4):
-            cells = self.window(choose, choose.choice((3, 8, 20, 60)))
+            cells = window(choose, choose.choice((3, 8, 20, 60)))
             first = min(cells)
             labels = {(first + choose.randrange(-3, 64)) % CELLS: [choose.choice((f"A{number}", "LDN", "L0100", "SUB", "SUBX", "1A", ".X", "TOOLONGAB"))]
                       for _ in range(choose.randrange(6))}
@@ -52,14 +39,14 @@ class Law(Case):
     def test_windows(self):
         choose = random.Random(SEED)
         for _ in range(COUNT):
-            cells = self.window(choose, choose.choice((1, 2, 3, 8, 20, 60)))
+            cells = window(choose, choose.choice((1, 2, 3, 8, 20, 60)))
             entries = [choose.choice(list(cells)) for _ in range(choose.choice((0, 1, 2, 5)))]
             self.check(cells, entries + [choose.randrange(CELLS)] * choose.randrange(2))
 
     def test_whole_memories(self):
         choose = random.Random(SEED)
         for _ in range(COUNT // WHOLE):
-            self.check(self.window(choose, CELLS), [choose.randrange(CELLS) for _ in range(20)])
+            self.check(window(choose, CELLS), [choose.randrange(CELLS) for _ in range(20)])
 
     def test_entry_that_is_an_instruction(self):
         """A jump to the entry itself, whose word is its own address less one: the exit before it is no SUBR."""
