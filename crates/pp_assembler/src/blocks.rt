@@ -71,7 +71,7 @@ impl Block {
     fn new(first: Span, size: usize, has_end: bool, is_closed: bool) -> Self {
         Block {
             first,
-            second: Span { first: 0, end: 0 },
+            second: Span::none(),
             size,
             has_end,
             is_closed,
@@ -85,19 +85,13 @@ impl Block {
 
     /// Returns a block up to a line that ends it, which may have an ELSE.
     fn up_to(rest: Span, middle: Option<usize>, end: usize) -> Self {
-        let first = Span {
-            first: rest.first,
-            end: middle.unwrap_or(end),
-        };
+        let first = Span::new(rest.first, middle.unwrap_or(end));
         let size = end.saturating_sub(rest.first).saturating_add(1);
         let block = Block::new(first, size, true, true);
         match middle {
             None => block,
             Some(middle) => Block {
-                second: Span {
-                    first: middle.saturating_add(1),
-                    end,
-                },
+                second: Span::new(middle.saturating_add(1), end),
                 ..block
             },
         }
@@ -135,10 +129,7 @@ impl Pass {
     ) -> Result<Block, Stop> {
         let here = Here::new(lines, self.at);
         self.plain_row(&here, false)?;
-        let rest = Span {
-            first: self.present.next,
-            end: self.present.all.end,
-        };
+        let rest = Span::new(self.present.next, self.present.all.end);
         let count = self.count_of(&here, statement, opening)?;
         if count > 0 {
             return self.counted(lines, &here, statement, rest, count);
@@ -229,10 +220,7 @@ impl Pass {
             left = left.saturating_sub(1);
             if left == 0 {
                 let end = index.saturating_add(1);
-                let first = Span {
-                    first: rest.first,
-                    end,
-                };
+                let first = Span::new(rest.first, end);
                 return Ok(Block::new(first, end.saturating_sub(rest.first), false, true));
             }
         }
@@ -380,10 +368,7 @@ impl Block {
     /// Returns the line that ends the block.
     fn end(self) -> Span {
         let after = self.first.first.saturating_add(self.size);
-        Span {
-            first: after.saturating_sub(1),
-            end: after,
-        }
+        Span::new(after.saturating_sub(1), after)
     }
 }
 

@@ -79,10 +79,7 @@ fn location_of(line: &[u8]) -> Field {
     } else {
         0
     };
-    Field {
-        first,
-        end: end_of_word(line, first).max(first),
-    }
+    Field::new(first, end_of_word(line, first).max(first))
 }
 
 /// Returns whether the operand of an operation has texts with blanks.
@@ -171,10 +168,7 @@ fn operand_of(
     let is_apart = start > operation.end.saturating_add(1)
         && column_on_paper(line, start) >= FIRST_OF_COMMENTS;
     if start >= line.len() || is_apart && !matches!(origin, Origin::Made) {
-        return Ok(Field {
-            first: operation.first,
-            end: operation.first,
-        });
+        return Ok(Field::new(operation.first, operation.first));
     }
     let end = if is_of_text(name) {
         line.len()
@@ -183,7 +177,7 @@ fn operand_of(
     } else {
         end_of_operand(line, start, matches!(name, b"DATA"))?
     };
-    Ok(Field { first: start, end })
+    Ok(Field::new(start, end))
 }
 
 /// Returns the statement of a line in capitals, or `None` of a note or an empty line.
@@ -201,20 +195,14 @@ pub fn statement_of(
     let location = location_of(line);
     let first = after_blanks(line, location.end);
     if first >= line.len() {
-        let none = Field {
-            first: location.end,
-            end: location.end,
-        };
+        let none = Field::new(location.end, location.end);
         return Ok(Some(Statement {
             location,
             operation: none,
             operand: none,
         }));
     }
-    let operation = Field {
-        first,
-        end: end_of_word(line, first),
-    };
+    let operation = Field::new(first, end_of_word(line, first));
     let operand = operand_of(line, operation, origin, vocabulary)?;
     Ok(Some(Statement {
         location,
@@ -262,10 +250,7 @@ impl Parts {
             None
         };
         let first = self.operand.first;
-        Ok(Some(Field {
-            first: first.saturating_add(start),
-            end: first.saturating_add(end),
-        }))
+        Ok(Some(Field::new(first.saturating_add(start), first.saturating_add(end))))
     }
 }
 

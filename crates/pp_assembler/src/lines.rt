@@ -28,6 +28,15 @@ pub struct Span {
 }
 
 impl Span {
+    pub fn new(first: usize, end: usize) -> Self {
+        Span { first, end }
+    }
+
+    /// Returns a text without bytes.
+    pub fn none() -> Self {
+        Span::new(0, 0)
+    }
+
     pub fn is_empty(self) -> bool {
         self.end <= self.first
     }
@@ -127,10 +136,7 @@ impl Lines {
     pub fn add(&mut self, line: Line, bytes: &[u8]) -> Result<usize, AllocError> {
         let first = self.text.len();
         self.add_text(bytes)?;
-        let text = Span {
-            first,
-            end: self.text.len(),
-        };
+        let text = Span::new(first, self.text.len());
         self.all.push(Line {
             text,
             read: text,
@@ -151,16 +157,13 @@ impl Lines {
     /// Adds a line of the source.
     fn add_line(&mut self, number: u32, bytes: &[u8]) -> Result<(), AllocError> {
         let joins = self.joins.len();
-        let nothing = Span { first: 0, end: 0 };
+        let nothing = Span::none();
         self.add(
             Line {
                 number,
                 text: nothing,
                 read: nothing,
-                joins: Span {
-                    first: joins,
-                    end: joins,
-                },
+                joins: Span::new(joins, joins),
                 call: None,
             },
             bytes,
@@ -215,17 +218,11 @@ impl Lines {
             number,
             first: 2, // its comma is in column 1
         })?;
-        let text = Span {
-            first,
-            end: self.text.len(),
-        };
+        let text = Span::new(first, self.text.len());
         let line = Line {
             text,
             read: text,
-            joins: Span {
-                first: last.joins.first,
-                end: self.joins.len(),
-            },
+            joins: Span::new(last.joins.first, self.joins.len()),
             ..last
         };
         let _ = self.all.pop();

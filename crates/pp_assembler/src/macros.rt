@@ -111,7 +111,7 @@ impl Pass {
     ) -> Result<(), Stop> {
         let mut operands = Operands::new(statement.operand);
         let mut name = statement.location;
-        let mut label = Field::new(0, 0);
+        let mut label = Field::none();
         if name.is_empty() {
             if let Some(first) = operands.next(here.text) {
                 name = first.text;
@@ -154,14 +154,11 @@ impl Pass {
                 (operand.text, None)
             };
             let name = self.keep_name(here, name)?;
-            let value = value.unwrap_or(Field::new(0, 0));
+            let value = value.unwrap_or(Field::none());
             let text = self.vocabulary.keep(value.of(here.text))?;
             self.vocabulary.operands.push(Meaning { name, text })?;
         }
-        Ok(Span {
-            first,
-            end: self.vocabulary.operands.len(),
-        })
+        Ok(Span::new(first, self.vocabulary.operands.len()))
     }
 
     /// Keeps a name, and reports if it is none.
@@ -217,7 +214,7 @@ impl Pass {
         }
         self.plain_row(&here, has_label && is_named)?;
         Ok(Line {
-            joins: Span { first: 0, end: 0 },
+            joins: Span::none(),
             call: Some(Call {
                 column: match here.line.call {
                     Some(outer) => outer.column,
@@ -247,10 +244,7 @@ impl Pass {
             } else if let Some(next) = self.next_part()? {
                 rest = next;
             } else {
-                return Ok(Span {
-                    first,
-                    end: lines.all.len(),
-                });
+                return Ok(Span::new(first, lines.all.len()));
             }
         }
         Err(too_many_statements())
@@ -264,10 +258,7 @@ impl Pass {
         line: Line,
         rest: Span,
     ) -> Result<Span, Stop> {
-        let after = Span {
-            first: rest.first.saturating_add(1),
-            end: rest.end,
-        };
+        let after = Span::new(rest.first.saturating_add(1), rest.end);
         if let Some(next) = self.inside(lines, rest.first, after)? {
             return Ok(next);
         }
@@ -342,14 +333,8 @@ impl Pass {
         self.parts.push(Repetition {
             name,
             rest,
-            body: Span {
-                first: after.first,
-                end,
-            },
-            after: Span {
-                first: end.saturating_add(1),
-                end: after.end,
-            },
+            body: Span::new(after.first, end),
+            after: Span::new(end.saturating_add(1), after.end),
             values: words.values.len(),
         })?;
         Ok(self.next_part()?.unwrap_or(after))
@@ -391,7 +376,7 @@ impl Pass {
         let mut end = lines.all.len();
         for _ in 0..count {
             let first = end.saturating_sub(size);
-            self.push_run(Span { first, end }, 1, 0)?;
+            self.push_run(Span::new(first, end), 1, 0)?;
             end = first;
         }
         Ok(())
@@ -480,7 +465,7 @@ impl Vocabulary {
             let end = self.text.len();
             self.values.push(Meaning {
                 name,
-                text: Span { first, end },
+                text: Span::new(first, end),
             })?;
         }
         Ok(())
@@ -565,10 +550,7 @@ impl Vocabulary {
         self.values.clear();
         for list in &mut self.lists {
             let (text, rest) = split(&self.text, list.text);
-            list.text = rest.unwrap_or(Span {
-                first: text.end,
-                end: text.end,
-            });
+            list.text = rest.unwrap_or(Span::new(text.end, text.end));
             self.values.push(Meaning {
                 name: list.name,
                 text,
@@ -656,14 +638,8 @@ fn split(kept: &[u8], text: Span) -> (Span, Option<Span>) {
         Some(length) => {
             let end = text.first.saturating_add(length);
             (
-                Span {
-                    first: text.first,
-                    end,
-                },
-                Some(Span {
-                    first: end.saturating_add(1),
-                    end: text.end,
-                }),
+                Span::new(text.first, end),
+                Some(Span::new(end.saturating_add(1), text.end)),
             )
         }
         None => (text, None),
@@ -710,7 +686,7 @@ fn count_of(line: &[u8], operand: Field) -> usize {
 /// Returns the first two words of a line that is no note.
 fn first_words(text: &[u8]) -> (Field, Field) {
     if text.first() == Some(&b'*') {
-        return (Field::new(0, 0), Field::new(0, 0));
+        return (Field::none(), Field::none());
     }
     let first = after_blanks(text, 0);
     let end = end_of_word(text, first);

@@ -15,6 +15,11 @@ impl Field {
         Field { first, end }
     }
 
+    /// Returns a part without symbols.
+    pub fn none() -> Self {
+        Field::new(0, 0)
+    }
+
     /// Returns whether the part has no symbol.
     pub fn is_empty(self) -> bool {
         self.end <= self.first

@@ -145,7 +145,7 @@ impl Pass {
         } else {
             first
         };
-        self.name_micro(here, statement, Span { first, end })
+        self.name_micro(here, statement, Span::new(first, end))
     }
 
     fn name_micro(&mut self, here: &Here, statement: Statement, text: Span) -> Result<(), Stop> {

@@ -34,7 +34,7 @@ pub struct Here<'a> {
 impl<'a> Here<'a> {
     /// Returns a line with an index.
     pub fn new(lines: &'a Lines, index: usize) -> Self {
-        let nothing = Span { first: 0, end: 0 };
+        let nothing = Span::none();
         let line = lines.all.get(index).copied().unwrap_or(Line {
             number: 0,
             text: nothing,
@@ -53,10 +53,10 @@ impl<'a> Here<'a> {
     /// Returns where a part of the line is in the capitals of all lines.
     pub fn span_of(&self, part: Field) -> Span {
         let before = self.line.read.first;
-        Span {
-            first: before.saturating_add(part.first),
-            end: before.saturating_add(part.end),
-        }
+        Span::new(
+            before.saturating_add(part.first),
+            before.saturating_add(part.end),
+        )
     }
 
     /// Returns the line and the column, from 1, of a column of the line, from 0.

@@ -31,7 +31,7 @@ impl Pass {
             let first = lines.all.len();
             self.copy_remote(lines, name)?;
             let end = lines.all.len();
-            return self.push_run(Span { first, end }, 1, 0);
+            return self.push_run(Span::new(first, end), 1, 0);
         }
         self.of_operations(lines, statement, directive)
     }
@@ -102,10 +102,7 @@ impl Pass {
                 self.copy_remote(lines, remote.name)?;
             }
         }
-        Ok(Span {
-            first,
-            end: lines.all.len(),
-        })
+        Ok(Span::new(first, lines.all.len()))
     }
 
     /// OPSYN gives an operation another name; a macro with it is the same macro.

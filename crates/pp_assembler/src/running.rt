@@ -36,7 +36,7 @@ impl Run {
     /// Returns a run that is in no other one.
     pub fn new() -> Self {
         Run {
-            all: Span { first: 0, end: 0 },
+            all: Span::none(),
             next: 0,
             times: 1,
             level: 0,
@@ -50,15 +50,9 @@ impl Pass {
     pub fn run(&mut self, lines: &mut Lines) -> Result<(), Ending> {
         lines.forget_made();
         let (first, end) = (SUBR_LINES, lines.own);
-        self.run_all(
-            lines,
-            Span {
-                first: 0,
-                end: first,
-            },
-        )?;
+        self.run_all(lines, Span::new(0, first))?;
         self.rows.clear();
-        self.run_all(lines, Span { first, end })?;
+        self.run_all(lines, Span::new(first, end))?;
         if self.has_ended {
             return Ok(());
         }
@@ -336,8 +330,5 @@ fn joins_from(lines: &mut Lines, joins: Span, next: Join, end: usize) -> Result<
     if is_before {
         lines.joins.push(next)?;
     }
-    Ok(Span {
-        first,
-        end: lines.joins.len(),
-    })
+    Ok(Span::new(first, lines.joins.len()))
 }

@@ -96,7 +96,7 @@ impl Symbols {
         let first = self.text.len();
         self.text.extend_from_slice(text)?;
         let end = self.text.len();
-        Ok(Span { first, end })
+        Ok(Span::new(first, end))
     }
 
     /// Returns a text that is kept.
@@ -253,10 +253,7 @@ impl Symbols {
             }
         }
         self.text.extend_from_slice(name)?;
-        let key = Span {
-            first,
-            end: self.text.len(),
-        };
+        let key = Span::new(first, self.text.len());
         Ok(
             self.all.push(Symbol {
                 key,

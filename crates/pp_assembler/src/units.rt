@@ -126,7 +126,7 @@ impl Literals {
         let first = self.words.len();
         self.words.extend_from_slice(words)?;
         let end = self.words.len();
-        self.all.push(Span { first, end })?;
+        self.all.push(Span::new(first, end))?;
         Ok(self.address_at(first))
     }
 

@@ -31,6 +31,12 @@ pub struct Value {
     pub addresses: i64,
 }
 
+impl Value {
+    pub fn new(number: i64, addresses: i64) -> Self {
+        Value { number, addresses }
+    }
+}
+
 /// What an expression means things in.
 #[derive(Clone, Copy)]
 pub struct Scope<'a> {
@@ -84,10 +90,10 @@ impl<'a> Expression<'a> {
 
     /// Returns the part of the line from a column of the expression to another one.
     fn part(&self, first: usize, end: usize) -> Field {
-        Field {
-            first: self.column.saturating_add(first),
-            end: self.column.saturating_add(end),
-        }
+        Field::new(
+            self.column.saturating_add(first),
+            self.column.saturating_add(end),
+        )
     }
 
     /// Returns the part of the line from the present column on.
@@ -109,10 +115,7 @@ impl<'a> Expression<'a> {
         if self.text.is_empty() {
             return Err(self.fault(Fault::new("an operand is missing")));
         }
-        let mut total = Value {
-            number: 0,
-            addresses: 0,
-        };
+        let mut total = Value::new(0, 0);
         for _ in 0..self.text.len() {
             if self.at > 0 && self.symbol().is_none() {
                 break;
@@ -166,10 +169,7 @@ impl<'a> Expression<'a> {
             } else {
                 quotient(value.number, other)
             };
-            value = Value {
-                number: number.ok_or(self.too_great())?,
-                addresses: 0,
-            };
+            value = Value::new(number.ok_or(self.too_great())?, 0);
         }
         Ok(value)
     }
@@ -228,10 +228,7 @@ impl<'a> Expression<'a> {
         let after = self.text.get(self.at.saturating_add(2)).copied();
         if next == Some(b'*') && matches!(after, None | Some(b'-' | b'+' | b'/')) {
             self.at = self.at.saturating_add(2);
-            return Value {
-                number: 0,
-                addresses: 0,
-            };
+            return Value::new(0, 0);
         }
         let is_letter = matches!(next, Some(b'L' | b'O')) && !goes_on(after) && after != Some(b'=');
         self.at = self.at.saturating_add(if is_letter { 2 } else { 1 });
@@ -240,10 +237,7 @@ impl<'a> Expression<'a> {
         } else {
             self.scope.location
         };
-        Value {
-            number: i64::from(counter),
-            addresses: 1,
-        }
+        Value::new(i64::from(counter), 1)
     }
 
     fn number(&mut self, number: Number) -> Result<Value, Stop> {
@@ -254,10 +248,7 @@ impl<'a> Expression<'a> {
             return Err(self.too_great());
         };
         self.at = end;
-        Ok(Value {
-            number: value,
-            addresses: 0,
-        })
+        Ok(Value::new(value, 0))
     }
 
     /// Returns the base of digits, 8 or 10 (decimal).

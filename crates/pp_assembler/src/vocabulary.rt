@@ -75,10 +75,7 @@ impl Vocabulary {
     pub fn keep(&mut self, text: &[u8]) -> Result<Span, AllocError> {
         let first = self.text.len();
         self.text.extend_from_slice(text)?;
-        Ok(Span {
-            first,
-            end: self.text.len(),
-        })
+        Ok(Span::new(first, self.text.len()))
     }
 
     /// Returns a text that is kept.
