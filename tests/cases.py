@@ -33,11 +33,11 @@ class Stored(NamedTuple):
     name: str
     words: List[str]
     script: bytes
-    out: bytes
-    err: bytes
-    status: int
-    how: List[str]  # a way and its words; nothing if it is the plain one
     files: Dict[str, bytes]
+    out: bytes = b""
+    err: bytes = b""
+    status: int = 0
+    how: Sequence[str] = ()  # a way and its words; nothing if it is the plain one
 
 
 def part(folder: str, name: str, default: bytes = b"") -> bytes:
@@ -71,7 +71,7 @@ def stored_case(lines: Sequence[str]) -> Stored:
         parts[mark.rstrip()] += text_of(text)
     script, out, err = (encoded(parts[mark]) for mark in (">", "", "!"))
     files = {mark[:-1]: encoded(text) for mark, text in parts.items() if mark.endswith("|")}
-    return Stored(parts["=="].strip(), shlex.split(parts["$"])[1:], script, out, err, int(parts["?"] or "0"), parts["by"].split(), files)
+    return Stored(parts["=="].strip(), shlex.split(parts["$"])[1:], script, files, out, err, int(parts["?"] or "0"), parts["by"].split())
 
 
 def stored(name: str = "cases.txt") -> List[Stored]:
@@ -85,8 +85,8 @@ def of_folder(name: str) -> Stored:
     folder = os.path.join(EXAMPLES, name)
     args, script, out, err, status, how = (part(folder, one) for one in PARTS)
     files = [name for name in sorted(os.listdir(folder)) if name not in PARTS and os.path.isfile(os.path.join(folder, name))]
-    return Stored(name, args.decode().splitlines(), script, out, err, int(status or b"0"), how.decode().split(),
-                  {name: part(folder, name) for name in files})
+    return Stored(name, args.decode().splitlines(), script, {name: part(folder, name) for name in files}, out, err, int(status or b"0"),
+                  how.decode().split())
 
 
 def examples() -> List[Stored]:

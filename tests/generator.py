@@ -5,6 +5,7 @@ import os
 import random
 import shlex
 
+from tests.cases import Stored
 from tests.support import TOP
 
 from pp6600.engine.plain.lines import FORMS, PlainConsole
@@ -23,6 +24,10 @@ class Session:
 
     def all_files(self):
         return {**self.files, 'script': b'\n'.join(self.lines)}
+
+    def stored(self, name):
+        """Returns the session as a case."""
+        return Stored(name, self.words, b'\n'.join(self.lines), self.all_files())
 
 
 @dataclasses.dataclass(frozen=True)
