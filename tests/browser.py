@@ -20,8 +20,29 @@ def found():
     return os.environ.get("BROWSER_OF_TESTS") or next(filter(None, map(shutil.which, NAMES)), None)
 
 
-class Browser:
-    """A browser with one page."""
+class Page:
+    """The one page of a browser, in which `evaluate` returns the value of an expression."""
+
+    def wait_for(self, text):
+        """Waits until an expression in the page is true."""
+        end = time.monotonic() + PATIENCE
+        while not self.evaluate(text):
+            if time.monotonic() > end:
+                raise TimeoutError(f"{text} does not come to be so")
+            time.sleep(0.02)
+
+    def finish(self, seconds):
+        """Waits until the browser ends, as it was told to, and removes what it has kept."""
+        try:
+            self.process.wait(seconds)
+        except subprocess.TimeoutExpired:
+            self.process.kill()
+            self.process.wait()
+        self.room.cleanup()
+
+
+class Browser(Page):
+    """Chromium."""
 
     def __init__(self, path):
         self.room = tempfile.TemporaryDirectory()
@@ -87,14 +108,6 @@ class Browser:
             raise RuntimeError(f"{text[:80]}: {json.dumps(result['exceptionDetails'])[:500]}")
         return result["result"].get("value")
 
-    def wait_for(self, text):
-        """Waits until an expression in the page is true."""
-        end = time.monotonic() + PATIENCE
-        while not self.evaluate(text):
-            if time.monotonic() > end:
-                raise TimeoutError(f"{text} does not come to be so")
-            time.sleep(0.02)
-
     def open(self, path, address=""):
         """Opens a film from its file, and waits until it is shown."""
         self.ask("Page.navigate", url="about:blank")
@@ -109,11 +122,6 @@ class Browser:
             more = text if kind == "keyDown" else {}
             self.ask("Input.dispatchKeyEvent", type=kind, key=key, windowsVirtualKeyCode=code, **more)
 
-    def fill(self, key, text):
-        """Presses the key of a field, types a text in it, and Enter."""
-        for one in (key, *text, "Enter"):
-            self.key(one)
-
     def click(self, selector):
         """Clicks the middle of an element, with the mouse."""
         box = self.evaluate(f"(() => {{ const e = document.querySelector({json.dumps(selector)}); e.scrollIntoView({{block: 'center'}});"
@@ -124,9 +132,9 @@ class Browser:
         for kind in ("mousePressed", "mouseReleased"):
             self.ask("Input.dispatchMouseEvent", type=kind, x=x, y=y, button="left", clickCount=1)
 
-    def look(self, width, height, dark=False, media="", ratio=1):
+    def look(self, width, height, dark=False, media=""):
         """Sets the size and the kind of the window."""
-        self.ask("Emulation.setDeviceMetricsOverride", width=width, height=height, deviceScaleFactor=ratio, mobile=False)
+        self.ask("Emulation.setDeviceMetricsOverride", width=width, height=height, deviceScaleFactor=1, mobile=False)
         colours = [{"name": "prefers-color-scheme", "value": "dark" if dark else "light"}]
         self.ask("Emulation.setEmulatedMedia", media=media, features=colours)
 
@@ -154,11 +162,6 @@ class Browser:
             self.ask("Browser.close")
         except (OSError, EOFError, TimeoutError, RuntimeError):
             pass
-        try:
-            self.process.wait(10)
-        except subprocess.TimeoutExpired:
-            self.process.kill()
-            self.process.wait()
         os.close(self.input)
         os.close(self.output)
-        self.room.cleanup()
+        self.finish(10)

@@ -14,16 +14,15 @@ N times (decimal), and after a \\ at its end no line feed follows.
 A folder of examples/ has these parts as files: args, with a word in each line, stdin, stdout, stderr, status and how.
 """
 
-import collections
 import os
 import re
 import shlex
-from typing import Dict, List, NamedTuple, Sequence, Tuple
+from typing import Dict, Iterable, List, NamedTuple, Sequence, Tuple
 
 TOP = os.path.dirname(os.path.dirname(os.path.abspath(__file__)))
 EXAMPLES = os.path.join(TOP, "examples")
 PARTS = ("args", "stdin", "stdout", "stderr", "status", "how")
-OWN_LINE = re.compile(r"(== |\$ |by |> ?|! |\? |[a-z]+\| ?|)(.*)")
+OWN_LINE = re.compile(r"(\$ |by |> ?|! |\? |[a-z]+\| ?|)(.*)")
 ESCAPE = re.compile(r"\{(.*?)\*([0-9]+)\}|\\x([0-9a-f]{2})|\\([rn])", re.S)
 
 
@@ -33,11 +32,11 @@ class Stored(NamedTuple):
     name: str
     words: List[str]
     script: bytes
-    out: bytes
-    err: bytes
-    status: int
-    how: List[str]  # a way and its words; nothing if it is the plain one
     files: Dict[str, bytes]
+    out: bytes = b""
+    err: bytes = b""
+    status: int = 0
+    how: Sequence[str] = ()  # a way and its words; nothing if it is the plain one
 
 
 def part(folder: str, name: str, default: bytes = b"") -> bytes:
@@ -63,21 +62,43 @@ def encoded(text: str) -> bytes:
     return text.encode("utf-8", "surrogateescape")
 
 
-def stored_case(lines: Sequence[str]) -> Stored:
-    """Returns the case of these lines; the first one has its name."""
-    parts: Dict[str, str] = collections.defaultdict(str)
-    for line in lines:
-        mark, text = OWN_LINE.findall(line)[0]
-        parts[mark.rstrip()] += text_of(text)
+def blocks(name: str) -> Tuple[List[str], List[Tuple[str, List[str]]]]:
+    """Returns the lines of a file of tests/ before its first block, and its blocks: what follows == and the lines. Lines that are empty and
+    those that begin with # are left out."""
+    first, *others = re.split("^== ?", part(os.path.join(TOP, "tests"), name).decode(), flags=re.M)
+    found = [[line for line in text.split("\n") if line and line[0] != "#"] for text in (f"\n{first}", *others)]
+    return found[0], [(title, lines) for title, *lines in found[1:]]
+
+
+def marked(pattern: "re.Pattern[str]", lines: Iterable[str]) -> List[Tuple[str, str]]:
+    """Returns lines cut into a mark and a text, by a pattern of two groups."""
+    return [(found[1].strip(), found[2]) for found in map(pattern.fullmatch, lines) if found]
+
+
+def gathered(lines: Iterable[Tuple[str, str]], begun: Dict[str, str]) -> Dict[str, str]:
+    """Returns the texts of the lines with each mark, after those that have begun."""
+    texts = dict(begun)
+    for mark, text in lines:
+        texts[mark] = texts.get(mark, "") + text_of(text)
+    return texts
+
+
+def files_in(lines: Iterable[Tuple[str, str]], begun: Dict[str, str]) -> Dict[str, str]:
+    """Returns the files of lines NAME| TEXT, after those that have begun."""
+    return gathered(((mark[:-1], text) for mark, text in lines if mark.endswith("|") and mark != "|"), begun)
+
+
+def stored_case(name: str, lines: List[Tuple[str, str]]) -> Stored:
+    """Returns the case with a name and these lines."""
+    parts = gathered(lines, dict.fromkeys(("$", "by", ">", "", "!", "?"), ""))
     script, out, err = (encoded(parts[mark]) for mark in (">", "", "!"))
-    files = {mark[:-1]: encoded(text) for mark, text in parts.items() if mark.endswith("|")}
-    return Stored(parts["=="].strip(), shlex.split(parts["$"])[1:], script, out, err, int(parts["?"] or "0"), parts["by"].split(), files)
+    files = {path: encoded(text) for path, text in files_in(lines, {}).items()}
+    return Stored(name, shlex.split(parts["$"])[1:], script, files, out, err, int(parts["?"] or "0"), parts["by"].split())
 
 
 def stored(name: str = "cases.txt") -> List[Stored]:
     """Returns the cases of a file of tests/, else those of the program."""
-    _, *cases = re.split("^(?==)", part(os.path.join(TOP, "tests"), name).decode(), flags=re.M)
-    return [stored_case([line for line in case.split("\n") if line and line[0] != "#"]) for case in cases]
+    return [stored_case(title, marked(OWN_LINE, lines)) for title, lines in blocks(name)[1]]
 
 
 def of_folder(name: str) -> Stored:
@@ -85,8 +106,8 @@ def of_folder(name: str) -> Stored:
     folder = os.path.join(EXAMPLES, name)
     args, script, out, err, status, how = (part(folder, one) for one in PARTS)
     files = [name for name in sorted(os.listdir(folder)) if name not in PARTS and os.path.isfile(os.path.join(folder, name))]
-    return Stored(name, args.decode().splitlines(), script, out, err, int(status or b"0"), how.decode().split(),
-                  {name: part(folder, name) for name in files})
+    return Stored(name, args.decode().splitlines(), script, {name: part(folder, name) for name in files}, out, err, int(status or b"0"),
+                  how.decode().split())
 
 
 def examples() -> List[Stored]:

@@ -166,6 +166,15 @@ class Client:
             self.stop = self.event("stopped")
         return result
 
+    def listing(self, number=0):
+        """Returns the path of the listing of a processor."""
+        return self.ask("stackTrace", threadId=number + 1)["stackFrames"][0]["source"]["path"]
+
+    def turns(self):
+        """Returns how many turns are in effect, octal."""
+        found = self.ask("variables", variablesReference=SCOPES["history"])["variables"]
+        return next(one["value"] for one in found if one["name"] == "turns")
+
     def said(self):
         return self.process.stderr.read().decode()
 
@@ -232,13 +241,6 @@ class DebugCase(Case):
 
     def loader(self, **arguments):
         return self.session(LOADER, deck=DECK, processor="0", **arguments)
-
-    def path(self, client, number=0):
-        return client.ask("stackTrace", threadId=number + 1)["stackFrames"][0]["source"]["path"]
-
-    def turns(self, client):
-        found = client.ask("variables", variablesReference=SCOPES["history"])["variables"]
-        return next(int(one["value"], 8) for one in found if one["name"] == "turns")
 
 
 @functools.lru_cache(maxsize=None)

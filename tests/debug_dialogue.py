@@ -3,8 +3,8 @@ with its answer after a |. More lines after a | are what is said to the user mea
 
     python3 -m tests.debug_dialogue FILE ..   writes each file with the answers that its requests get; read them
 
-A request has its name in the protocol, as stepBack, and arguments as NAME=TEXT or NAME:=JSON; Dialogue has the others. Files are
-named from a folder with those of tests/debug and with examples/. There are these, with turns that are counted by hand:
+A request has its name in the protocol, as stepBack, and arguments as NAME=TEXT or NAME:=JSON; SHOWN and Dialogue have the others. Files
+are named from a folder with those of tests/debug and with examples/. There are these, with turns that are counted by hand:
 
     loops       PP 00 counts in cell 0020, PP 03 in cell 0021, in loops of three and of two turns
     long        PP 00 counts cell 0021 down from 100, and for each of these counts cell 0020 down to 0 by 4095 (decimal) rounds of
@@ -26,7 +26,7 @@ import tempfile
 
 from tests import debug_client
 from tests.debug_client import SCOPES, Client, Refusal
-from tests.support import TOP, read
+from tests.support import TOP, read, write
 
 FOLDER = os.path.join(TOP, "tests", "debug")
 WIDTH = 132  # of a line
@@ -53,6 +53,52 @@ def reference(scope):
     return SCOPES[name] + int(number or "0", 8)
 
 
+def points(rest, make):
+    """Returns the breakpoints that words ask for: a word is the place of one, and arguments are of the one before them."""
+    asked = []
+    for word in shlex.split(rest):
+        if is_argument(word):
+            asked[-1].update(arguments_of([word]))
+        else:
+            asked.append(make(word))
+    return asked
+
+
+def set_points(body):
+    return listed(body["breakpoints"], lambda one: (f"{one['id']}" if one["verified"] else "none") + (f" at {one['line']}" if "line" in one else "")
+                  + (f": {one['message']}" if not one["verified"] else ""))
+
+
+def listed(some, shown):
+    return ", ".join(map(shown, some))
+
+
+def bytes_to_write(reference, data, *offset):
+    """Returns the arguments of a request that writes bytes, which are hexadecimal, at an offset if there is one."""
+    return {"memoryReference": reference, "data": base64.b64encode(bytes.fromhex(data)).decode(), **({"offset": int(offset[0])} if offset else {})}
+
+
+# Requests that are asked and shown in one way each: the name in the protocol, the arguments of what follows, and what is shown of the answer.
+SHOWN = {
+    "watch": ("setDataBreakpoints", lambda rest: {"breakpoints": points(rest, lambda word: {"dataId": word, "accessType": "write"})}, set_points),
+    "instructions": ("setInstructionBreakpoints", lambda rest: {"breakpoints": points(rest, lambda word: {"instructionReference": word})}, set_points),
+    "look": ("evaluate", lambda text: {"expression": text, "frameId": 1, "context": "hover"}, lambda body: body["result"]),
+    "frames": ("stackTrace", lambda number: {"threadId": int(number or "0", 8) + 1}, lambda body: listed(
+        body["stackFrames"], lambda frame: f"{frame['name']} in {frame['source']['name']}:{frame['line']}")),
+    "show": ("variables", lambda scope: {"variablesReference": reference(scope)}, lambda body: listed(
+        body["variables"], lambda one: f"{one['name']} {one['value']}")),
+    "threads": ("threads", lambda _: {}, lambda body: listed(body["threads"], lambda thread: f"{thread['id']} {thread['name']}")),
+    "scopes": ("scopes", lambda frame: {"frameId": int(frame)}, lambda body: listed(body["scopes"], lambda scope: scope["name"])),
+    "set": ("setVariable", lambda rest: dict(zip(("variablesReference", "name", "value"), (
+        reference(rest.split()[0]), *shlex.split(rest)[1:]))), lambda body: body["value"]),
+    "read": ("readMemory", lambda rest: {"memoryReference": rest.split()[0], "count": int(rest.split()[1])},
+             lambda body: f"{base64.b64decode(body['data']).hex()}, {body['unreadableBytes']} unreadable"),
+    "write": ("writeMemory", lambda rest: bytes_to_write(*rest.split()), lambda body: f"{body['bytesWritten']} written"),
+    "disassemble": ("disassemble", lambda rest: dict(zip(("memoryReference", "instructionOffset", "instructionCount"), (
+        rest.split()[0], *map(int, rest.split()[1:])))), lambda body: listed(body["instructions"], lambda one: one["instruction"] + (
+            f" in {one['location']['name']}:{one['line']}" if "location" in one else "")))}
+
+
 class Dialogue:
     """A session, by requests in a folder."""
 
@@ -63,20 +109,8 @@ class Dialogue:
 
     def answers(self, line):
         """Performs a request, and returns the lines of its answer."""
-        name, _, rest = line.partition(" ")
-        command = getattr(self, f"do_{name}", None)
         try:
-            if line.startswith("!"):
-                subprocess.run(["bash", "-c", line[1:]], cwd=self.folder, check=True)
-                answer = ""
-            elif name.isdigit():
-                answer = self.repeated(int(name), rest)
-            elif name in STEPS:
-                answer = self.after_step(name, *shlex.split(rest))
-            elif command:
-                answer = command(rest)
-            else:
-                answer = self.do_ask(line)
+            answer = self.answer(line, *line.partition(" ")[::2])
         except Refusal as refusal:
             answer = f"refused: {refusal}"
         answer = re.sub("(is not base64): .*", r"\1: ..", answer or "")  # what Python says
@@ -85,6 +119,22 @@ class Dialogue:
         text = "\n".join([answer, *(f"says: {line}" for line in "".join(said).splitlines())])
         text = re.sub(f"{re.escape(self.folder)}/?|{tempfile.gettempdir()}/pp6600-[^/]*/", "", text)
         return [line.rstrip() for line in text.split("\n")]
+
+    def answer(self, line, name, rest):
+        """Performs a request, and returns its answer: an own one, one of the table, or that of the protocol as it is."""
+        own = getattr(self, f"do_{name}", None)
+        if line.startswith("!"):
+            return subprocess.run(["bash", "-c", line[1:]], cwd=self.folder, check=True).stdout
+        if name.isdigit():
+            return self.repeated(int(name), rest)
+        if name in STEPS:
+            return self.after_step(name, *shlex.split(rest))
+        if own:
+            return own(rest)
+        if name in SHOWN:
+            command, arguments, shown = SHOWN[name]
+            return shown(self.client.ask(command, **arguments(rest)))
+        return self.do_ask(line)
 
     def do_ask(self, rest):
         """ask NAME [ARGUMENT ..]: also what has a command here."""
@@ -105,11 +155,9 @@ class Dialogue:
     def do_prepare(self, rest):
         """As launch, up to the event after which breakpoints are set."""
         words = shlex.split(rest)
-        parts = [read(FOLDER, word) if os.path.exists(os.path.join(FOLDER, word)) else f"{word}\n" for word in words
-                 if not is_argument(word)]
+        parts = [read(FOLDER, word) if os.path.exists(os.path.join(FOLDER, word)) else f"{word}\n" for word in words if not is_argument(word)]
         if parts:
-            with open(os.path.join(self.folder, "script"), "w", encoding="latin-1") as file:
-                file.write("".join(parts))
+            write(os.path.join(self.folder, "script"), "".join(parts).encode("latin-1"))
         if not self.is_begun:
             self.do_initialize("adapterID=pp6600")
         self.client.ask("launch", **{**({"script": "script"} if parts else {}), **arguments_of(filter(is_argument, words))})
@@ -144,12 +192,11 @@ class Dialogue:
     def where(self):
         """Returns the turns, the processor that stopped, and its place."""
         frame = self.client.ask("stackTrace", threadId=self.stop["threadId"])["stackFrames"][0]
-        turns = self.values(SCOPES["history"])["turns"]
-        return f"TURN {turns} PP {self.stop['threadId'] - 1:02o} {frame['source']['name']}:{frame['line']}"
+        return f"TURN {self.client.turns()} PP {self.stop['threadId'] - 1:02o} {frame['source']['name']}:{frame['line']}"
 
     def after_step(self, name, *words):
         """NAME [PROCESSOR] [ARGUMENT ..]: goes, and returns the stop."""
-        self.do_start(" ".join([name, *map(shlex.quote, words)]))
+        self.do_start(shlex.join([name, *words]))
         return self.do_stop("")
 
     def do_start(self, rest):
@@ -172,6 +219,11 @@ class Dialogue:
         shorter = [one.replace(before.partition(":")[0].partition(" ")[2], "") for before, one in zip(found, found[1:])]
         return "TURN " + ", ".join([*found[:1], *shorter])
 
+    def do_goto(self, rest):
+        """goto [PROCESSOR]: goes to the target that was found last."""
+        self.client.ask("goto", threadId=int(rest or "0", 8) + 1, targetId=self.target["id"])
+        return self.do_stop("")
+
     def do_await(self, rest):
         """await EVENT: waits for an event."""
         return json.dumps(self.client.event(rest))
@@ -181,51 +233,7 @@ class Dialogue:
         self.client.ask("threads")
         return ", ".join(event["event"] for event in self.client.events)
 
-    # ---- breakpoints
-
-    def points(self, rest, make):
-        """Returns what is asked for by words that each begin a breakpoint, and arguments for the one before them."""
-        asked = []
-        for word in shlex.split(rest):
-            if is_argument(word):
-                asked[-1].update(arguments_of([word]))
-            else:
-                asked.append(make(word))
-        return asked
-
-    @staticmethod
-    def shown(points):
-        return ", ".join((f"{point['id']}" if point["verified"] else "none") + (f" at {point['line']}" if "line" in point else "")
-                         + (f": {point['message']}" if not point["verified"] else "") for point in points)
-
-    def do_cells(self, rest):
-        """cells PROCESSOR [CELL ..]: breakpoints at lines of its listing."""
-        number, _, rest = rest.partition(" ")
-        if number not in self.listings:
-            frame = self.client.ask("stackTrace", threadId=int(number, 8) + 1)["stackFrames"][0]
-            self.listings[number] = frame["source"]["path"]
-        return self.set_lines({"path": self.listings[number]}, self.points(rest, lambda word: {"line": int(word, 8) + 1}))
-
-    def do_lines(self, rest):
-        """lines FILE [LINE ..]: breakpoints at lines of a source."""
-        name, _, rest = rest.partition(" ")
-        source = {"path": os.path.join(self.folder, name), "name": name}
-        return self.set_lines(source, self.points(rest, lambda word: {"line": int(word)}))
-
-    def set_lines(self, source, asked):
-        return self.shown(self.client.ask("setBreakpoints", source=source, breakpoints=asked)["breakpoints"])
-
-    def do_watch(self, rest):
-        """watch [PLACE ..]: data breakpoints."""
-        asked = self.points(rest, lambda word: {"dataId": word, "accessType": "write"})
-        return self.shown(self.client.ask("setDataBreakpoints", breakpoints=asked)["breakpoints"])
-
-    def do_instructions(self, rest):
-        """instructions [REFERENCE ..]: breakpoints at addresses as DAP has them."""
-        asked = self.points(rest, lambda word: {"instructionReference": word})
-        return self.shown(self.client.ask("setInstructionBreakpoints", breakpoints=asked)["breakpoints"])
-
-    # ---- looking
+    # ---- lines
 
     def do_type(self, rest):
         """type LINE: performs it, and returns what is answered, and the stop if it is more than a step."""
@@ -233,32 +241,24 @@ class Dialogue:
         answer = self.client.typed(rest).replace("\n", " ; ")
         return answer + (f", {self.client.stop['reason']}" if self.client.stop["reason"] != "step" else "")
 
-    def do_look(self, rest):
-        """look TEXT: points at it."""
-        return self.client.ask("evaluate", expression=rest, frameId=1, context="hover")["result"]
+    def listing(self, number):
+        """Returns the path of the listing of a processor, as it was when it was first asked for."""
+        if number not in self.listings:
+            self.listings[number] = self.client.listing(int(number, 8))
+        return self.listings[number]
 
-    def do_frames(self, rest):
-        """frames [PROCESSOR]: its stack."""
-        frames = self.client.ask("stackTrace", threadId=int(rest or "0", 8) + 1)["stackFrames"]
-        return ", ".join(f"{frame['name']} in {frame['source']['name']}:{frame['line']}" for frame in frames)
+    def do_cells(self, rest):
+        """cells PROCESSOR [CELL ..]: breakpoints at lines of its listing."""
+        number, _, rest = rest.partition(" ")
+        return self.set_lines({"path": self.listing(number)}, points(rest, lambda word: {"line": int(word, 8) + 1}))
 
-    def values(self, reference):
-        return {one["name"]: one["value"] for one in self.client.ask("variables", variablesReference=reference)["variables"]}
+    def do_lines(self, rest):
+        """lines FILE [LINE ..]: breakpoints at lines of a source."""
+        name, _, rest = rest.partition(" ")
+        return self.set_lines({"path": os.path.join(self.folder, name), "name": name}, points(rest, lambda word: {"line": int(word)}))
 
-    def do_show(self, rest):
-        """show SCOPE: its variables; those of PP 03 are in registers3."""
-        return ", ".join(f"{name} {value}" for name, value in self.values(reference(rest)).items())
-
-    def do_threads(self, _):
-        return ", ".join(f"{thread['id']} {thread['name']}" for thread in self.client.ask("threads")["threads"])
-
-    def do_scopes(self, rest):
-        return ", ".join(scope["name"] for scope in self.client.ask("scopes", frameId=int(rest))["scopes"])
-
-    def do_set(self, rest):
-        """set SCOPE NAME VALUE"""
-        scope, name, value = shlex.split(rest)
-        return self.client.ask("setVariable", variablesReference=reference(scope), name=name, value=value)["value"]
+    def set_lines(self, source, asked):
+        return set_points(self.client.ask("setBreakpoints", source=source, breakpoints=asked))
 
     def do_list(self, rest):
         """list FIRST LAST: these cells of PP 00 in its listing."""
@@ -266,40 +266,13 @@ class Dialogue:
         lines = self.client.ask("source", sourceReference=1)["content"].splitlines()
         return "\n".join(" ".join(line.split()) for line in lines[first:last + 1])
 
-    def do_read(self, rest):
-        """read REFERENCE COUNT: its bytes, hexadecimal."""
-        at, count = rest.split()
-        got = self.client.ask("readMemory", memoryReference=at, count=int(count))
-        return f"{base64.b64decode(got['data']).hex()}, {got['unreadableBytes']} unreadable"
-
-    def do_write(self, rest):
-        """write REFERENCE BYTES [OFFSET]: bytes, hexadecimal."""
-        at, data, *offset = rest.split()
-        data = base64.b64encode(bytes.fromhex(data)).decode()
-        got = self.client.ask("writeMemory", memoryReference=at, data=data, **({"offset": int(offset[0])} if offset else {}))
-        return f"{got['bytesWritten']} written"
-
     def do_targets(self, rest):
         """targets FILE LINE: where one may go to there. Keeps the last one."""
         name, line = rest.split()
-        path = os.path.join(self.folder, name)
-        if name.endswith(".pplist"):
-            path = self.client.ask("stackTrace", threadId=1)["stackFrames"][0]["source"]["path"]
+        path = self.client.listing() if name.endswith(".pplist") else os.path.join(self.folder, name)
         targets = self.client.ask("gotoTargets", source={"path": path}, line=int(line))["targets"]
         self.target = targets[-1] if targets else None
         return ", ".join(target["label"] for target in targets)
-
-    def do_goto(self, rest):
-        """goto [PROCESSOR]: goes to the target that was found last."""
-        self.client.ask("goto", threadId=int(rest or "0", 8) + 1, targetId=self.target["id"])
-        return self.do_stop("")
-
-    def do_disassemble(self, rest):
-        """disassemble REFERENCE OFFSET COUNT"""
-        reference, offset, count = rest.split()
-        got = self.client.ask("disassemble", memoryReference=reference, instructionOffset=int(offset), instructionCount=int(count))
-        return ", ".join(one["instruction"] + (f" in {one['location']['name']}:{one['line']}" if "location" in one else "")
-                         for one in got["instructions"])
 
 
 def cases(path):

@@ -130,15 +130,16 @@ class FewStates(Attached):
 class Session:
     """A random session beside the units that are in effect by the words of the page."""
 
-    def __init__(self, seed, panel):
-        self.choose = choose = random.Random(seed)
+    def __init__(self, seed, panel, definition):
+        self.choose, self.kind = random.Random(seed), definition
+        choose = self.choose
         channels = choose.sample([0, 1, 5, 0o11, 0o10], choose.randint(1, 3))
         self.devices = [RandomDevice(choose.randrange(4000), channel) for channel in channels]
         self.channels = [*channels, OTHER_CHANNEL]
         self.words = [program(), "--panel", panel, "--history", str(choose.choice((1, 2, 7, 40, 300, 10000)))]
         self.session = choose.choice((Attached, FewStates))(self.words, self.devices)
         self.units, self.position = [], 0  # in effect and ahead
-        self.definition = Definition(self.words[:3], self.devices)
+        self.definition = definition(self.words[:3], self.devices)
         for at, number in enumerate(choose.sample(range(10), choose.choice((2, 4, 10)))):
             for line in set_lines(number, 0o100, [f"{word:04o}" for word in random_program(choose, self.channels, at == 0)]):
                 self.act(line)
@@ -152,7 +153,7 @@ class Session:
         """Returns the definition of the session with these units in effect. It goes on from the last one if that has the first of them."""
         if units[:len(self.definition.units)] != self.definition.units:
             self.definition.console.close()
-            self.definition = Definition(self.words[:3], self.devices)
+            self.definition = self.kind(self.words[:3], self.devices)
         for unit in units[len(self.definition.units):]:
             self.definition.perform(unit)
         return self.definition
@@ -299,9 +300,9 @@ def fault_of_counts(session):
     return None
 
 
-def first_difference(seed, panel, moves=40):
-    """Returns the first difference of a random session; None if there is none."""
-    session = Session(seed, panel)
+def first_difference(seed, panel, moves=40, definition=Definition):
+    """Returns the first difference of a random session from a definition; None if there is none."""
+    session = Session(seed, panel, definition)
     try:
         for number in range(moves):
             move = session.move()

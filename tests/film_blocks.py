@@ -24,13 +24,13 @@ import re
 import shlex
 import time
 
-from tests.cases import encoded, part, text_of
+from tests.cases import blocks, encoded, files_in, marked, part, text_of
 from tests.films import PageCase, shown_film
 from tests.panels import keys_in
 from tests.support import TOP, run, write
 
 PATIENCE = 120  # seconds for what a page comes to show
-LINE = re.compile(r"(?:let|do) |== |\$ |> ?|[\w. ]+\| ?|")
+LINE = re.compile(r"((?:let|do) |\$ |> ?|[\w. ]+\| ?|)(.*)")
 DEFINED = re.compile(r"(let|do) ([\w-]+)(?: X)? = (.*)")
 CHECK = re.compile(r"(?P<name>[\w-]+)(?: (?P<argument>.*?))?? (?P<relation>=|~|>|is)(?: (?P<wanted>.*))?")
 OPENED = re.compile(r"(film|shown|class)(.*?)(?: (#\S+))?")
@@ -43,25 +43,14 @@ const shownOf = (it) => Array.isArray(it) ? it.map(shownOf).join(" | ") : it ===
   : String(it ?? "none").replaceAll("\n", " ; ");"""
 
 
-def blocks():
-    """Returns the looks and actions of tests/film.txt, its files, and its blocks: a title, and pairs of a mark and a text."""
-    defined, files, found = {}, {}, []
-    for line in re.sub("^#.*\n|\n(?=  )", "", part(os.path.join(TOP, "tests"), "film.txt").decode(), flags=re.M).splitlines():
-        mark = LINE.match(line)[0]
-        text = line[len(mark):]
-        if mark in ("let ", "do "):
-            kind, name, code = DEFINED.fullmatch(line).groups()
-            assert defined.setdefault(name, (kind, code)) == (kind, code), f"{name} is defined twice"
-        elif mark == "== ":
-            found.append((text, []))
-        elif found and line:
-            found[-1][1].append((mark.strip(), text))
-        elif line:
-            files[mark.strip()] = files.get(mark.strip(), "") + text_of(text)
-    return defined, files, found
+def whole(lines):
+    """Returns lines with those that go on after them, which begin with two blanks."""
+    return "\n".join(lines).replace("\n  ", "  ").split("\n")
 
 
-DEFINED_NAMES, FILES, BLOCKS = blocks()
+BEGIN, BLOCKS = blocks("film.txt")
+FILES, BLOCKS = files_in(marked(LINE, whole(BEGIN)), {}), [(title, marked(LINE, whole(lines))) for title, lines in BLOCKS]
+DEFINED_NAMES = {name: (kind, code) for kind, name, code in (found.groups() for found in map(DEFINED.fullmatch, whole(BEGIN)) if found)}
 
 
 class BlockCase(PageCase):
@@ -70,12 +59,9 @@ class BlockCase(PageCase):
     def check(self, lines):
         for name in ("examples", "exercises", "tests"):
             os.symlink(os.path.join(TOP, name), self.path(name))
-        self.files, self.kept, self.saved_files = dict(FILES), {}, self.room()
-        for mark, text in lines:
-            if mark.endswith("|"):
-                self.files[mark] = self.files.get(mark, "") + text_of(text)
-        for mark, text in self.files.items():
-            write(self.path(mark[:-1]), encoded(text))
+        self.files, self.kept, self.saved_files = files_in(lines, FILES), {}, self.room()
+        for name, text in self.files.items():
+            write(self.path(name), encoded(text))
         self.browser.save_into(self.saved_files)
         self.script = "".join(text_of(text) for mark, text in lines if mark == ">")
         for mark, text in lines:
@@ -96,8 +82,8 @@ class BlockCase(PageCase):
             self.page = self.path("class.html")
             self.assertEqual(0, run("exercises/hand-out", self.page).status)
         else:
-            named = [word for word in words if word[0] == "<" and f"{word[1:]}|" in self.files]
-            begun = "".join(self.files[f"{word[1:]}|"] for word in named)
+            named = [word for word in words if word[0] == "<" and word[1:] in self.files]
+            begun = "".join(self.files[word[1:]] for word in named)
             self.script = encoded(begun + self.script).decode("latin-1")
             self.page = self.film(*(word for word in words if word not in named), script=self.script, status=None, folder=self.folder)
         self.browser.open(self.page, address or "")
@@ -166,7 +152,7 @@ class BlockCase(PageCase):
         self.kept[name, argument or None] = self.look(name, argument or None)
 
     def do_saved(self, name):
-        wanted = self.script.encode("latin-1") if name == "script" else encoded(self.files[f"{name}|"])
+        wanted = self.script.encode("latin-1") if name == "script" else encoded(self.files[name])
         path = self.saved_file(name)
         self.assertEqual(wanted, part(os.path.dirname(path), name))
 

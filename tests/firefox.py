@@ -9,8 +9,9 @@ import subprocess
 import tempfile
 import time
 
+from tests.browser import PATIENCE, Page
+
 NAMES = ("firefox-esr", "firefox")
-PATIENCE = 600  # seconds for one answer
 KEYS = {"ArrowLeft": "\ue012", "ArrowRight": "\ue014", "End": "\ue010", "Home": "\ue011", "Enter": "\ue007"}  # as the protocol names them
 
 
@@ -24,7 +25,7 @@ def free_port():
         return one.getsockname()[1]
 
 
-class Firefox:
+class Firefox(Page):
     """A browser with one page."""
 
     def __init__(self, path):
@@ -82,13 +83,6 @@ class Firefox:
         """Returns the value of an expression of the document."""
         return self.ask("WebDriver:ExecuteScript", script=f"return {text};", args=[])["value"]
 
-    def wait_for(self, text):
-        end = time.monotonic() + PATIENCE
-        while not self.evaluate(text):
-            if time.monotonic() > end:
-                raise TimeoutError(f"{text} does not come to be so")
-            time.sleep(0.05)
-
     def key(self, key):
         """Presses a key."""
         presses = [{"type": kind, "value": KEYS.get(key, key)} for kind in ("keyDown", "keyUp")]
@@ -97,9 +91,4 @@ class Firefox:
     def end(self):
         self.socket.close()
         self.process.terminate()
-        try:
-            self.process.wait(20)
-        except subprocess.TimeoutExpired:
-            self.process.kill()
-            self.process.wait()
-        self.room.cleanup()
+        self.finish(20)

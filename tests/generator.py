@@ -1,11 +1,11 @@
 """Makes random programs and sessions. A session follows from its seed and its profile alone."""
 
 import dataclasses
-import os
 import random
 import shlex
 
-from tests.support import TOP
+from tests.cases import Stored, blocks
+from tests import support as _  # it finds the package
 
 from pp6600.engine.plain.lines import FORMS, PlainConsole
 from pp6600.engine.plain.instructions import TWO_WORDS
@@ -23,6 +23,10 @@ class Session:
 
     def all_files(self):
         return {**self.files, 'script': b'\n'.join(self.lines)}
+
+    def stored(self, name):
+        """Returns the session as a case."""
+        return Stored(name, self.words, b'\n'.join(self.lines), self.all_files())
 
 
 @dataclasses.dataclass(frozen=True)
@@ -52,16 +56,10 @@ LOOPS = Profile(codes=(0o14, 0o16, 0o30, 0o34, 0o36, 0o50, 0o54, 0o55, *range(0o
 # The same, and watches of what they use.
 WATCHED = dataclasses.replace(LOOPS, lines=(('step', 50), ('back', 6), ('setting', 25), ('watch_near', 14), ('start', 5)))
 
-def rows(heading):
-    """Returns the lines of a part of tests/random.txt."""
-    with open(os.path.join(TOP, 'tests', 'random.txt'), encoding='utf-8') as file:
-        text = file.read().partition(f'== {heading}\n')[2].partition('\n\n')[0]
-    return text.splitlines()
-
-
-PARTS = rows('parts')
-JUNK = [word for line in rows('junk') for word in shlex.split(line)]
-WORDS = [shlex.split(line) for line in rows('words')]
+ROWS = dict(blocks('random.txt')[1])
+PARTS = ROWS['parts']
+JUNK = [word for line in ROWS['junk'] for word in shlex.split(line)]
+WORDS = [shlex.split(line) for line in ROWS['words']]
 OPTIONS = ('--history', '--central', '--deck', '--reader', '--printer', '--panel', '--help', '-h', '--', '-', '--deck\n')
 VALUES = ('1', '10000', '10001', '32', '128', '0', '7', '12', '13', '14', 'deck', 'panel', 'script', 'absent', '.', '', '-', '--', '-\n', '\n', ' ', '=',
           'a=b', '\u00e9', '7\n', '+1', '08', '1_0', '\u0661')

@@ -20,7 +20,7 @@ import operator
 import os
 import re
 
-from tests.cases import part, text_of
+from tests.cases import blocks, files_in, marked, part
 from tests.support import EXAMPLES, TOP, Case, program, write
 
 from pp6600.front.panel.app import Panel
@@ -29,7 +29,7 @@ from pp6600.language.symbol_options import symbols_from
 from pp6600.shell.device_options import device_of
 
 PROGRAM = program()
-LINE = re.compile(r"([a-z.]+\| ?|== |\$ panel ?|> |: |again: |= |\||~|ends|\.\.)(.*)")
+LINE = re.compile(r"([a-z.]+\| ?|\$ panel ?|> |: |again: |= |\||~|ends|\.\.)(.*)")
 KEYS = re.compile(r"(.*?)(?: turn=([0-7]+))?(?: run=([a-z]+))?(?: at=([A-Z0-7 ]+))?(?: ->(.*))?")
 DUMPS = "DUMP PP 0", "DUMP PP 1", "DUMP M 0 0 7777", "DUMP H", "DUMP W", "DUMP CR", "DUMP LP"
 
@@ -74,23 +74,9 @@ class PanelCase(Case):
         return self.panel(script, *options, size=(160, 24), **how)
 
 
-def blocks():
-    """Returns the files of tests/panel.txt, by their names, and its blocks: a title, and pairs of a mark and a text."""
-    files, found = {}, []
-    for line in part(os.path.join(TOP, "tests"), "panel.txt").decode().splitlines():
-        if line and line[0] != "#":
-            mark, text = LINE.fullmatch(line).groups()
-            if mark == "== ":
-                found.append((text, []))
-            elif found:
-                found[-1][1].append((mark.strip(), text))
-            else:
-                files[mark.strip()] = files.get(mark.strip(), "") + text_of(text)
-    return files, found
-
-
-FILES, BLOCKS = blocks()
-OVERWRITTEN, FIRST_PROGRAM, READS, DISPLAYS = (FILES[f"{name}|"] for name in ("loader", "first", "reads", "displays"))
+FILES, BLOCKS = blocks("panel.txt")
+FILES, BLOCKS = files_in(marked(LINE, FILES), {}), [(title, marked(LINE, lines)) for title, lines in BLOCKS]
+OVERWRITTEN, FIRST_PROGRAM, READS, DISPLAYS = map(FILES.get, ("loader", "first", "reads", "displays"))
 
 
 def lines_up_to(turn, script):
@@ -124,12 +110,8 @@ class BlockCase(PanelCase):
         os.chdir(self.folder)
         os.symlink(EXAMPLES, "examples")
         os.symlink(os.path.join(TOP, "tests"), "tests")
-        files = dict(FILES)
-        for mark, text in lines:
-            if mark.endswith("|") and mark != "|":
-                files[mark] = files.get(mark, "") + text_of(text)
-        for mark, text in files.items():
-            write(self.path(mark[:-1]), text)
+        for name, text in files_in(lines, FILES).items():
+            write(self.path(name), text)
         self.perform([line for line in lines if line[0] == "|" or line[0][-1:] != "|"])
 
     def perform(self, lines):

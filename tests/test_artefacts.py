@@ -18,14 +18,13 @@ import struct
 import subprocess
 import sys
 import tempfile
-from typing import Dict, List, NamedTuple
 
 from tests import browser, cases
-from tests.cases import part
+from tests.cases import Stored, part
 from tests.fixtures import sessions as sessions_of_pages
 from tests.generator import Maker
 from tests.support import EXAMPLES, PATIENCE, TOP, Case, program, read, write
-from tests.ways import CaseTests
+from tests.ways import CaseTests, outcome
 
 from pp6600.engine import library
 from pp6600.engine.plain.lines import Rejected
@@ -45,64 +44,33 @@ WITH = {"Nothing": [], "Card": ["--deck", "deck"], "Panel": ["--panel", "panel"]
 FILES = {"deck": b"1 2 3\n", "panel": b"1405 3420 300 0 0 0 0 0 0 0 0 0\n"}
 
 
-class Session(NamedTuple):
-    """What the program is given."""
-    name: str
-    words: List[str]
-    files: Dict[str, bytes]
-    script: bytes
-
-
 def rows():
     """Yields the sessions of the tests of pp_console."""
     folder = os.path.join(TOP, "crates", "pp_console", "src", "tests")
     for name in sorted(os.listdir(folder)):
         for number, (machine, text) in enumerate(ROW.findall(read("crates", "pp_console", "src", "tests", name))):
             script = "".join(line[2:] + "\n" for line in text.splitlines() if line.startswith("> "))
-            yield Session(f"{name}, session {number + 1}", WITH[machine or "Nothing"], FILES, script.encode("ascii"))
+            yield Stored(f"{name}, session {number + 1}", WITH[machine or "Nothing"], script.encode("ascii"), FILES)
 
 
 def pages():
     """Yields the sessions of the pages. The files that they name are those of examples/."""
     for place, (words, script, _) in sessions_of_pages():
         files = {word: part(EXAMPLES, word) for word in words if os.path.isfile(os.path.join(EXAMPLES, word))}
-        yield Session(place, words, files, "".join(script).encode("latin-1"))
-
-
-def stored():
-    """Yields the cases that are run in the plain way."""
-    for name, case in cases.named():
-        if not case.how:
-            yield Session(name, case.words, case.files, case.script)
-
-
-def by_chance():
-    """Yields random sessions."""
-    for seed in range(RANDOM):
-        made = Maker(f"artefacts {seed}").session()
-        yield Session(f"random {seed}", made.words, made.all_files(), b"\n".join(made.lines))
-
-
-def run(session, *command, **how):
-    """Runs a session. Returns what was written to standard output and to standard error, and the status."""
-    with tempfile.TemporaryDirectory(prefix="pp6600-test-") as folder:
-        for name, data in session.files.items():
-            write(os.path.join(folder, name), data)
-        done = subprocess.run([*command, *session.words], cwd=folder, input=session.script, capture_output=True, timeout=PATIENCE, check=False,
-                              **how)
-    return done.stdout, done.stderr, done.returncode
+        yield Stored(place, words, "".join(script).encode("latin-1"), files)
 
 
 def run_all(sessions, *command, **how):
     """Returns what each session comes to; as many run at a time as there are cores."""
     with concurrent.futures.ThreadPoolExecutor(CORES) as pool:
-        return list(pool.map(lambda session: run(session, *command, **how), sessions))
+        return list(pool.map(lambda session: outcome(session, *command, **how), sessions))
 
 
 @functools.lru_cache(maxsize=None)
 def all_sessions():
     """Returns all sessions, and what the program comes to."""
-    sessions = [*rows(), *pages(), *stored(), *by_chance()]
+    plain = [case for _, case in cases.named() if not case.how]
+    sessions = [*rows(), *pages(), *plain, *(Maker(f"artefacts {seed}").session().stored(f"random {seed}") for seed in range(RANDOM))]
     return sessions, run_all(sessions, program())
 
 
@@ -160,7 +128,7 @@ class Programs(Artefacts):
             os.close(writer)
             self.assertEqual((b"pp6600: WRITE FAILED\n", 3), (done.stderr, done.returncode))
         with self.subTest("a long word"):
-            self.assertEqual((b"", b"pp6600: CANNOT OPEN SCRIPT\n", 2), run(Session("", ["a" * 20000], {}, b""), path))
+            self.assertEqual((b"", b"pp6600: CANNOT OPEN SCRIPT\n", 2), outcome(Stored("", ["a" * 20000], b"", {}), path))
 
     def test_static(self):
         self.check("pp6600-static")
@@ -178,7 +146,7 @@ class Programs(Artefacts):
 
     def test_static_with_little_memory(self):
         limit = (4 << 20, 4 << 20)
-        found = run(Session("", [], {}, b"STEP\n"), artefact("pp6600-static"), preexec_fn=lambda: resource.setrlimit(resource.RLIMIT_AS, limit))
+        found = outcome(Stored("", [], b"STEP\n", {}), artefact("pp6600-static"), preexec_fn=lambda: resource.setrlimit(resource.RLIMIT_AS, limit))
         self.assertEqual((b"", b"pp6600: NO MEMORY\n", 2), found)
 
     def test_aarch64(self):

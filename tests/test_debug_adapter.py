@@ -46,28 +46,28 @@ class Answers(DebugCase):
 
     def test_files(self):
         client = self.loader()
-        path = self.path(client)
+        path = client.listing()
         self.assertEqual("PP00.pplist", os.path.basename(path))
         self.assertEqual(0o444, stat.S_IMODE(os.stat(path).st_mode))
         lines = read(path).splitlines()
         self.assertEqual((4096, 1), (len(lines), len({len(line) for line in lines})))
         self.assertEqual("0106  0027  PSN 27", lines[0o106].rstrip())
-        self.assertEqual("0000  0000  PSN 00", read(self.path(client, 9)).splitlines()[0].rstrip())
+        self.assertEqual("0000  0000  PSN 00", read(client.listing(9)).splitlines()[0].rstrip())
         self.assertEqual("\n".join(lines) + "\n", client.ask("source", source={"path": path}, sourceReference=0)["content"])
         self.assertEqual("\n".join(lines) + "\n", client.ask("source", sourceReference=1)["content"])
 
     def test_a_listing_is_written_in_place(self):
         client = self.loader()
-        before = os.stat(self.path(client))
+        before = os.stat(client.listing())
         client.stop_after("evaluate", expression="SET M 0 7777 0100", context="repl")
-        after = os.stat(self.path(client))
+        after = os.stat(client.listing())
         self.assertEqual((before.st_ino, before.st_size), (after.st_ino, after.st_size))
 
     def test_two_sessions(self):
         first, second = self.loader(), self.loader()
-        self.assertNotEqual(self.path(first), self.path(second))
+        self.assertNotEqual(first.listing(), second.listing())
         second.end()
-        self.assertTrue(os.path.exists(self.path(first)))
+        self.assertTrue(os.path.exists(first.listing()))
 
     def test_disassembled_beyond_the_memory(self):
         client = self.session(LOOPS)
@@ -82,7 +82,7 @@ class Answers(DebugCase):
             for text in ("STEP 12", "BACK", "SET A 0 1", "nonsense", "8", ":STEP" if context != "watch" else "STEP", "", "M 0 10000"):
                 with self.subTest(text, context=context), self.assertRaises(Refusal):
                     client.ask("evaluate", expression=text, frameId=1, context=context)
-        self.assertEqual(0o1300, self.turns(client))
+        self.assertEqual("1300", client.turns())
 
 
 class BadHands(DebugCase):
@@ -102,7 +102,7 @@ class BadHands(DebugCase):
                            (b'Content-Length: 13\r\n\r\n{"command":1}', "is not a request")):
             with self.subTest(data):
                 client = self.loader()
-                folder = os.path.dirname(self.path(client))
+                folder = os.path.dirname(client.listing())
                 client.process.stdin.write(data)
                 client.process.stdin.close()
                 self.check_ended(client, folder, f"debug-adapter: what the editor wrote is no message: it {said}\n", 2)
@@ -110,7 +110,7 @@ class BadHands(DebugCase):
     def test_a_client_that_dies(self):
         for command in (None, "continue"):
             client = self.session(LOOPS)
-            folder = os.path.dirname(self.path(client))
+            folder = os.path.dirname(client.listing())
             if command:
                 client.ask(command, threadId=1)
             client.process.stdin.close()
@@ -120,7 +120,7 @@ class BadHands(DebugCase):
         for number, status in ((signal.SIGTERM, 0), (signal.SIGHUP, 0), (signal.SIGINT, -signal.SIGINT)):
             with self.subTest(number):
                 client = self.session(LOOPS)
-                folder = os.path.dirname(self.path(client))
+                folder = os.path.dirname(client.listing())
                 client.ask("continue", threadId=1)
                 client.process.send_signal(number)
                 self.check_ended(client, folder, "", status)
@@ -138,7 +138,7 @@ class BadHands(DebugCase):
 
     def test_nothing_is_left(self):
         client = self.loader()
-        folder = os.path.dirname(self.path(client))
+        folder = os.path.dirname(client.listing())
         client.end()
         self.assertFalse(os.path.exists(folder))
 

@@ -3,13 +3,14 @@
 import json
 import os
 import shutil
-import subprocess
-import time
 import unittest
 import zipfile
 from xml.etree import ElementTree
 
-from tests.support import EXAMPLES, PATIENCE, TOP, Case, program, read, run, write
+from tests.debug_client import LOADER
+from tests.fixtures import DECK
+from tests.support import TOP, Case, program, read, run, write
+from tests.terminal import IS_HERE, Terminal
 
 MODES = "/usr/share/emacs/site-lisp/elpa"
 INIT = """(setq inhibit-startup-screen t make-backup-files nil)
@@ -22,78 +23,51 @@ def has_dap_mode():
     return os.path.isdir(MODES) and any(name.startswith("dap-mode") for name in os.listdir(MODES))
 
 
-class EditorCase(Case):
+@unittest.skipUnless(IS_HERE and shutil.which("emacs") and has_dap_mode(), "there is no emacs with dap-mode, or no tmux")
+class Emacs(Case):
+    """Emacs in a terminal."""
+
     def setUp(self):
         """Makes the script and the deck, as the page does."""
-        lines = [line for line in read("examples", "overwritten-loader", "script").splitlines() if not line.startswith("*")]
-        self.write("loader", "\n".join(lines[:4]) + "\n")
-        shutil.copy(os.path.join(EXAMPLES, "overwritten-loader", "deck"), self.folder)
-        self.environment = {**os.environ, "HOME": self.folder, "PP6600": program(), "TERM": "screen", "PYTHONDONTWRITEBYTECODE": "1"}
+        write(self.path("loader"), "".join(f"{line}\n" for line in LOADER))
+        shutil.copy(DECK, self.folder)
+        write(self.path(".emacs"), INIT.format(top=TOP))
+        environment = {"HOME": self.folder, "PP6600": program(), "PYTHONDONTWRITEBYTECODE": "1"}
+        self.terminal = Terminal(["emacs", "-nw"], 120, 40, kind="screen", environment=environment, folder=self.folder)
+        self.addCleanup(self.terminal.close)
+        self.assert_shows("*scratch*")
 
-    def write(self, name, text):
-        write(self.path(name), text)
-
-
-@unittest.skipUnless(shutil.which("emacs") and shutil.which("tmux") and has_dap_mode(), "there is no emacs with dap-mode, or no tmux")
-class Emacs(EditorCase):
-    """Emacs in a terminal of tmux."""
-
-    def setUp(self):
-        super().setUp()
-        self.write(".emacs", INIT.format(top=TOP))
-        self.addCleanup(self.tmux, "kill-server")
-        self.tmux("new-session", "-d", "-x", "120", "-y", "40", "emacs", "-nw")
-        self.assertTrue(self.shows("*scratch*"), self.screen())
-
-    def tmux(self, *words):
-        return subprocess.run(["tmux", "-S", self.path("tmux"), *words], env=self.environment, cwd=self.folder,
-                              stdout=subprocess.PIPE, stderr=subprocess.DEVNULL, text=True, check=False).stdout
-
-    def screen(self):
-        return self.tmux("capture-pane", "-p")
-
-    def shows(self, text):
-        deadline = time.monotonic() + PATIENCE
-        while text not in self.screen():
-            if time.monotonic() > deadline:
-                return False
-            time.sleep(0.2)
-        return True
-
-    def type(self, text, *keys):
-        self.tmux("send-keys", "-l", text)
-        self.tmux("send-keys", *keys)
+    def assert_shows(self, text):
+        self.assertTrue(self.terminal.shows(text), "\n".join(self.terminal.text()))
 
     def command(self, name, *answers):
-        self.tmux("send-keys", "M-x")
-        self.assertTrue(self.shows("M-x"), self.screen())
-        self.type(name, "Enter")
-        for prompt, answer in answers:
-            self.assertTrue(self.shows(prompt), self.screen())
-            self.type(answer, "Enter")
+        self.terminal.type("\x1bx")
+        for prompt, answer in (("M-x", name), *answers):
+            self.assert_shows(prompt)
+            self.terminal.type(f"{answer}\r")
 
     def test_the_culprit(self):
         self.command("pp6600-debug", ("Script:", "loader"), ("Deck", "deck"))
-        self.assertTrue(self.shows("0111  0032  PSN 32"), self.screen())
-        self.tmux("send-keys", "F12")
-        self.assertTrue(self.shows(">>"), self.screen())
-        self.type("WATCH M 0 106", "Enter")
-        self.assertTrue(self.shows("OK"), self.screen())
-        self.type("BACK W", "Enter")
-        self.assertTrue(self.shows("BACK 675 SLOT 00"), self.screen())
-        self.assertTrue(self.shows("0106  7512  DCN 12"), self.screen())  # the listing is read again
+        self.assert_shows("0111  0032  PSN 32")
+        self.terminal.tmux("send-keys", "F12")
+        for shown, typed in (">>", "WATCH M 0 106\r"), ("OK", "BACK W\r"):
+            self.assert_shows(shown)
+            self.terminal.type(typed)
+        for text in "BACK 675 SLOT 00", "0106  7512  DCN 12":  # the listing is read again
+            self.assert_shows(text)
         self.command("dap-ui-locals")
-        self.assertTrue(self.shows("PHASE: 7112"), self.screen())
-        self.assertIn("P: 0106", self.screen())
+        for text in "PHASE: 7112", "P: 0106":
+            self.assert_shows(text)
         self.command("pp6600-step-back")
-        self.assertTrue(self.shows("P: 0105"), self.screen())
+        self.assert_shows("P: 0105")
         self.command("pp6600-reverse-continue")
-        self.assertTrue(self.shows("PHASE: 0000"), self.screen())
+        self.assert_shows("PHASE: 0000")
 
 
 PACKAGE = json.loads(read("share", "editors", "vscode", "package.json"))
 GIVES = PACKAGE["contributes"]
 TYPES = ("string", "integer", "boolean", "object", "array")  # of settings
+NAME = "[a-z0-9][a-z0-9-]*"
 CATEGORIES = {"Debuggers", "Programming Languages", "Snippets", "Formatters", "Themes", "Other"}
 
 
@@ -115,39 +89,33 @@ class Extension(Case):
     """VS Code's extension: package.json as VS Code's page of extension manifests and that of contribution points have it."""
 
     def test_fields(self):
-        self.assertLessEqual(set(PACKAGE), {"name", "displayName", "description", "publisher", "version", "engines", "categories",
-                                            "extensionKind", "contributes"})
-        for name in ("name", "publisher"):
-            self.assertRegex(PACKAGE[name], "^[a-z0-9][a-z0-9-]*$")
-        self.assertRegex(PACKAGE["version"], r"^\d+\.\d+\.\d+$")
-        self.assertRegex(PACKAGE["engines"]["vscode"], r"^\^1\.\d+\.0$")
+        self.assertEqual({"name", "displayName", "description", "publisher", "version", "engines", "categories", "extensionKind", "contributes"},
+                         set(PACKAGE))
+        for text, form in ((PACKAGE["name"], NAME), (PACKAGE["publisher"], NAME), (PACKAGE["version"], r"\d+\.\d+\.\d+"),
+                           (PACKAGE["engines"]["vscode"], r"\^1\.\d+\.0")):
+            self.assertRegex(text, f"^{form}$")
         self.assertLessEqual(set(PACKAGE["categories"]), CATEGORIES)
         self.assertLessEqual(set(PACKAGE["extensionKind"]), {"workspace", "ui"})
         self.assertEqual({"languages", "grammars", "problemMatchers", "breakpoints", "debuggers"}, set(GIVES))
 
     def test_languages(self):
-        names = {one["id"] for one in GIVES["languages"]}
-        self.assertTrue(all(extension.startswith(".") for one in GIVES["languages"] for extension in one["extensions"]))
-        self.assertEqual({".pp": "pp6600", ".pplist": "pp6600-listing"},
-                         {extension: one["id"] for one in GIVES["languages"] for extension in one["extensions"]})
-        self.assertEqual(names, {one["language"] for one in GIVES["breakpoints"]})
-        self.assertEqual(names, set(GIVES["debuggers"][0]["languages"]))
+        names = {extension: one["id"] for one in GIVES["languages"] for extension in one["extensions"]}
+        self.assertEqual({".pp": "pp6600", ".pplist": "pp6600-listing"}, names)
+        for ids in (one["language"] for one in GIVES["breakpoints"]), GIVES["debuggers"][0]["languages"]:
+            self.assertEqual(set(names.values()), set(ids))
         for grammar in GIVES["grammars"]:
-            self.assertIn(grammar["language"], names)
-            self.assertEqual(grammar["scopeName"],
-                             json.loads(read("share", "editors", "vscode", *grammar["path"].split("/")[1:]))["scopeName"])
+            self.assertIn(grammar["language"], names.values())
+            self.assertEqual(grammar["scopeName"], json.loads(read("share", "editors", "vscode", grammar["path"]))["scopeName"])
 
     def test_debugger(self):
         debugger, = GIVES["debuggers"]
-        self.assertEqual({"type", "label", "languages", "runtime", "configurationAttributes", "initialConfigurations",
-                          "configurationSnippets"},
+        self.assertEqual({"type", "label", "languages", "runtime", "configurationAttributes", "initialConfigurations", "configurationSnippets"},
                          set(debugger))
         settings = debugger["configurationAttributes"]["launch"]["properties"]
         for name, setting in settings.items():
             self.assertTrue(setting.get("type") in TYPES or isinstance(setting.get("enum"), list), name)
             self.assertTrue(setting["description"].endswith("."), name)
-        bodies = [*debugger["initialConfigurations"], *(one["body"] for one in debugger["configurationSnippets"])]
-        for body in bodies:
+        for body in (*debugger["initialConfigurations"], *(one["body"] for one in debugger["configurationSnippets"])):
             self.assertEqual(("pp6600", "launch"), (body["type"], body["request"]))
             self.assertLessEqual(set(body) - {"type", "request", "name"}, set(settings))
 

@@ -243,7 +243,7 @@ class Session(Case):
         path = self.file("".join(f"{line}\n" for line in lines))
         self.shown = self.client.launch(script=path, processor=f"{self.numbers[0]:o}", panel=PANEL,
                                         **({"history": history} if history else {}))["threadId"] - 1
-        self.folder = os.path.dirname(self.client.ask("stackTrace", threadId=1)["stackFrames"][0]["source"]["path"])
+        self.folder = os.path.dirname(self.client.listing())
         for move in range(MOVES):
             if not move % 3:
                 self.set_breakpoints()

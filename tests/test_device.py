@@ -5,19 +5,16 @@
 
 import os
 import random
-from unittest import mock
 
 from tests.device_law import DUMPS, PANEL, Definition, FewStates, RandomDevice, first_difference, random_program
-from tests.support import Case, add_tests, program
+from tests.support import Case, program
 
 from pp6600 import INACTIVE, NOTHING, Attached, Device, Failure, full
 from pp6600.convert.cells import set_lines
 from pp6600.front.debug.debugged import MachineWithDevices
 from pp6600.front.debug.running import Runner
-from pp6600.run import new_turns
-from pp6600.run.past import Past
-from pp6600.run.tape import ReplyLine, Tape
-from pp6600.run.device import Chain, Reply, chain_of, is_value, looked
+from pp6600.run.device import Chain, Reply, chain_of, is_value
+from pp6600.run.tape import ReplyLine
 from pp6600.devices.paper_tape import PaperTape
 
 SEED, COUNT = map(int, os.environ.get("PP6600_DEVICES", "0:4").split(":"))
@@ -82,41 +79,26 @@ class Walk:
                      if answer != wanted), None)
 
 
-def without_dues(device, value, now, turn):
-    """Looks as `looked`, but nothing is due."""
-    return looked(device, value._replace(due=None), now, turn)
+class NothingIsDue(Definition):
+    def call(self, number, *event):
+        super().call(number, *event)
+        self.due[number] = None
 
 
-# Wrong sessions, each by what it does instead of a part of the right one: it must differ from the definition. The number is the first
-# seed with a session that does.
-WRONG = {
-    "replies are units": (0, Tape, "after_units", lambda self, units: units),
-    "replies are actions of the user": (0, Tape, "units", lambda self, position: position),
-    "values ahead are remembered": (6, Past, "cut", lambda self, position: None),
-    "the first value is that of every position": (0, Past, "entry_at", lambda self, position: 0),
-    "nothing is due": (0, new_turns, "looked", without_dues),
-    "the HIT of a reply is no HIT": (27, new_turns, "hit_with_replies", lambda watched, hit, seen, after: hit),
-}
+class RepliesChangeNothingWatched(Definition):
+    def make_turn(self):
+        super().make_turn()
+        self.hits[-1] = None if (self.hits[-1] or "").startswith("HIT H") else self.hits[-1]
 
 
-class WrongSessions(Case):
-    """Sessions that are wrong differ from the definition."""
+class WrongDefinitions(Case):
+    """Sessions differ from a definition that is wrong."""
 
-
-def check_wrong(case, wrong):
-    first, *patch = wrong
-    panel = case.file(PANEL)
-    with mock.patch.object(*patch):
-        for seed in range(first, first + 40):
-            try:
-                if first_difference(seed, panel, moves=20):
-                    return
-            except (AssertionError, Failure, IndexError, KeyError):  # it has lost its way
-                return
-    case.fail("it is as defined")
-
-
-add_tests(WrongSessions, check_wrong, WRONG.items())
+    def test_each(self):
+        panel = self.file(PANEL)
+        for wrong in NothingIsDue, RepliesChangeNothingWatched:
+            with self.subTest(wrong.__name__):
+                self.assertTrue(any(first_difference(seed, panel, 20, wrong) for seed in range(40)))
 
 
 class Echo(Device):

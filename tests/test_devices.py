@@ -4,6 +4,7 @@ import os
 import random
 import re
 
+from tests.cases import blocks
 from tests.films import PageCase
 from tests.support import EXAMPLES, PYTHON, Case, add_tests, program, read, run, tool, write
 
@@ -139,8 +140,7 @@ LOOKS = {
     "left": lambda session, _: marks_on(session, 0), "right": lambda session, _: marks_on(session, 1),
     "keys": lambda session, _: session.state().keys, "waits": lambda session, _: f"at {session.registers(0)['P']}",
     "channel": lambda session, text: f"{text.split()[0]} {session.channel(int(text.split()[0], 8))}"[:len(text)]}
-add_tests(Blocks, Blocks.check, [(heading, re.findall("^[^#\n].*", text, re.M)) for heading, text in
-                                 re.findall(r"^== (.*)\n((?:[^=\n].*\n|\n)*)", read("tests", "devices.txt"), re.M)])
+add_tests(Blocks, Blocks.check, blocks("devices.txt")[1])
 
 
 class Tapes(DeviceCase):

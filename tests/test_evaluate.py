@@ -1,11 +1,12 @@
 """Tests docs/evaluate: the definitions, run, say what the program does.
 
-The worked rows of crates/pp_worked are computed as statements about data. The cases of tests/cases.txt and of examples/, and random
-sessions, are performed by the definitions and by the program, and all that is written is compared. Which faults in the definitions this
+Its own check computes the worked rows of crates/pp_worked as statements about data, and performs the cases of tests/cases.txt and of
+examples/. Random sessions are performed by the definitions and by the program, and all that is written is compared. Which faults in the definitions this
 would find is what python3 -m tests.slips says, which takes longer.
 """
 
 import gc
+import itertools
 import os
 import re
 import runpy
@@ -14,18 +15,17 @@ import sys
 import threading
 
 from tests import slips
-from tests.cases import named, stored
-from tests.generator import Maker
-from tests.support import TOP, Case, add_tests, called, names_of_codes, program, read, run, write
+from tests.cases import stored
+from tests.support import TOP, Case, add_tests, called, names_of_codes, program, read, run
 
 sys.path.insert(0, os.path.join(TOP, "docs"))
-from evaluating.examples import faults_of, load, worked  # noqa: E402
-from evaluating.lists import Stuck  # noqa: E402
+from evaluating.asking import definitions_of  # noqa: E402
+from evaluating.checking import faults_of_cases  # noqa: E402
+from evaluating.examples import faults_of, load  # noqa: E402
 
 EVALUATE = os.path.join(TOP, "docs", "evaluate")
 RANDOM = int(os.environ.get("PP6600_EVALUATED", "100"))  # random sessions
 MOST_TURNS = 1500  # of a random session
-CUT_SHORT = ("folder-as-deck", "folder-as-panel", "folder-as-script")  # a read fails
 
 
 def evaluate(*words, script=""):
@@ -39,51 +39,12 @@ def evaluate(*words, script=""):
         gc.enable()
 
 
-class WorkedRows(Case):
-    """The worked rows, which the prover proves, hold when they are computed."""
-
-    def test_rows(self):
-        definitions = slips.definitions()
-        rows = [row for row in worked(TOP, definitions) if not re.match(r"\([\w ]+ : ", row[1])]  # those are about each x
-        for name, text, scope in rows:
-            with self.subTest(name):
-                self.assertIs(True, definitions.value(text, scope))
-        self.assertGreater(len(rows), 100)
-
-
 class Sessions(Case):
     """Sessions by the definitions and by the program. tests/test_python_program.py and test_random.py compare it with pp6600-python."""
 
-    def setUp(self):
-        self.addCleanup(os.chdir, os.getcwd())
-        os.chdir(self.room())
-
-    def check(self, case):
-        """Checks a case, whose expected output the program is tested to have."""
-        for name, data in case.files.items():
-            write(os.path.abspath(name), data)
-        wanted = case.out, case.err, case.status
-        self.assertEqual(wanted, slips.performed(slips.definitions(), case.words, case.script))
-
     def test_random(self):
-        numbers = iter(range(10 ** 6))
-        done = 0
-        while done < RANDOM:
-            number = next(numbers)
-            session = Maker(number).session()
-            if session.output_fails or session.standard_input != "script" or slips.turns(session.lines) > MOST_TURNS:
-                continue
-            words, script = session.words, slips.write_files(session)
-            with self.subTest(f"PP6600_RANDOM={number}:1"):
-                try:
-                    found = slips.performed(slips.definitions(), words, script)
-                except Stuck:  # a file is a folder
-                    continue
-                self.assertEqual(slips.by_program(words, script), found)
-            done += 1
-
-
-add_tests(Sessions, Sessions.check, [(name, case) for name, case in named() if name not in CUT_SHORT and not case.how])
+        cases = map(slips.with_outcome, itertools.islice(slips.random_cases(MOST_TURNS), RANDOM))
+        self.assertEqual([], slips.deep(lambda: list(faults_of_cases(definitions_of(TOP), cases))))
 
 
 class Command(Case):
@@ -120,7 +81,7 @@ class Command(Case):
         differs = differ.replace("./pp6600", program())
         self.assertEqual(("the same\n", "", 0), run("bash", "-c", f"cd {TOP}; {differs}"))
         first, *planted = slip.splitlines()  # the copy has what is not committed, too
-        for name in ("crates", "docs", "tests"):
+        for name in ("crates", "docs", "examples", "tests"):
             shutil.copytree(os.path.join(TOP, name), os.path.join(first.split()[2], name), ignore=shutil.ignore_patterns("out"))
         done = run("bash", "-c", "\n".join(planted))
         self.assertEqual((1, ""), (done.status, done.err))
@@ -140,7 +101,8 @@ class Command(Case):
                 self.assertEqual(("", 2, 1), (done.out, done.status, done.err.count("error:")))
 
     def test_examples(self):
-        """Each example of the page has the value that the page says, and each case has an example or is said to have none."""
+        """Each example of the page has the value that the page says, and each case has an example or is said to have none; the worked rows
+        hold, and each stored case has its outcome."""
         self.assertEqual(("", "", 0), evaluate("--check"))
 
     def test_examples_as_typed(self):
@@ -197,7 +159,7 @@ class Slips(Case):
 
     def test_fit(self):
         """A slip changes one place of its definition, and uses only names that can be used there."""
-        definitions = slips.definitions()
+        definitions = definitions_of(TOP)
         for slip in slips.slips():
             with self.subTest(slip.name):
                 definition = definitions.named(slip.name)
@@ -209,5 +171,5 @@ class Slips(Case):
 
     def test_one_is_found(self):
         """The worked rows find a sum that is minus zero."""
-        found = slips.Battery([]).finds(next(slip for slip in slips.slips() if re.search(":add18$", slip.name)))
+        found = slips.finds(next(slip for slip in slips.slips() if slip.name.endswith(":add18")), [])
         self.assertRegex(found, "^worked row ")

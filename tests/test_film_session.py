@@ -1,4 +1,4 @@
-"""Tests what is done in the page of a film beside tests/film.txt: random lines and origins, links and damaged pages, the page of a class, and
+"""Tests what is done in the page of a film beside tests/film.txt: origins in random sessions, links and damaged pages, the page of a class, and
 devices. Expected values are those of docs/FILM.md, and of the program and the tools for the same lines."""
 
 import json
@@ -9,14 +9,12 @@ from tests.film_blocks import BLOCKS, BlockCase
 from tests.films import DEVICES, PageCase, about, random_session, shown_film
 from tests.support import TOP, add_tests, program, read, run, tool, write
 
-from pp6600 import Console
 from pp6600.devices.pictures import svg
 from pp6600.run.attached import Attached
 from pp6600.run.device import drawn
 from pp6600.shell.device_options import device_of
 
 COUNTER = "SET M 0 100 1405 3420 300\nSET P 0 100\n"  # LDN 5, STD 20, UJN 0
-QUESTIONS = [*(f"DUMP PP {n:o}" for n in range(10)), "DUMP M 0 0 77", "DUMP H", "DUMP C 0 20", "DUMP CR", "DUMP LP"]
 # In the page: of each line of the origin of a place at the end of the film the place and number, and the turn.
 PAGE_LINES = """(([name]) => { const rows = linesOfOrigin(originOf(writtenPlace(placeNamed(name)), film.count - 1));
   return rows.map(({ step, text }) => [text.split(":")[0], step.moment > 0 ? film.turn[step.moment] : 0]); })"""
@@ -34,34 +32,8 @@ class SessionCase(PageCase):
         """Performs lines in the page."""
         self.value(f"engine.act({json.dumps(lines)})")
 
-    def dumps(self, script, *options):
-        """Returns what the program dumps after a script."""
-        with Console([program(), *options]) as console:
-            for line in script.splitlines():
-                self.assertNotIn("ERR", (console.ask(line) or [""])[0], line)
-            return [console.ask(line) for line in QUESTIONS]
-
-    def page_dumps(self):
-        """Returns what the page answers to the same dumps."""
-        asked = "(line) => ask('act', { lines: [line], at: film.count - 1 }).then(() => film.lines.at(-1).answer)"
-        return [self.value(f"({asked})('{line}')") for line in QUESTIONS]
-
 
 class RandomSessions(SessionCase):
-    def test_as_the_program(self):
-        """A saved script gives the program the machine of the page."""
-        for seed in range(3):
-            lines = random_session(seed)
-            path = self.film(*DEVICES, script="".join(f"{line}\n" for line in lines[:len(lines) // 2]), status=None)
-            self.browser.open(path)
-            for line in lines[len(lines) // 2:]:
-                self.act(line)
-            options = [os.path.join(TOP, word) if "/" in word else word for word in DEVICES]
-            pairs = self.value("film.lines.map(({ text, answer }) => [text, answer[0] || ''])")
-            saved = "".join(f"{text}\n" for text, answer in pairs if not answer.startswith("ERR"))
-            with self.subTest(seed=seed):
-                self.assertEqual(self.dumps(saved, *options), self.page_dumps())
-
     def test_origins(self):
         """The page and the tool find the same steps."""
         for seed in range(6):

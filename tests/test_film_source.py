@@ -100,7 +100,7 @@ class Lines(PageCase):
 
     def test_loading(self):
         """Before a line is loaded, nothing is said to be overwritten."""
-        self.browser.open(self.film("--source", "0", write(self.path("count.pp"), FILES["count.pp|"]), script="STEP\n"))
+        self.browser.open(self.film("--source", "0", write(self.path("count.pp"), FILES["count.pp"]), script="STEP\n"))
         marks = [[Mark(*mark) for mark in self.value(f"goTo({moment}), {LINES}")[0][1]] for moment in (0, 1)]
         self.assertEqual([[NOT_YET] * 9, [WHOLE] * 6 + [NOT_YET] * 3], marks)
 

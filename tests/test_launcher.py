@@ -7,14 +7,15 @@ import subprocess
 import unittest
 
 from tests.support import TOP, Case, program, run
-from tests.terminal import Terminal
+from tests.terminal import IS_HERE, Terminal
 
-GREETING = ("pp6600 7.8.9: SET STEP BACK FORWARD WATCH UNWATCH DEADSTART DUMP\r\n"
-            "All numbers are octal. Card: docs/CARD.md. Ctrl-D ends.\r\n"
-            "This program was proved elsewhere; ./prove proves it here.\r\n")
+GREETING = ("pp6600 7.8.9: SET STEP BACK FORWARD WATCH UNWATCH DEADSTART DUMP\n"
+            "All numbers are octal. Card: docs/CARD.md. Ctrl-D ends.\n"
+            "This program was proved elsewhere; ./prove proves it here.\n")
 NO_RLWRAP = unittest.skipUnless(shutil.which("rlwrap"), "there is no rlwrap here")
 
 
+@unittest.skipUnless(IS_HERE, "there is no tmux")
 class AtTerminal(Case):
     def setUp(self):
         self.assertEqual(("", "", 0), run(os.path.join(TOP, "tests", "launched"), program(), cwd=self.folder))
@@ -22,19 +23,20 @@ class AtTerminal(Case):
     def at_terminal(self, *typed, words=(), path=(), home=True, folder=None):
         """Types each text when the one before it in its pair is shown. Returns what is shown in all, and the exit status."""
         names = [f"PATH={':'.join([self.path('plain'), *path])}", "TERM=xterm", *([f"HOME={self.folder}"] if home else [])]
-        terminal = Terminal(["/usr/bin/env", "-i", *names, self.path("repository", "pp6600"), *words], folder=folder or self.folder)
+        command = ["/usr/bin/env", "-i", *names, self.path("repository", "pp6600"), *words]
+        terminal = Terminal(command, columns=132, folder=folder or self.folder)
         self.addCleanup(terminal.close)
         for awaited, text in typed:
-            terminal.wait_until(lambda one, awaited=awaited: awaited.encode() in one.written)
+            terminal.shows(awaited)
             terminal.type(text)
         status = terminal.status()
-        return terminal.written.decode(), status
+        return "".join(f"{line}\n" for line in terminal.lines()), status
 
     def test_the_greeting_and_an_answer(self):
-        shown, status = self.at_terminal(("it here.\r\n", "STEP 12\r"), ("TURNS 12 SLOT 00\r\n", "\x04"))
+        shown, status = self.at_terminal(("it here.", "STEP 12\r"), ("TURNS 12 SLOT 00", "\x04"))
         self.assertEqual((1, 0), (shown.count(GREETING), status), shown)
         self.assertNotIn("> ", shown)
-        self.assertLessEqual(max(map(len, shown.split("\r\n"))), 80)
+        self.assertLessEqual(max(map(len, shown.splitlines())), 80)
 
     def test_folder_whose_name_is_no_text(self):
         """The proved program runs in a folder whose name is not UTF-8."""
@@ -62,7 +64,7 @@ class AtTerminal(Case):
                 self.assertEqual(wanted == "", done.err == "")
 
     def test_words_that_are_not_accepted(self):
-        self.assertEqual(("pp6600: CANNOT OPEN DECK\r\n", 2), self.at_terminal(words=["--deck", "none"]))
+        self.assertEqual(("pp6600: CANNOT OPEN DECK\n", 2), self.at_terminal(words=["--deck", "none"]))
 
     @NO_RLWRAP
     def test_line_editing(self):

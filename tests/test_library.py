@@ -134,7 +134,7 @@ class WrongHands(LibraryCase):
         """Returns the status of a call of answer, the bytes that it took, and those that it wrote."""
         import ctypes  # pylint: disable=import-outside-toplevel
         into, found = ctypes.create_string_buffer(max(room, 1)), [ctypes.c_size_t(), ctypes.c_size_t(), ctypes.c_uint32(), ctypes.c_uint32()]
-        status = session._call("answer", typed, ctypes.c_size_t(len(typed)), into, ctypes.c_size_t(room), *map(ctypes.byref, found))
+        status = session.calls["answer"](typed, ctypes.c_size_t(len(typed)), into, ctypes.c_size_t(room), *map(ctypes.byref, found))
         return status, found[0].value, found[1].value
 
     def test_places_and_counts_out_of_range(self):

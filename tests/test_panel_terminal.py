@@ -4,17 +4,19 @@ import os
 import re
 import signal
 import sys
+import unittest
 
 from tests.cases import stored
 from tests.fixtures import DECK, LOADER
 from tests.panels import DISPLAYS, OVERWRITTEN, PROGRAM, READS, PanelCase, press
-from tests.support import PYTHON, TOP, add_tests, read, run, write
-from tests.terminal import PATIENCE, Terminal
+from tests.support import PATIENCE, PYTHON, TOP, add_tests, read, run, write
+from tests.terminal import IS_HERE, Terminal
 
 TOOL = [*PYTHON, os.path.join(TOP, "tools", "panel")]
 UTF8, ASCII = {"LC_ALL": "C.UTF-8"}, {"LC_ALL": "C"}
 
 
+@unittest.skipUnless(IS_HERE, "there is no tmux")
 class TerminalCase(PanelCase):
     def terminal(self, words, **how):
         """Returns a terminal in which a command runs, to the end of the test at most."""
@@ -33,13 +35,13 @@ class TerminalCase(PanelCase):
         return self.file(OVERWRITTEN)
 
     def assert_shows(self, terminal, text):
-        self.assertIsNotNone(terminal.shows(text), f"{text!r} is not shown:\n" + "\n".join(terminal.screen.text()))
+        self.assertTrue(terminal.shows(text), f"{text!r} is not shown:\n" + "\n".join(terminal.text()))
 
     def assert_same_screen(self, terminal, lines):
         """Waits until the terminal shows these lines."""
         wanted = [line.rstrip() for line in lines]
-        terminal.wait_until(lambda one: one.screen.text() == wanted)
-        self.assertEqual(wanted, terminal.screen.text())
+        terminal.wait_until(lambda one: one.text() == wanted)
+        self.assertEqual(wanted, terminal.text())
 
 
 class Screens(TerminalCase):
@@ -60,11 +62,8 @@ class Screens(TerminalCase):
                     self.assert_same_screen(terminal, [line.replace("\u2026", mark) for line in press(panel, keys)])
                 if columns == 120:
                     self.assert_shows(terminal, f"7112 6{mark}")
-                self.assertEqual([], terminal.screen.unknown, "sequences that the test's screen does not know")
-                if kind == "vt100":
-                    self.assertEqual(set(), terminal.screen.colours)
-                terminal.type("q")
-                terminal.type("q")
+                self.assertEqual(kind != "vt100", terminal.colours() != set())
+                terminal.type("qq")
                 self.assertEqual(0, terminal.status())
 
     def test_source(self):
@@ -72,12 +71,13 @@ class Screens(TerminalCase):
         words, pairs = ("--deck", DECK, "--source", "0", LOADER), [(0, LOADER)]
         for columns, rows, kind in (80, 24, "xterm-256color"), (160, 50, "xterm"):
             terminal = self.started(*words, self.file("STEP 1300\n"), columns=columns, rows=rows, kind=kind)
-            panel = self.panel("STEP 1300\n", "--deck", DECK, size=(columns, rows), sources=pairs)
+            panel, colours = self.panel("STEP 1300\n", "--deck", DECK, size=(columns, rows), sources=pairs), set()
             for text, keys in {"C": "C", "CG405\r": "CG405<Enter>", "PN": "PN", "mi": "mi", "m1G": "m1G"}.items():
                 terminal.type(text)
                 with self.subTest(text, columns=columns):
                     self.assert_same_screen(terminal, press(panel, keys))
-            self.assertEqual(set(), {32, 33, 36} - terminal.screen.colours)
+                colours |= terminal.colours()
+            self.assertEqual(set(), {32, 33, 36} - colours)
 
     def test_pictures(self):
         """Without UTF-8 a braille symbol is a dot."""
@@ -151,8 +151,8 @@ class Screens(TerminalCase):
         terminal.shows("The keys")
         terminal.type("q:na\xefve\r")
         self.assert_shows(terminal, "ERR 06 NOT ASCII")
-        self.assertEqual([], sorted({byte for byte in terminal.written if byte > 126}))
-        self.assertEqual(set(), terminal.screen.colours)
+        self.assertTrue("".join(terminal.text()).isascii())
+        self.assertEqual(set(), terminal.colours())
         self.assertTrue(terminal.hang_up(), "it goes on in a terminal that was closed")
 
 
@@ -179,7 +179,7 @@ class Talk(TerminalCase):
         os.symlink(os.path.join(TOP, "tests"), self.path("tests"))
         terminal = self.terminal([*self.TALK, *case.words], kind="dumb", columns=132, rows=40, folder=self.folder)
         for text in [f"{line}\r" for line in re.findall("^[0-7]+> (.+)$", wanted, re.M)] + ["\x04"]:
-            self.assertIsNotNone(terminal.wait_until(lambda one: re.fullmatch("[0-7]+>", (one.lines() or [""])[-1])), terminal.lines())
+            self.assertTrue(terminal.wait_until(lambda one: re.fullmatch("[0-7]+>", (one.lines() or [""])[-1])), terminal.lines())
             shown = len(terminal.lines())
             terminal.type(text)
             terminal.wait_until(lambda one: len(one.lines()) > shown, 1 if text == "\x04" else PATIENCE)

@@ -15,7 +15,6 @@ import signal
 import subprocess
 import sys
 
-from tests import slips
 from tests.cases import named
 from tests.fixtures import sessions
 from tests.generator import Maker, commands
@@ -110,7 +109,8 @@ class Compared(Case):
         seed, count = map(int, os.environ.get("PP6600_PYTHON", "0:40").split(":"))
         for number in range(seed, seed + count):
             session = Maker(number).session()
-            slips.write_files(session)
+            for name, data in session.all_files().items():
+                write(os.path.join(os.getcwd(), name), data)
             if session.standard_input != ".":
                 with open("/dev/full", "wb") as full:
                     self.compare(f"PP6600_PYTHON={number}:1\n{commands(session)}", session.words, session.standard_input,

@@ -4,7 +4,8 @@ what they say of P, A and cells is compared with the simulator."""
 import random
 import re
 
-from .support import Case, add_tests, program, read
+from .cases import blocks, marked
+from .support import Case, add_tests, program
 
 from pp6600 import Console
 from pp6600.run.disassembly import row_at, rows_from
@@ -97,9 +98,8 @@ class Sentences(Case):
 
 def rows_by_heading():
     """Returns the headings of tests/sentences.txt, each with its rows: the state of the channels, the words and the sentence."""
-    for heading, text in re.findall(r"^== (.*)\n((?:.+\n)*)", read("tests", "sentences.txt"), re.M):
-        rows = re.findall(r"^([^#|]+?) +\| (.*)$", text, re.M)
-        yield heading, [(heading[0] if heading[1] == ":" else "E", *row) for row in rows]
+    for heading, lines in blocks("sentences.txt")[1]:
+        yield heading, [(heading[0] if heading[1] == ":" else "E", *row) for row in marked(re.compile(r"(.+?) +\| (.*)"), lines)]
 
 
 add_tests(Sentences, Sentences.check, rows_by_heading())

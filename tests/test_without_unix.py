@@ -40,7 +40,7 @@ class Tools(Case):
         client = Client(environment={"PP6600": "", "PP6600_ENGINE": ""}, before=WITHOUT_UNIX[-1:])
         self.addCleanup(client.end)
         client.launch(script=SCRIPT, deck=DECK)
-        listing = client.ask("stackTrace", threadId=1)["stackFrames"][0]["source"]["path"]
+        listing = client.listing()
         self.assertTrue(os.path.exists(listing))
         self.assertEqual((0, NO_LIBRARY), client.end())
         self.assertFalse(os.path.exists(listing))

@@ -4,9 +4,19 @@ import os
 import resource
 import subprocess
 import sys
+import tempfile
 
 from tests.cases import part
 from tests.support import PATIENCE, TOP, Case, program, write
+
+
+def outcome(case, *command, **how):
+    """Runs a case in a folder of its own. Returns what is written to standard output and to standard error, and the status."""
+    with tempfile.TemporaryDirectory(prefix="pp6600-test-") as folder:
+        for name, data in case.files.items():
+            write(os.path.join(folder, name), data)
+        done = subprocess.run([*command, *case.words], cwd=folder, input=case.script, capture_output=True, timeout=PATIENCE, check=False, **how)
+    return done.stdout, done.stderr, done.returncode
 
 
 class Ways:
