@@ -1,31 +1,20 @@
 """The lines of the console that keys of the panel send, and the page of all keys."""
 
-from typing import NamedTuple
-
 from ...run.forms import MOST_TURNS, PROCESSORS
 from ..keys import help_rows
 
 ROUND = PROCESSORS  # turns
 
 
-class Facts(NamedTuple):
-    """What the lines of a key depend on."""
-
-    slot: int
-    processor: int  # the chosen one
-    place: str  # of the cursor
-    watched: tuple  # places
-    history: object
+def counted(word, count):
+    """Returns the line of so many actions; none of no action."""
+    return [word if count == 1 else f"{word} {count:o}"] if count else []
 
 
 def step_lines(turns):
     """Returns the lines that make so many turns."""
     whole, rest = divmod(turns, MOST_TURNS)
-    return [f"STEP {MOST_TURNS:o}"] * whole + ([counted("STEP", rest)] if rest else [])
-
-
-def counted(word, count):
-    return word if count == 1 else f"{word} {count:o}"
+    return [f"STEP {MOST_TURNS:o}"] * whole + counted("STEP", rest)
 
 
 def turns_to(slot, processor, count):
@@ -33,48 +22,42 @@ def turns_to(slot, processor, count):
     return (processor - slot - 1) % PROCESSORS + 1 + ROUND * (count - 1)
 
 
-def on(facts, turns):
+def on(history, turns):
     """Returns the lines that go on by so many turns: over those that are ahead, then over new ones."""
-    history = facts.history
     again = history.last_turn - history.turns
-    forward = history.forward_over(turns) if turns <= again else history.to_redo
-    return ([counted("FORWARD", forward)] if forward else []) + step_lines(max(turns - again, 0))
+    return counted("FORWARD", history.forward_over(turns) if turns <= again else history.to_redo) + step_lines(max(turns - again, 0))
 
 
 def to_turn(history, turn):
     """Returns the lines that go to before the turn that comes after so many: back, or over what is ahead and then over new turns."""
-    again = history.tape.after_turn(min(turn, history.last_turn)) - history.position
-    if again < 0:
-        return [counted("BACK", -again)]
-    return ([counted("FORWARD", again)] if again else []) + step_lines(max(turn - history.last_turn, 0))
+    if turn < history.turns:
+        return back_over(history, history.turns - turn)
+    ahead = history.forward_over(turn + 1 - history.turns) - 1 if turn < history.last_turn else history.to_redo
+    return counted("FORWARD", ahead) + step_lines(max(turn - history.last_turn, 0))
 
 
-def back_over(facts, turns):
+def back_over(history, turns):
     """Returns the line that goes back over so many turns."""
-    return [counted("BACK", facts.history.back_over(turns))]
+    return counted("BACK", history.back_over(turns))
 
 
-def back_to_change(facts, count):
-    """Returns the lines that go back to a change of a watched number, or with nothing watched of the number at the cursor."""
-    watch = [] if facts.watched else toggle_watch(facts, count)
-    return watch + ["BACK W"] * min(count, facts.history.kept + 1)  # each one but a refused one undoes an action
+def toggle_watch(session, view, count=1):
+    return [f"{'UNWATCH' if view.place() in session.watched() else 'WATCH'} {view.place()}"]
 
 
-def toggle_watch(facts, count):
-    return [f"{'UNWATCH' if facts.place in facts.watched else 'WATCH'} {facts.place}"]
-
-
-# The lines of each action that sends some.
+# The lines of each action that sends some, by the session, what is looked at, and a count.
 LINES = {
-    "on": on,
-    "back": lambda facts, count: [counted("BACK", count)],
-    "round-on": lambda facts, count: on(facts, ROUND * count),
-    "round-back": lambda facts, count: back_over(facts, ROUND * count),
-    "next-turn": lambda facts, count: on(facts, turns_to(facts.slot, facts.processor, count)),
-    "turn-before": lambda facts, count: back_over(facts, turns_to(facts.processor, facts.slot, count)),
-    "beginning": lambda facts, count: [counted("BACK", facts.history.position or 1)],
-    "newest": lambda facts, count: [counted("FORWARD", facts.history.to_redo or 1)],
-    "back-to-change": back_to_change,
+    "on": lambda session, view, count: on(session.history, count),
+    "back": lambda session, view, count: counted("BACK", count),
+    "round-on": lambda session, view, count: on(session.history, ROUND * count),
+    "round-back": lambda session, view, count: back_over(session.history, ROUND * count),
+    "next-turn": lambda session, view, count: on(session.history, turns_to(session.state.slot, view.processor, count)),
+    "turn-before": lambda session, view, count: back_over(session.history, turns_to(view.processor, session.state.slot, count)),
+    "beginning": lambda session, view, count: counted("BACK", session.history.position or 1),
+    "newest": lambda session, view, count: counted("FORWARD", session.history.to_redo or 1),
+    # With nothing watched it is the number at the cursor. Each BACK W but a refused one undoes an action.
+    "back-to-change": lambda session, view, count: ([] if session.watched() else toggle_watch(session, view))
+    + ["BACK W"] * min(count, session.history.kept + 1),
     "watch": toggle_watch,
 }
 

@@ -14,7 +14,6 @@ from ...run.tape import ScriptLine, SourceLine
 from ...shell.device_options import timeline
 from ...shell.keyboard import place_of
 
-NEW = ("OK", "TURNS")  # the first words of answers to lines that discard what is ahead
 LOG_LENGTH = 10000  # decimal, lines and answers
 
 
@@ -49,9 +48,8 @@ class LoggedSession:
         self.size = self.simulator.central_size
         self.lines_sent = 0
         self.saved = (0, 0)  # the lines that are in a file
-        self.log = []
-        self.logged = 0  # lines of the log
-        self.state = self.before = self.read()
+        self.log, self.logged = [], 0  # the lines of the log
+        self.look_again()
 
     @property
     def history(self):
@@ -65,6 +63,10 @@ class LoggedSession:
     def read(self):
         """Returns the machine's state."""
         return state_of(self.simulator, with_central=True)
+
+    def look_again(self):
+        """Reads the state, in which nothing is marked."""
+        self.state = self.before = self.read()
 
     def search(self):
         """Returns a session on the same tape, whose position is its own. It is used in a `with` block."""
@@ -103,19 +105,17 @@ class LoggedSession:
     def perform(self, lines, stops=never):
         """Sends lines up to one that is refused, or that ends with a HIT, or until it `stops`: that is asked before each
         line but the first, with how many are done and how many there are. Then reads the state. Returns the outcome."""
-        old, discarded, watched = self.state, 0, self.watched()
-        kinds, answer = set(), []
+        state, position, watched = self.state, self.history.position, self.watched()
+        answer, discarded = [], 0
         for number, line in enumerate(lines):
             if number and stops(number, len(lines)):
                 break
-            ahead = self.history.to_redo
-            answer = self.send(line)
-            kinds.add(kind_of(answer))
-            discarded += ahead if kind_of(answer) in NEW else 0
-            if kind_of(answer) == "ERR" or hit_of(answer):
+            ahead, answer = self.history.to_redo, self.send(line)
+            discarded += ahead if kind_of(answer) in ("OK", "TURNS") else 0
+            if is_refusal(answer) or hit_of(answer):
                 break
-        if kinds & {*NEW, "BACK", "FORWARD"}:
-            self.state, self.before = self.read(), old
+        if self.history.position != position:
+            self.state, self.before = self.read(), state
         return Outcome(answer, discarded, watched)
 
     def tell(self, number, what):
@@ -125,40 +125,26 @@ class LoggedSession:
         self.state, self.before = self.read(), self.state
 
     def to_turn(self, turn):
-        """Goes to where so many turns are in effect. What the last of them changed is marked."""
-        if turn:
-            self.go(turn - 1)
-        before = self.read() if turn else None
-        self.go(turn)
-        self.state = self.read()
-        self.before = before or self.state
-
-    def go(self, turn):
-        """Goes back or on to where so many turns are in effect: after the settings that follow the last of them. New turns do
-        not end where a watched number changes."""
-        for line in self.simulator.lines_to(turn):
-            self.send(line)
+        """Goes to where so many turns are in effect. What the last of them changed is marked. New turns do not end where a watched number
+        changes."""
+        for goal in range(max(turn - 1, 0), turn + 1):
+            for line in self.simulator.lines_to(goal):
+                self.send(line)
+            self.before, self.state = self.state, self.read()
+        self.before = self.before if turn else self.state
 
     def perform_script(self, lines, stops=never):
-        """Performs a script, whatever is refused; `stops` is asked before each line. Returns whether all was performed."""
+        """Performs a script, whatever is refused; `stops` is asked before each line. What the last action changed is marked. Returns
+        whether all was performed."""
         last = max((number for number, line in enumerate(lines) if is_action(line)), default=None)
         for number, line in enumerate(lines):
             if stops(number, len(lines)):
-                break
-            if number == last:
-                self.state = self.before = self.read()
-                self.perform([line])
-            else:
-                self.send(line)
-        else:
-            self.saved = place_of(self.simulator)
-            return True
-        self.look_again()
-        return False
-
-    def look_again(self):
-        """Reads the state, in which nothing is marked."""
-        self.state = self.before = self.read()
+                self.look_again()
+                return False
+            self.before = self.read() if number == last else self.before
+            self.send(line)
+        self.state, self.saved = self.read(), place_of(self.simulator)
+        return True
 
     def close(self):
         self.simulator.close()

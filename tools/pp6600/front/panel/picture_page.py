@@ -4,12 +4,8 @@ from ...devices.pictures import braille
 from ...run.device import Device, DeviceFailure, drawn
 from ..keys import PANEL
 from .key_lines import LINES
-from .screen import Screen, is_too_small
-from .text import HEAD, MarkedLine
+from .text import MarkedLine
 from .text_page import TextPage
-
-RUNS = {*(key for key, action in PANEL.items() if action in LINES), *"01234567"}
-HINT = "s, b and other keys that step do so here; v, Escape or Enter closes this page"
 
 
 def devices_that(session, method):
@@ -26,18 +22,13 @@ def line_of(text):
 
 
 class PicturePage(TextPage):
+    passes = {*(key for key, action in PANEL.items() if action in LINES), *"01234567"}
+
     def __init__(self, panel):
-        super().__init__("", [])
+        super().__init__("", [], closes="v")
         self.panel, self.devices = panel, devices_that(panel.session, "picture")
 
-    def press(self, key, rows):
-        return super().press(key, rows) and key != "v"
-
-    def runs(self, key):
-        """Returns whether a key is not for the page, but for the run."""
-        return bool(self.panel.asked) or key in RUNS
-
-    def rows(self, columns, rows):
+    def texts(self, columns, rows):
         """Yields the lines of all pictures, each as large as it can be seen whole."""
         def draw(picture):
             return braille(picture, min(columns, (2 * (rows - 3) + 1) * len(picture.screens) - 1))
@@ -49,10 +40,10 @@ class PicturePage(TextPage):
             except DeviceFailure as failure:
                 yield str(failure)
 
+    def bottom(self, height):
+        return self.panel.message or "s, b and other keys that step do so here; v, Escape or Enter closes this page"
+
     def screen(self, columns, rows):
-        if not is_too_small(columns, rows):
-            self.title = f"Turn {self.panel.session.history.turns:o}"
-            self.lines = [line_of(text) for text in self.rows(columns, rows)]
-        shown = super().screen(columns, rows)
-        shown.lines[-1] = MarkedLine(self.panel.message or HINT, HEAD).fit(columns)
-        return Screen(shown.lines, shown.cursor)
+        self.title = f"Turn {self.panel.session.history.turns:o}"
+        self.lines = list(map(line_of, self.texts(columns, rows)))
+        return super().screen(columns, rows)

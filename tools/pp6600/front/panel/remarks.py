@@ -1,18 +1,22 @@
 """What the panel says of the lines that were sent, beside their answers."""
 
+import os
+
+from ...language.calls import address_of
 from ...run.forms import Place, hit_of
 from ...run.reasons import reason
+from ...run.recording import next_changes
 from ...run.session import REPLAYED
+from ...run.tape import STEP
 from .logged_session import kind_of
-from .next_change import next_change
 
 # What a key does about a refusal.
 ADVICE = {"ERR 07": "< goes back to the beginning", "ERR 10": "[ goes to older changes", "ERR 15": "t watches the number at the cursor",
           "ERR 16": "> goes to the newest state"}
 
 
-def remarks(session, outcome, place, symbols):
-    """Returns what an operator may not expect of the last lines, the most important first; the cursor is at the place, and processors
+def remarks(session, outcome, cursor, symbols):
+    """Returns what an operator may not expect of the last lines, the most important first; the cursor is at a place, and processors
     have these symbols and sources."""
     kind, hit = kind_of(outcome.answer), hit_of(outcome.answer)
     if kind == "ERR" or hit:
@@ -20,7 +24,7 @@ def remarks(session, outcome, place, symbols):
     if kind != "BACK":
         return [f"the {outcome.discarded:o} actions ahead are discarded"] if outcome.discarded else []
     is_to_change = session.log[-1][0].upper().split() == ["BACK", "W"]
-    change = next_change(session, [Place.parse(one) for one in outcome.watched or [place]], symbols) if is_to_change else []
+    change = next_change(session, list(map(Place.parse, outcome.watched)) or [cursor], symbols) if is_to_change else []
     replayed = [f"{REPLAYED} in a fresh simulator"] if REPLAYED in outcome.answer else []
     undone = [watched for watched in outcome.watched if watched not in session.watched()]
     return change + replayed + [f"WATCH {watched} is undone too" for watched in undone[:1]]
@@ -30,6 +34,29 @@ def advice(line, answer, size):
     """Returns a refusal with what may be done about it, or why the line was refused."""
     more = ADVICE.get(answer[:6]) or reason(line, answer, size)
     return f"{answer}; {more}" if more else answer
+
+
+def next_change(session, places, symbols):
+    """Returns in words the next action, which makes the change before which a BACK W has stopped, with the first of the places that it
+    changes; and the line of a source that its instruction is of, in a block transfer that of the instruction which began it."""
+    simulator, slot = session.simulator, session.state.slot
+    line = next(simulator.tape.actions(simulator.position)).line
+    if line != STEP:
+        return [f"the change is the next action, {line.strip()}"]
+    was, processor = next_changes(simulator), session.state.processors[slot]
+    with session.search() as run:
+        address = address_of(run, slot, simulator.position)
+    change = next((f"changes {place.short} from {was[place.number]:0{place.digits}o}" for place in places if place.number in was),
+                  "makes the change")
+    instruction = f"{'in' if processor.phase else 'with'} {processor.text}{'' if address is None else f' at {address:04o}'}"
+    return [f"the next turn, PP {slot:02o} {instruction}, {change}", *line_of(session.state.memories[slot], address, symbols.of.get(slot))]
+
+
+def line_of(memory, address, source):
+    """Returns the file and the line that an instruction is of, or was, in a list; an empty one without a source."""
+    is_known = source and source.is_source and address is not None
+    line = source.line_of(address, memory.word(address), memory.word(address + 1)) if is_known else None
+    return [f"{os.path.basename(source.path)}:{line.number}"] if line else []
 
 
 def in_width(parts, width):

@@ -10,7 +10,7 @@ from ...language.source.statements import TAB, Line as SourceText
 from ...run.disassembly import Row, rows_above, rows_around, rows_from
 from ...run.forms import CELLS
 from ...run.sentences import sentence
-from .text import CURSOR, HEAD, HERE, OVERWRITTEN, WATCHED, MarkedLine
+from .text import HEAD, HERE, OVERWRITTEN, MarkedLine
 
 if TYPE_CHECKING:
     from ...language.sources import CellLine
@@ -107,71 +107,58 @@ class Cells:
 
 # ---- the lines of the pane
 
-def sign_of(row, here, back, watched):
-    """Returns what is before a row: > for the cell at P, r where a block transfer goes on, w for a watched cell."""
-    if row.address in (here, back):
-        return ">" if row.address == here else "r"
-    return "w" if any(row.has(address) for address in watched) else " "
-
-
-def cells_line(shown, cells, row):
-    """Returns the beginning of the line of a row: what is before it, its address and its words."""
-    view, was = shown.view, shown.before.memories[shown.view.processor]
-    watched = shown.state.watched_cells(view.processor)
-    sign = sign_of(row, cells.processor.p, cells.back, watched)
+def cells_line(shown, row):
+    """Returns the beginning of the line of a row: > for the cell at P, r where a block transfer goes on, or w for a watched cell; the address,
+    and the words."""
+    number, cells = shown.view.processor, shown.view.rows
+    is_watched = any(map(row.has, shown.state.watched_cells(number)))
+    sign = ">" if row.address == cells.processor.p else "r" if row.address == cells.back else "w" if is_watched else " "
     line = MarkedLine(sign, HERE if sign in ">r" else None).add(f"{row.address:04o} ")
-    for at, word in enumerate(row.words):
-        address = (row.address + at) % CELLS
-        cursor = CURSOR if view.pane == "memory" and address == view.cell else None
-        line.add_number(word, was.word(address), cursor, WATCHED if address in watched else None)
+    for at in range(len(row.words)):
+        shown.add(line, "M", number, (row.address + at) % CELLS)
     return line.fit(TEXT_FROM)
 
 
-def instruction_line(shown, cells, row, named="", *marks):
-    """Returns the line of a row: its address, its words, the instruction, and beside it a text, or else its label."""
-    line, symbols, number, address = cells_line(shown, cells, row), shown.symbols, shown.view.processor, f"{row.address:04o}"
-    if shown.view.has_display_code:
-        line.add(text_of(row.words).ljust(DISPLAY_WIDTH))
-    line.add(row.text)
-    named = named or symbols.text(number, address, row.words[0]) or symbols.name(number, address)
-    return line.fit(max(LABEL_FROM, len(line.text) + 1)).add(named, *marks) if named else line
+def instruction_line(shown, entry):
+    """Returns the line of a row as an instruction, and beside it the source line that it was of, or a text, or else its label."""
+    row, symbols, number, address = entry.row, shown.symbols, shown.view.processor, f"{entry.row.address:04o}"
+    was = f"was {os.path.basename(shown.view.source.path)}:{entry.line.number}" if entry.line else ""
+    line = cells_line(shown, row).add(text_of(row.words).ljust(DISPLAY_WIDTH) if shown.view.has_display_code else "").add(row.text)
+    named = was or symbols.text(number, address, row.words[0]) or symbols.name(number, address)
+    return line.fit(max(LABEL_FROM, len(line.text) + 1)).add(named, OVERWRITTEN if was else None) if named else line
 
 
-def source_line(line, entry, is_present, digits, width):
-    """Appends to the beginning of a line the source line of an entry. The present one has > before its number; a + after it says that a
-    macro made the text."""
-    source, cell = entry.note or entry.line.row.line, entry.line
+def source_line(shown, entry, width):
+    """Returns the line of an entry as its source line. The present one has > before its number; a + after it says that a macro made the
+    text."""
+    cells, cell, source = shown.view.rows, entry.line, entry.note or entry.line.row.line
+    mark = HERE if not entry.note and entry.row.address == cells.here else None
     text, note = "" if cell and cell.at else source.text.expandtabs(TAB).rstrip(), cell.note if cell else ""
-    mark, mark_of_note = HERE if is_present else None, OVERWRITTEN if cell and cell.second is not None else None
-    line.fit(TEXT_FROM).add(f"{'>' if is_present else ' '}{source.number:{digits}}{'+' if source.call else ' '}", mark)
+    line = (MarkedLine() if entry.note else cells_line(shown, entry.row)).fit(TEXT_FROM)
+    line.add(f"{'>' if mark else ' '}{source.number:{notes_of(cells.source).digits}}{'+' if source.call else ' '}", mark)
     room = width - len(line.text) - len(note)
-    return line.add_line(MarkedLine(text, mark).fit(min(len(text), room))).add(note, mark_of_note)
+    return line.add_line(MarkedLine(text, mark).fit(min(len(text), room))).add(note, OVERWRITTEN if cell and cell.second is not None else None)
 
 
-def entry_line(shown, cells, entry, width):
+def entry_line(shown, entry, width):
     """Returns the line of an entry."""
-    row, line, source = entry.row, entry.line, cells.source
-    if entry.note or line and line.is_there:
-        begun = MarkedLine() if entry.note else cells_line(shown, cells, row)
-        return source_line(begun, entry, not entry.note and row.address == cells.here, notes_of(source).digits, width)
-    was = f"was {os.path.basename(source.path)}:{line.number}" if line else ""
-    return instruction_line(shown, cells, row, was, OVERWRITTEN if was else None)
+    is_source = entry.note or entry.line and entry.line.is_there
+    return (source_line(shown, entry, width) if is_source else instruction_line(shown, entry)).fit(width)
 
 
-def head_line(shown, cells):
+def head_line(shown):
     """Returns the line above the rows: what they are, and where the processor is."""
-    number, source = shown.view.processor, cells.source
-    at = shown.symbols.name(number, cells.processor.registers["P"]) if cells.back is None else ""
-    head = MarkedLine(f"PP {number:02o}  {'SOURCE' if source else 'INSTRUCTIONS'}", HEAD).add(f"   P is {at}" if at else "")
-    head.add("" if cells.back is None else f"   in a block; returns to {cells.back:04o}")
-    return head.add(f"   {os.path.basename(source.path)}, lines in decimal" if source else "")
+    number, cells, source = shown.view.processor, shown.view.rows, shown.view.source
+    at = shown.symbols.name(number, cells.processor.registers["P"])
+    where = f"in a block; returns to {cells.back:04o}" if cells.back is not None else f"P is {at}" if at else ""
+    more = "".join(f"   {text}" for text in (where, f"{os.path.basename(source.path)}, lines in decimal" if source else "") if text)
+    return MarkedLine(f"PP {number:02o}  {'SOURCE' if source else 'INSTRUCTIONS'}", HEAD).add(more)
 
 
 def rows_pane(shown, count, width):
     """Returns so many lines of the memory by rows, around P or the cursor, below a head."""
-    view, cells = shown.view, shown.view.cells(shown.state)
-    entries, _ = cells.window(view.top_of_rows, view.cell, count)
-    return [head_line(shown, cells).fit(width), *(entry_line(shown, cells, entry, width).fit(width) for entry in entries)]
+    entries, _ = shown.view.rows.window(shown.view.top_of_rows, shown.view.cell, count)
+    return [head_line(shown).fit(width), *(entry_line(shown, entry, width) for entry in entries)]
 
 
 def sentence_line(shown):

@@ -1,7 +1,9 @@
 """The terminal of the panel: keys in, screens out. All that is shown and all that a key does is decided elsewhere."""
 
 import curses
+import functools
 import locale
+import operator
 import os
 import select
 import signal
@@ -22,6 +24,17 @@ CODES = {
     curses.KEY_BTAB: "Shift-Tab", curses.KEY_BACKSPACE: "Backspace", curses.KEY_DC: "Delete", curses.KEY_ENTER: "Enter",
     8: "Backspace", 9: "Tab", 10: "Enter", 13: "Enter", 27: "Escape", 127: "Backspace"}
 FIRST_CODE = 256  # of keys that are no characters
+SUSPEND, REDRAW, INTERRUPT, RESIZE = "Ctrl-Z", "Ctrl-L", "Ctrl-C", "Resize"
+OF_TERMINAL = (SUSPEND, REDRAW, RESIZE)  # keys that the panel does not know
+# The keys that signals are as; others end the panel.
+SIGNALS = {signal.SIGWINCH: RESIZE, signal.SIGCONT: RESIZE, signal.SIGTSTP: SUSPEND, signal.SIGINT: INTERRUPT}
+ENDS = (signal.SIGTERM, signal.SIGHUP)
+# How each mark looks, and with colours its colour and how it looks beside.
+LOOKS = {TITLE: curses.A_REVERSE, HEAD: curses.A_BOLD, SLOT: curses.A_BOLD, CHOSEN: curses.A_REVERSE, CURSOR: curses.A_REVERSE,
+         CHANGED: curses.A_BOLD, WATCHED: curses.A_UNDERLINE, HERE: curses.A_BOLD, REFUSED: curses.A_BOLD, OVERWRITTEN: curses.A_BOLD}
+COLOURS = {SLOT: (curses.COLOR_GREEN, curses.A_BOLD), HERE: (curses.COLOR_GREEN, curses.A_BOLD), CHANGED: (curses.COLOR_RED, curses.A_BOLD),
+           REFUSED: (curses.COLOR_RED, curses.A_BOLD), HEAD: (curses.COLOR_CYAN, curses.A_BOLD),
+           OVERWRITTEN: (curses.COLOR_YELLOW, curses.A_NORMAL)}
 
 
 def key_name(code):
@@ -50,23 +63,21 @@ def check():
 class Terminal:
     """A terminal under curses. Use it in a `with` statement, which puts the terminal back whatever happens."""
 
-    def __init__(self):
-        self.size_may_differ = self.is_to_suspend = self.interrupted = False
-
     def __enter__(self):
+        self.signalled = []  # keys
         self.reading, self.writing = os.pipe()
         for end in (self.reading, self.writing):
             os.set_blocking(end, False)
         signal.set_wakeup_fd(self.writing, warn_on_full_buffer=False)
-        for number in (signal.SIGWINCH, signal.SIGTSTP, signal.SIGCONT, signal.SIGTERM, signal.SIGHUP, signal.SIGINT):
-            signal.signal(number, self.note_signal)
+        for number in (*SIGNALS, *ENDS):
+            signal.signal(number, self.take_signal)
         os.environ.setdefault("ESCDELAY", str(ESCAPE_DELAY))
         self.window = curses.initscr()
         curses.noecho()
         curses.raw()
         self.window.keypad(True)
         self.window.nodelay(True)
-        self.attributes = attributes()
+        self.looks = looks()
         self.in_ascii = {} if has_utf8() else IN_ASCII
         return self
 
@@ -75,40 +86,27 @@ class Terminal:
         with suppress(curses.error):
             curses.endwin()
 
-    def note_signal(self, number, frame):
-        """Notes a signal; the loop that waits for keys sees it. One that ends the panel does so at once."""
-        if number == signal.SIGTSTP:
-            self.is_to_suspend = True
-        elif number == signal.SIGINT:
-            self.interrupted = True
-        elif number in (signal.SIGTERM, signal.SIGHUP):
+    def take_signal(self, number, frame):
+        """Takes a signal as a key, or ends the panel at once."""
+        if number in ENDS:
             sys.exit(128 + number)
-        else:
-            self.size_may_differ = True
+        self.signalled.append(SIGNALS[number])
 
     def suspend(self):
         """Gives the terminal back to the shell until the panel is continued."""
-        self.is_to_suspend = False
         curses.endwin()
         signal.signal(signal.SIGTSTP, signal.SIG_DFL)
         os.kill(0, signal.SIGTSTP)
-        signal.signal(signal.SIGTSTP, self.note_signal)
-        self.window.clear()
+        signal.signal(signal.SIGTSTP, self.take_signal)
         self.window.refresh()
-        self.size_may_differ = True
 
-    def size(self):
-        """Returns the columns and rows of the terminal."""
+    def take_size(self):
+        """Tells curses the terminal's columns and rows, and returns them. All is drawn anew then."""
         try:
             size = os.get_terminal_size(sys.stdout.fileno())
         except OSError as error:
             raise Failure(f"the terminal is gone: {error.strerror}") from error
-        return size.columns or 80, size.lines or 24
-
-    def take_size(self):
-        """Tells curses the terminal's size, and returns it."""
-        self.size_may_differ = False
-        columns, rows = self.size()
+        columns, rows = size.columns or 80, size.lines or 24
         curses.resizeterm(rows, columns)
         self.window.clear()
         return columns, rows
@@ -124,40 +122,30 @@ class Terminal:
         self.window.refresh()
 
     def draw_line(self, row, line):
+        """Draws a line. A part of it has the looks of all its marks."""
         with suppress(curses.error):  # after the last character of a screen the cursor has no place
             self.window.addstr(row, 0, line.text.translate(self.in_ascii))
         for start, end, _ in line.marks:
+            marks = (mark for first, last, mark in line.marks if first <= start and end <= last)
             with suppress(curses.error):
-                self.window.chgat(row, start, end - start, self.attribute(line, start, end))
-
-    def attribute(self, line, start, end):
-        """Returns the attributes of all marks of a part of a line."""
-        together = 0
-        for first, last, mark in line.marks:
-            if first <= start and end <= last:
-                together |= self.attributes[mark]
-        return together
+                self.window.chgat(row, start, end - start, functools.reduce(operator.or_, map(self.looks.get, marks)))
 
     # ---- in
 
     def keys(self, seconds):
         """Returns the names of the keys that come in so many seconds (None: however long), or an empty list."""
         keys = self.typed_keys()
-        if not keys and not (self.size_may_differ or self.is_to_suspend or self.interrupted):
+        if not keys:
             self.wait(seconds)
             keys = self.typed_keys()
-        if self.interrupted:
-            self.interrupted = False
-            keys.append("Ctrl-C")
         return keys
 
     def typed_keys(self):
-        """Returns the keys that were typed so far."""
-        keys = []
+        """Returns the keys that were typed so far, those of signals first."""
+        keys, self.signalled = self.signalled, []
         while (code := self.window.getch()) != -1:
-            if key_name(code):
-                keys.append(key_name(code))
-        return keys
+            keys.append(key_name(code))
+        return list(filter(None, keys))
 
     def wait(self, seconds):
         """Waits for a key or a signal."""
@@ -175,18 +163,13 @@ def is_hung_up(number):
     return any(events & (select.POLLHUP | select.POLLERR | select.POLLNVAL) for _, events in poll.poll(0))
 
 
-def attributes():
+def looks():
     """Returns how each mark looks: with colours, if the terminal has them and NO_COLOR is not set."""
-    plain = {TITLE: curses.A_REVERSE, HEAD: curses.A_BOLD, SLOT: curses.A_BOLD, CHOSEN: curses.A_REVERSE,
-             CURSOR: curses.A_REVERSE, CHANGED: curses.A_BOLD, WATCHED: curses.A_UNDERLINE, HERE: curses.A_BOLD,
-             REFUSED: curses.A_BOLD, OVERWRITTEN: curses.A_BOLD}
     if not has_colours():
-        return plain
-    for number, colour in enumerate((curses.COLOR_GREEN, curses.COLOR_RED, curses.COLOR_CYAN, curses.COLOR_YELLOW), 1):
-        curses.init_pair(number, colour, -1)
-    green, red, cyan, yellow = (curses.color_pair(number) for number in (1, 2, 3, 4))
-    return {**plain, SLOT: green | curses.A_BOLD, HERE: green | curses.A_BOLD, CHANGED: red | curses.A_BOLD,
-            REFUSED: red | curses.A_BOLD, HEAD: cyan | curses.A_BOLD, OVERWRITTEN: yellow}
+        return LOOKS
+    for colour, _ in COLOURS.values():
+        curses.init_pair(colour, colour, -1)
+    return {**LOOKS, **{mark: curses.color_pair(colour) | beside for mark, (colour, beside) in COLOURS.items()}}
 
 
 def has_utf8():
@@ -211,42 +194,28 @@ class Loop:
 
     def __init__(self, terminal, panel):
         self.terminal, self.panel = terminal, panel
-        self.pending = []  # keys that were typed while the simulator was busy
+        self.pending = []  # keys that are still to be performed
         self.drawn = 0.0
         panel.is_stopped, panel.show = self.is_stopped, self.draw
 
     def run(self):
-        """Performs keys until one ends the panel."""
+        """Performs keys until one ends the panel. While more of them wait, not every state is drawn."""
         self.draw()
         while not self.panel.is_ended:
-            keys = self.pending or self.terminal.keys(None)
-            self.pending = []
-            self.see_to_terminal()
-            self.press(keys)
+            self.take(self.terminal.keys(None))
+            while self.pending and not self.panel.is_ended:
+                self.panel.press(self.pending.pop(0))
+                self.take(self.terminal.typed_keys())
+                if not self.pending or time.monotonic() - self.drawn > BETWEEN_DRAWINGS:
+                    self.draw()
 
-    def press(self, keys):
-        """Performs keys. While more of them wait, not every state is drawn."""
-        while keys and not self.panel.is_ended:
-            key = keys.pop(0)
-            if key == "Ctrl-Z":
-                self.terminal.suspend()
-                self.see_to_terminal()
-            elif key == "Ctrl-L":
-                self.terminal.window.clear()
-            else:
-                self.panel.press(key)
-            keys += self.pending + self.terminal.typed_keys()
-            self.pending = []
-            if not keys or time.monotonic() - self.drawn > BETWEEN_DRAWINGS:
-                self.draw()
-
-    def see_to_terminal(self):
-        """Takes the terminal's new size, and suspends the panel if that was asked for."""
-        terminal = self.terminal
-        if terminal.is_to_suspend:
-            terminal.suspend()
-        if terminal.size_may_differ:
-            self.panel.resize(*terminal.take_size())
+    def take(self, keys):
+        """Performs those keys that are the terminal's own, and keeps the others."""
+        self.pending += [key for key in keys if key not in OF_TERMINAL]
+        if SUSPEND in keys:
+            self.terminal.suspend()
+        if not set(OF_TERMINAL).isdisjoint(keys):
+            self.panel.resize(*self.terminal.take_size())
             self.draw()
 
     def draw(self):
@@ -255,13 +224,10 @@ class Loop:
 
     def is_stopped(self):
         """Returns whether Ctrl-C was typed while the simulator is busy; keeps the other keys."""
-        keys = self.terminal.keys(0)
-        self.see_to_terminal()
-        if "Ctrl-C" in keys:
-            self.pending = []
-            return True
-        self.pending += keys
-        return False
+        self.take(self.terminal.keys(0))
+        is_stopped = INTERRUPT in self.pending
+        self.pending = [] if is_stopped else self.pending
+        return is_stopped
 
 
 def run(panel, script, turn=None):

@@ -33,9 +33,7 @@ class MarkedLine:
             text = NOT_PRINTABLE.sub("?", text)
         first = len(self.text)
         self.text += text
-        for mark in marks:
-            if mark and text:
-                self.marks.append((first, len(self.text), mark))
+        self.marks += [(first, len(self.text), mark) for mark in marks if mark and text]
         return self
 
     def add_number(self, now, was, *marks):
@@ -65,10 +63,8 @@ class MarkedLine:
 
 def beside(left, right, column):
     """Returns lines with the right part from a column on."""
-    height = max(len(left), len(right))
-    left = left + [MarkedLine() for _ in range(height - len(left))]
-    right = right + [MarkedLine() for _ in range(height - len(right))]
-    return [first.fit(column).add_line(second) for first, second in zip(left, right)]
+    parts = (in_height(part, max(len(left), len(right))) for part in (left, right))
+    return [first.fit(column).add_line(second) for first, second in zip(*parts)]
 
 
 def in_height(lines, height):

@@ -1,4 +1,4 @@
-"""Text to be read over the whole screen: all keys, or all lines and answers."""
+"""Text over the whole screen: all keys, all lines and answers, or steps of which one is chosen."""
 
 from .screen import Screen, is_too_small, small_screen
 from .text import HEAD, TITLE, MarkedLine, in_height
@@ -7,25 +7,42 @@ CLOSES = ("q", "Enter", "Escape", "Ctrl-C")
 
 
 class TextPage:
-    def __init__(self, title, lines, at_end=False):
-        self.title, self.lines = title, lines
-        self.first = len(lines) if at_end else 0
+    """Lines to be read. With a function `choose` one of them is marked, and Enter calls it with the number of this line."""
+
+    passes = ()  # keys that are not for the page
+
+    def __init__(self, title, lines, at_end=False, choose=None, closes=""):
+        """A key `closes` closes it too, beside the usual ones."""
+        self.title, self.lines, self.choose, self.closes = title, lines, choose, (*CLOSES, closes)
+        self.first, self.at = len(lines) if at_end else 0, 0
 
     def press(self, key, rows):
         """Performs a key; returns whether the page stays."""
-        height = max(rows - 2, 1)
-        steps = {"Up": -1, "k": -1, "Down": 1, "j": 1, "Page Up": -height, "b": -height, "Page Down": height, " ": height,
-                 "Home": -len(self.lines), "<": -len(self.lines), "End": len(self.lines), ">": len(self.lines)}
-        self.first += steps.get(key, 0)
-        return key not in CLOSES
+        height, end = max(rows - 2, 1), len(self.lines)
+        step = {"Up": -1, "k": -1, "Down": 1, "j": 1, "Page Up": -height, "b": -height, "Page Down": height, " ": height,
+                "Home": -end, "<": -end, "End": end, ">": end}.get(key, 0)
+        if self.choose:
+            self.at = max(0, min(self.at + step, end - 1))
+            self.first = max(min(self.first, self.at), self.at - height + 1)
+        else:
+            self.first += step
+        if self.choose and key == "Enter":
+            self.choose(self.at)
+        return key not in self.closes
+
+    def bottom(self, height):
+        """Returns the text of the last line."""
+        if self.choose:
+            return "Enter goes to before that step, and > comes back; Escape closes this page"
+        return f"{'arrows and Page Up/Down move; ' if len(self.lines) > height else ''}q, Escape or Enter closes this page"
 
     def screen(self, columns, rows):
         if is_too_small(columns, rows):
             return small_screen(columns, rows)
-        height = rows - 2
-        self.first = max(min(self.first, len(self.lines) - height), 0)
-        shown = in_height(self.lines[self.first:self.first + height], height)
-        more = "arrows and Page Up/Down move; " if len(self.lines) > height else ""
-        bottom = MarkedLine(f"{more}q, Escape or Enter closes this page", HEAD)
-        whole = [MarkedLine(f" {self.title}".ljust(columns), TITLE), *shown, bottom]
-        return Screen([line.fit(columns) for line in whole], (rows - 1, 0))
+        height, lines = rows - 2, self.lines
+        self.first = max(min(self.first, len(lines) - height), 0)
+        if self.choose:
+            lines = [MarkedLine(">" if at == self.at else " ").add_line(line) for at, line in enumerate(lines)]
+        whole = [MarkedLine(f" {self.title}".ljust(columns), TITLE), *in_height(lines[self.first:self.first + height], height),
+                 MarkedLine(self.bottom(height), HEAD)]
+        return Screen([line.fit(columns) for line in whole], (1 + self.at - self.first, 0) if self.choose else (rows - 1, 0))

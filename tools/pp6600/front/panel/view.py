@@ -6,13 +6,14 @@ from typing import TYPE_CHECKING, Optional
 
 from ...failure import Failure
 from ...run.disassembly import moved
-from ...run.forms import CELLS, CLOCK, KINDS, PROCESSORS, ROW
+from ...run.forms import CELLS, CLOCK, KINDS, PROCESSORS, ROW, Place
 from .rows_pane import Cells
 
 if TYPE_CHECKING:
     from ...language.sources import Source
 
 PANES = ("processors", "channels", "memory", "central")
+PANE_OF = {"H": "channels", "M": "memory", "C": "central"}  # by the kind of a place
 REGISTERS = ("P", "A", "Q")  # those that can be watched
 CHANNELS_IN_COLUMN = 7
 
@@ -24,22 +25,27 @@ class View:
     register: str = "P"
     channel: int = 0
     cell: int = 0
+    word: int = 0  # the central address
     following: bool = True  # the memory follows P
     top: int = 0  # the first cell shown
     top_of_rows: tuple = (0, 0)  # the address of the first row shown, and how many of its lines are above
+    central_top: int = 0
     as_program: bool = False  # the cells are shown as instructions
     has_display_code: bool = False  # and beside them as two symbols each
     as_source: bool = True  # they are shown as the source of their processor, if it has one
     source: Optional["Source"] = None  # that is shown
     has_central: bool = False  # central memory is beside it
     rows: Optional[Cells] = None  # the cells that are shown by rows
-    word: int = 0  # the central address
-    central_top: int = 0
+
+    @property
+    def cursor(self):
+        """The place of the cursor."""
+        return {"processors": Place(self.register, (self.processor,)), "channels": Place("H", (self.channel,)),
+                "memory": Place("M", (self.processor, self.cell)), "central": Place("C", (self.word,))}[self.pane]
 
     def place(self):
         """Returns the place of the cursor, as the lines of the console have it."""
-        return {"processors": f"{self.register} {self.processor:o}", "channels": f"H {self.channel:o}",
-                "memory": f"M {self.processor:o} {self.cell:o}", "central": f"C {self.word:o}"}[self.pane]
+        return self.cursor.short
 
     @property
     def is_by_rows(self):
@@ -85,68 +91,56 @@ class View:
         """Moves the cursor by an arrow; a page has so many rows, and central memory so many words."""
         steps = -count if key in ("Up", "Left", "Page Up") else count
         is_across, is_page = key in ("Left", "Right"), key in ("Page Up", "Page Down")
+        down = steps * (rows if is_page else 1)
         if self.pane == "memory" and self.is_by_rows and not is_across:
-            self.move_rows(steps * (rows if is_page else 1))
+            self.go_to_cell(moved(self.rows.word, self.cell, max(min(down, CELLS), -CELLS), self.rows))
         elif self.pane == "memory":
-            self.go_to_cell(self.cell + steps * (1 if is_across else ROW * rows if is_page else ROW))
+            self.go_to_cell(self.cell + (steps if is_across else down * ROW))
         elif self.pane == "central":
-            self.word = max(min(self.word + steps * (ROW if is_across else rows if is_page else 1), size - 1), 0)
-        elif self.pane == "channels":
-            self.move_channel(steps, is_across)
+            self.word = max(min(self.word + (steps * ROW if is_across else down), size - 1), 0)
+        elif self.pane == "channels" and not is_across:
+            self.channel = (self.channel + steps) % (CLOCK + 1)
+        elif self.pane == "channels":  # to the other column, if there is a channel
+            channel = self.channel + steps * CHANNELS_IN_COLUMN
+            self.channel = channel if 0 <= channel <= CLOCK else self.channel
         elif is_across:
             self.register = REGISTERS[(REGISTERS.index(self.register) + steps) % len(REGISTERS)]
         else:
             self.choose_processor(self.processor + steps)
 
-    def move_rows(self, steps):
-        """Moves the cursor by so many instructions."""
-        self.go_to_cell(moved(self.rows.word, self.cell, max(min(steps, CELLS), -CELLS), self.rows))
-
-    def move_channel(self, steps, is_across):
-        """Moves the cursor down, or across the two columns if there is a channel."""
-        channel = self.channel + steps * (CHANNELS_IN_COLUMN if is_across else 1)
-        if not is_across:
-            self.channel = channel % (CLOCK + 1)
-        elif 0 <= channel <= CLOCK:
-            self.channel = channel
-
     def go_to_cell(self, address):
         self.pane, self.following, self.cell = "memory", False, address % CELLS
 
     def go_to(self, text, size):
-        """Moves the cursor to an address of the memory that it is in, or to a place."""
+        """Moves the cursor to an address of the memory that it is in, or to a place; central memory has so many words."""
         sizes = {**{kind: one.sizes for kind, one in KINDS.items()}, "PP": (PROCESSORS,), "C": (size,)}
         words = text.upper().split()
-        kind = words.pop(0) if words and words[0] in sizes else "C" if self.pane == "central" else None
-        if any(not re.fullmatch("[0-7]{1,12}", word) for word in words):
+        if words[0] not in sizes:
+            words = ["C", *words] if self.pane == "central" else ["M", f"{self.processor:o}", *words]
+        kind, *digits = words
+        if any(not re.fullmatch("[0-7]{1,12}", word) for word in digits):
             raise Failure(f"{text} is neither an octal address nor a place, as M 0 106, A 0, H 12 or C 1000")
-        numbers = [int(word, 8) for word in words]
-        if kind is None:
-            kind, numbers = "M", [self.processor, *numbers]
+        numbers = [int(word, 8) for word in digits]
         if len(numbers) != len(sizes[kind]):
             raise Failure(f"{text} does not name one place")
         if any(number >= one for number, one in zip(numbers, sizes[kind])):
             raise Failure(f"there is no place {text}")
-        self.go_to_place(kind, numbers)
+        self.go_to_place(kind, *numbers)
 
-    def go_to_place(self, kind, numbers):
-        if kind == "M":
-            self.processor = numbers[0]
-            self.go_to_cell(numbers[1])
-        elif kind == "C":
-            self.pane, self.word = "central", numbers[0]
+    def go_to_place(self, kind, number, address=0):
+        self.pane = PANE_OF.get(kind, "processors")
+        if kind == "C":
+            self.word = number
         elif kind == "H":
-            self.pane, self.channel = "channels", numbers[0]
+            self.channel = number
         else:
-            self.pane, self.processor = "processors", numbers[0]
-            self.register = kind if kind in REGISTERS else self.register
-
-    def cells(self, state):
-        return Cells(state, self.processor, self.source)
+            self.processor, self.register = number, kind if kind in REGISTERS else self.register
+        if kind == "M":
+            self.go_to_cell(address)
 
     def scroll(self, state, rows, size):
         """Moves the windows to their cursors; each has so many rows, and central memory so many words."""
-        self.rows = self.cells(state)
+        self.rows = Cells(state, self.processor, self.source)
         if self.following:
             self.cell = self.rows.present if self.is_by_rows else state.processors[self.processor].p
         if self.is_by_rows:
@@ -159,13 +153,8 @@ class View:
 def memory_top(top, address, rows):
     """Returns the first cell of a window of so many rows that has the address in it: the same one, if it has."""
     distance = (address // ROW - top // ROW) % (CELLS // ROW)
-    if distance < rows:
-        return top
-    if distance == rows:
-        return (top + ROW) % CELLS
-    if distance == CELLS // ROW - 1:
-        return (top - ROW) % CELLS
-    return (address // ROW * ROW - rows // 3 * ROW) % CELLS
+    steps = 0 if distance < rows else 1 if distance == rows else -1 if distance == CELLS // ROW - 1 else distance - rows // 3
+    return (top + steps * ROW) % CELLS
 
 
 def central_top(top, address, rows, size):
