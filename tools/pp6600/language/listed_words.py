@@ -1,17 +1,18 @@
 """What the assembler makes of a line of a listing, as far as its operands are numbers or names of the listing itself."""
 
-from typing import Dict, Iterator, List, Optional, Sequence, Tuple
+from typing import Dict, List, Optional, Sequence
 
+from .printed import SUBR
 from .source.directives import MAKERS
-from .source.encoding import distance, operands_of
-from .source.machine import CODES, LAST, Form, form_of
+from .source.encoding import operands_of, words_of
+from .source.machine import CODES, form_of
 from .source.messages import Fault, Follows
 from .source.state import State
 from .source.statements import Field, Line, Statement, statement_of
 from .source.symbols import Symbol
-from .printed import SUBR
 
-Piece = Tuple[int, int, int]  # of a word: which, the bits, and what they must be
+D = 0o77  # what the operand of an instruction says of its first word
+ONES = -1  # in the place of a field that is not known
 
 
 class Told(State):
@@ -22,6 +23,7 @@ class Told(State):
         self.known, self.base, self.is_last = names, base, True
         self.is_placed = origin is not None and location is not None
         self.origin, self.location = origin or 0, location or 0
+        self.instead: Optional[int] = None  # of a field of an instruction that is not known
 
     def look_up(self, name: str, column: int, from_above: bool) -> Symbol:
         value = self.known.get(name)
@@ -33,23 +35,35 @@ class Told(State):
         raise fault
 
     def field(self, operand: Field, bits: int, instead: str = "") -> int:
-        return self.checked_field(operand, bits, instead)
+        try:
+            return self.checked_field(operand, bits, instead)
+        except (Fault, Follows):
+            if self.instead is None:
+                raise
+            return self.instead & (1 << bits) - 1
 
     def literal(self, operand: Field) -> int:
         raise Follows
 
-    def value_of(self, operand: Field) -> int:
-        if "*" in operand.text and not self.is_placed:
-            raise Follows
-        return self.value(operand, True).number
-
     def number(self, text: str) -> Optional[int]:
         """Returns the number of the operand of a statement; None if it is not known."""
         statement = statement_in(text)
+        if not statement or not statement.operand.text or "*" in statement.operand.text and not self.is_placed:
+            return None
         try:
-            return self.value_of(statement.operand) if statement and statement.operand.text else None
+            return self.value(statement.operand, True).number
         except (Fault, Follows):
             return None
+
+    def instruction(self, statement: Statement, words: Sequence[int]) -> List[int]:
+        """Returns words with what the operands of an instruction say of them."""
+        code = CODES[statement.operation.text]
+        operands, made = operands_of(self, form_of(code), statement), []
+        for self.instead in (0, ONES):
+            made.append(words_of(self, code, operands))
+        known = [~(zeros ^ ones) for zeros, ones in zip(*made)]
+        known[0] &= D
+        return [word & ~bits | told & bits for word, bits, told in zip(words, known, made[0])] + list(words[len(known):])
 
 
 def statement_in(text: str) -> Optional[Statement]:
@@ -69,42 +83,7 @@ def told_by(told: Told, operation: str, text: str, words: Sequence[int]) -> Opti
         return [CODES["LJM"] << 6, told.location] if len(words) == 2 else None
     try:
         if operation in CODES:
-            return with_pieces(words, instruction(told, CODES[operation], statement))
+            return told.instruction(statement, words)
         return MAKERS[operation](told, statement) if operation in MAKERS else None
     except (Fault, Follows):
         return None
-
-
-def with_pieces(words: Sequence[int], pieces: Iterator[Piece]) -> List[int]:
-    found = list(words)
-    for at, bits, wanted in pieces:
-        if at < len(found):
-            found[at] = found[at] & ~bits | wanted
-    return found
-
-
-def instruction(told: Told, code: int, statement: Statement) -> Iterator[Piece]:
-    """Yields the pieces of an instruction's words that its operands say."""
-    form = form_of(code)
-    operands = operands_of(told, form, statement)
-    if form in (Form.INDEXED, Form.BOTH):
-        yield from piece(told, operands[0], 12, 1)
-        yield from piece(told, operands[1], 6, 0) if len(operands) > 1 else ((0, 0o77, 0),)
-    elif form is Form.TARGET:
-        try:
-            yield 0, 0o77, distance(told, statement.operation.text, operands[0])
-        except (Fault, Follows):
-            pass
-    elif form is Form.CONSTANT:
-        for _, _, number in piece(told, operands[0], 18, 0):
-            yield from ((0, 0o77, number >> 12), (1, LAST, number & LAST))
-    else:
-        yield from piece(told, operands[0], 6, 0) if operands else ((0, 0o77, 0),)
-
-
-def piece(told: Told, operand: Field, bits: int, at: int) -> Iterator[Piece]:
-    """Yields what an operand says of a word, if it does."""
-    try:
-        yield at, (1 << bits) - 1, told.checked_field(operand, bits, "")
-    except (Fault, Follows):
-        pass

@@ -1,39 +1,29 @@
 """A listing: its words, its names and its texts."""
 
 import sys
-from typing import Callable, Dict, List, NamedTuple, Optional, Sequence, Tuple, TypeVar
+from typing import Callable, Dict, List, Optional, Sequence, Tuple, TypeVar
 
 from ..convert.cells import set_lines
 from ..failure import Failure, Faults
 from ..run.forms import CELLS
 from ..shell.ending import shown_text
 from ..shell.text_files import named, read_lines
-from .names import AddressNames, Names, octal_number
+from .names import EQUATES, AddressNames, Names, octal_number
 from .printed import NAME, TAB, Columns, continuity, first_runs, guessed, is_note, tokens_of, with_words
-from .reading import Doubt, Printed, Printout
+from .reading import Printed, Printout
 from .source.forms import runs_of
+from .source.messages import Message
 
-EQUATES = ("=", "EQU")  # before the number of a name that is no label
 MOST_DOUBTS = 20  # that are said
-Made = TypeVar("Made")
+Read = TypeVar("Read")
 MARK = "\ufeff"  # that some editors put before a text
 
 
-class ListedLine(NamedTuple):
-    """A line of a listing with words: its number, decimal from 1, the address of the first one, the words of four digits, and the
-    source line."""
-
-    number: int
-    address: int
-    words: Tuple[Optional[str], ...]
-    text: str
-
-
-def made_of(path: Optional[str], make: Callable[[List[str]], Made]) -> Made:
-    """Returns what is made of the lines of a text. What is wrong with a line is said with the name of the file."""
+def read_from(path: Optional[str], read: Callable[[List[str]], Read]) -> Read:
+    """Returns what is read of the lines of a text. What is wrong with a line is said with the name of the file."""
     lines = read_lines(path)
     try:
-        return make(lines)
+        return read(lines)
     except InDoubt as failure:
         raise Faults(shown_doubts(path, failure.doubts)) from failure
     except Failure as failure:
@@ -43,12 +33,12 @@ def made_of(path: Optional[str], make: Callable[[List[str]], Made]) -> Made:
 class InDoubt(Failure):
     """A listing whose lines do not agree with each other."""
 
-    def __init__(self, doubts: Sequence[Doubt]) -> None:
+    def __init__(self, doubts: Sequence[Message]) -> None:
         super().__init__("; ".join(f"line {line} (decimal): {text}" for line, _, text in doubts))
         self.doubts = doubts
 
 
-def shown_doubts(path: Optional[str], doubts: Sequence[Doubt]) -> List[str]:
+def shown_doubts(path: Optional[str], doubts: Sequence[Message]) -> List[str]:
     """Returns the lines about what is in doubt, as FILE:LINE:COLUMN: and a text."""
     lines = [shown_text(f"{named(path)}:{line}:{column}: {text}") for line, column, text in doubts[:MOST_DOUBTS]]
     more = len(doubts) - len(lines)
@@ -67,10 +57,9 @@ class Listing:
     def __init__(self, lines: Sequence[str], columns: Optional[Columns] = None, trust: bool = False, has_gaps: bool = False) -> None:
         """The lines are those of a text. Without columns they are guessed. What is in doubt raises InDoubt, or is kept. Between the rows
         of a dump there may be gaps."""
-        self.cells: Dict[int, Tuple[str, ListedLine]] = {}  # by address: the word and the line
-        self.elsewhere: Dict[int, Tuple[str, ListedLine]] = {}  # the same by the addresses for which code is assembled, if it is loaded to others
+        self.cells: Dict[int, Tuple[str, Printed]] = {}  # by address: the word and the line
+        self.elsewhere: Dict[int, Tuple[str, Printed]] = {}  # the same by the addresses for which code is assembled, if it is loaded to others
         self.names = Names()
-        self.passed = 0  # lines with numbers that are not loaded
         printout = Printout(without_mark(lines), columns, has_gaps)
         self.columns = printout.columns
         reading = printout.read()
@@ -83,31 +72,21 @@ class Listing:
 
     @classmethod
     def of_file(cls, path: Optional[str], columns: Optional[Columns] = None, trust: bool = False, has_gaps: bool = False) -> "Listing":
-        return made_of(path, lambda lines: cls(lines, columns, trust, has_gaps))
-
-    @property
-    def labels(self) -> Dict[int, str]:
-        """The first label of each address that has one."""
-        return self.names.firsts()
+        return read_from(path, lambda lines: cls(lines, columns, trust, has_gaps))
 
     def add(self, entry: Printed) -> None:
-        """Takes what a line says."""
-        self.passed += entry.is_passed
-        self.fill(ListedLine(entry.number, entry.load, entry.words, entry.text))
+        """Takes what a line says, but for words that are unreadable. Two lines must not fill one cell."""
+        words = [(at, word) for at, word in enumerate(entry.words) if word]
+        wrong = next(filter(None, (self.why_not_into(entry.load + at) for at, _ in words)), None)
+        if wrong:
+            self.doubts.append(Message(entry.number, 1, wrong))
+        self.cells.update({entry.load + at: (word, entry) for at, word in words if 0 <= entry.load + at < CELLS})
         if entry.address != entry.load:
-            moved = ListedLine(entry.number, entry.address, entry.words, entry.text)
-            self.elsewhere.update({entry.address + at: (word, moved) for at, word in enumerate(entry.words) if word})
+            moved = entry._replace(load=entry.address)
+            self.elsewhere.update({entry.address + at: (word, moved) for at, word in words})
         for is_label, pairs in ((True, entry.labels), (False, entry.equates)):
             for name, number in pairs:
                 self.names.add(name, number, is_label)
-
-    def fill(self, line: ListedLine) -> None:
-        """Puts the words of a line into their cells, but none that is unreadable. Two lines must not fill one cell."""
-        wrong = next((wrong for at, word in enumerate(line.words) if word and (wrong := self.why_not_into(line.address + at))), None)
-        if wrong:
-            self.doubts.append(Doubt(line.number, 1, wrong))
-        self.cells.update({line.address + at: (word, line) for at, word in enumerate(line.words)
-                           if word and 0 <= line.address + at < CELLS})
 
     def why_not_into(self, address: int) -> str:
         if not 0 <= address < CELLS:
@@ -120,8 +99,9 @@ class Listing:
 
     def counts(self) -> str:
         """Returns what was read, as a sentence."""
+        passed = sum(entry.is_passed for entry in self.entries)
         parts = [f"{number} {noun}{'' if number == 1 else 's'}" for number, noun in
-                 ((len(self.cells), "word"), (len(self.names), "symbol"), (self.passed, "line"))]
+                 ((len(self.cells), "word"), (len(self.names), "symbol"), (passed, "line"))]
         return f"{', '.join(parts)} with numbers not loaded (decimal)"
 
 
@@ -141,19 +121,6 @@ def is_printed(lines: Sequence[str]) -> bool:
     return is_listing(lines) or guessed(texts) is not None
 
 
-def symbol_line(number: int, text: str) -> Optional[Tuple[str, int, bool]]:
-    """Returns the name, the number and whether it is a label of a line NAME ADDRESS or NAME = NUMBER; None if it is a comment."""
-    words = text.partition("*")[0].split()
-    if not words:
-        return None
-    is_label = len(words) == 2
-    is_symbol = is_label or len(words) == 3 and words[1].upper() in EQUATES
-    value = octal_number(words[-1]) if is_symbol and NAME.fullmatch(words[0]) else None
-    if value is None or value >= CELLS:
-        raise Failure(f"line {number} (decimal) is neither of a listing nor NAME ADDRESS")
-    return words[0], value, is_label
-
-
 class ListingSymbols(AddressNames):
     """What the addresses of one processor are called, and the listing's own text beside a cell."""
 
@@ -162,33 +129,40 @@ class ListingSymbols(AddressNames):
         self.listing = Listing(lines, columns, trust)
         names = self.listing.names
         if not self.listing.cells and not len(names):
-            for symbol in filter(None, (symbol_line(number, text) for number, text in enumerate(without_mark(lines), 1))):
-                names.add(*symbol)
+            for number, line in enumerate(without_mark(lines), 1):
+                add_symbol(names, number, line.partition("*")[0].split())
         super().__init__(names, self.listing.cells)
 
     @classmethod
     def of_file(cls, path: Optional[str], columns: Optional[Columns] = None, trust: bool = False) -> "ListingSymbols":
-        symbols = made_of(path, lambda lines: cls(lines, columns, trust))
+        symbols = read_from(path, lambda lines: cls(lines, columns, trust))
         if not len(symbols.names) and not symbols.listing.cells:
             raise Failure(f"{named(path)} has neither lines of a listing nor lines NAME ADDRESS")
         return symbols
 
     def texts(self) -> Dict[int, Tuple[int, str]]:
         """Returns the texts of the listing by the addresses at which they begin, each with its word."""
-        return {line.address: (int(word, 8), line.text) for word, line in self.listing.cells.values()
-                if line.text and self.text(line.address, word)}
+        return {entry.load: (int(word, 8), entry.text) for word, entry in self.listing.cells.values()
+                if entry.text and self.text(entry.load, word)}
 
     def text(self, address: int, word: str) -> str:
         """Returns the listing's text of the line that begins at a cell, if this word is still there; or nothing."""
-        for cells in (self.listing.cells, self.listing.elsewhere):
-            listed, line = cells.get(address, (None, None))
-            if line and line.address == address and word == listed:
-                return line.text
-        return ""
+        found = (cells.get(address) for cells in (self.listing.cells, self.listing.elsewhere))
+        return next((one[1].text for one in found if one and one[0] == word and one[1].load == address), "")
 
     def lines(self) -> List[str]:
         """Returns the lines NAME ADDRESS by their addresses, then the lines NAME = NUMBER."""
-        tables = self.names.labels, self.names.equates
-        width = max((len(name) for table in tables for own in table.values() for name in own), default=0)
-        return [f"{name:{width}} {sign}{number:04o}" for sign, table in (("", self.names.labels), ("= ", self.names.equates))
-                for number, own in sorted(table.items()) for name in own]
+        found = [(name, f"{sign}{number:04o}") for sign, table in (("", self.names.labels), ("= ", self.names.equates))
+                 for number, own in sorted(table.items()) for name in own]
+        width = max((len(name) for name, _ in found), default=0)
+        return [f"{name:{width}} {number}" for name, number in found]
+
+
+def add_symbol(names: Names, line: int, words: Sequence[str]) -> None:
+    """Adds the name of a line NAME ADDRESS or NAME = NUMBER, of which these are the words; none if it is a comment."""
+    is_symbol = len(words) == 2 or len(words) == 3 and words[1].upper() in EQUATES
+    value = octal_number(words[-1]) if is_symbol and NAME.fullmatch(words[0]) else None
+    if value is not None and value < CELLS:
+        names.add(words[0], value, len(words) == 2)
+    elif words:
+        raise Failure(f"line {line} (decimal) is neither of a listing nor NAME ADDRESS")

@@ -10,6 +10,7 @@ from ..failure import Failure
 from ..run.forms import CELLS
 
 FARTHEST = 0o77  # from a symbol to a cell that the listing does not fill
+EQUATES = ("=", "EQU")  # before the number of a name that is no label
 EXIT = "X"  # at the end of the name of a subroutine's jump back
 OF_A_PROCESSOR = ("M", "A", "P", "Q")
 WITH_PLACES = ("SET", "DUMP", "WATCH", "UNWATCH")

@@ -48,6 +48,10 @@ class Token(NamedTuple):
         return self.text.startswith(">")
 
     @property
+    def has_digit(self) -> bool:
+        return any(map(str.isdigit, self.text))
+
+    @property
     def end_of_digits(self) -> int:
         return self.start + len(self.text.rstrip("bB"))
 
@@ -256,8 +260,7 @@ def place_of_address(tokens: Sequence[Token], columns: Optional[Columns]) -> int
 def is_in_columns(token: Token, columns: Optional[Columns]) -> bool:
     """Returns whether a token is in the place of an address; without columns each that is almost a number is."""
     if columns:
-        has_digit = any(symbol.isdigit() for symbol in token.text)
-        return has_digit and token.start < (columns.words - 1 if columns.end is None else columns.end)
+        return token.has_digit and token.start < (columns.words - 1 if columns.end is None else columns.end)
     return token.is_load or token.address is not None or ALMOST.fullmatch(token.text) is not None
 
 

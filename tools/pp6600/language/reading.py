@@ -6,28 +6,22 @@ from typing import Dict, List, NamedTuple, Optional, Sequence, Tuple
 
 from ..run.forms import CELLS
 from .listed_words import Told, told_by
-from .names import octal_number
+from .names import EQUATES, octal_number
 from .printed import (
     ADDRESS, SHORT, SUBR, TAB, WITH_WORDS, WORD, Columns, Parts, PrintedSource, Token, guessed, is_note, is_operation, operation_columns,
     parts_of, source_of)
+from .source.directives import BASES
 from .source.machine import CODES, MNEMONICS, size_of
+from .source.messages import Message
 from .source.state import LITERAL, LITERALS, NOMINAL, WORD_BITS
 
 HERE = re.compile(r"\*[LO]?([-+][0-9]+[BDO]?)?")  # an operand that is an address near that of its line
 DUPLICATED = re.compile(r"\bDUPLICATED? LINES?\b", re.I)
-EQUATES = ("EQU", "=")
 LABELLED = ("BSS", "ORG", "LOC", "END", "USE", "BSSZ")  # of the operations without words those whose label is an address
-BASES = {"OCTAL": 8, "DECIMAL": 10, "MIXED": 8}
 BITS = re.compile("(?:^|,)([0-9]{1,2})/")  # of the fields of a VFD
 FULL = 4  # digits of an address before which zeros are printed
-
-
-class Doubt(NamedTuple):
-    """What is not as it must be: the line and the column, counted from 1, and a text."""
-
-    line: int
-    column: int
-    text: str
+Pairs = Tuple[Tuple[str, int], ...]  # of names and numbers
+WITH_ZEROS = re.compile(f">?0[0-7]{{{FULL - 1}}}[bB]?")
 
 
 class Printed(NamedTuple):
@@ -40,22 +34,10 @@ class Printed(NamedTuple):
     address: int = 0
     load: int = 0
     words: Tuple[Optional[str], ...] = ()
-    labels: Tuple[Tuple[str, int], ...] = ()
-    equates: Tuple[Tuple[str, int], ...] = ()
+    labels: Pairs = ()
+    equates: Pairs = ()
     is_passed: bool = False  # over, though it has numbers
     source: str = ""  # the source line in the columns of sources
-
-
-class PrintedStatement(NamedTuple):
-    """A line with an operation that makes words: its number, the column of its first word, its fields, its address, and the words of
-    it and of the lines that go on with it."""
-
-    line: int
-    column: int
-    source: PrintedSource
-    address: int
-    load: int
-    words: List[Optional[str]]
 
 
 class Printout:
@@ -66,11 +48,10 @@ class Printout:
         self.has_gaps = has_gaps
         self.lines = [line.replace("\f", " ").expandtabs(TAB) for line in lines]
         self.columns = columns or guessed([line for line in self.lines if not is_note(line)])
-        self.parts = [parts_of(line, self.columns) for line in self.lines]
-        self.operations = operation_columns(self.parts)
-        self.sources = [source_of(parts, self.operations) for parts in self.parts]
-        addresses = [parts.address.text for parts in self.parts if parts.address and parts.words]
-        self.has_zeros = any(re.fullmatch(f">?0[0-7]{{{FULL - 1}}}[bB]?", text) for text in addresses)
+        all_parts = [parts_of(line, self.columns) for line in self.lines]
+        operations = operation_columns(all_parts)
+        self.fields = [(parts, source_of(parts, operations)) for parts in all_parts]  # of each line
+        self.has_zeros = any(parts.address and parts.words and WITH_ZEROS.fullmatch(parts.address.text) for parts in all_parts)
 
     def read(self) -> "PrintedReading":
         """Returns what the lines say: read a first time for the names, then with these, in that base for their numbers which leaves
@@ -89,31 +70,27 @@ class PrintedReading:
     def __init__(self, printout: Printout, known: Dict[str, Optional[int]], base: int) -> None:
         self.printout, self.known, self.base = printout, known, base
         self.names: Dict[str, Optional[int]] = {}  # None: of several numbers
-        self.doubts: List[Doubt] = []
+        self.doubts: List[Message] = []
         self.entries: List[Printed] = []
-        self.statement: Optional[PrintedStatement] = None  # that goes on with lines that have words alone
+        self.statement: List[Printed] = []  # a line with an operation that makes words, and those that go on with it
         self.origin: Optional[int] = None  # the cell after the last word, if that is known
         self.moved: Optional[int] = 0  # how many cells code for another place is loaded off its addresses; None: the next line says it
-        self.is_located = self.has_ended = self.is_repeated = False
+        self.has_ended = self.is_repeated = False
         self.blocks: Dict[str, Optional[int]] = {}  # of USE: where each goes on
         self.used = [NOMINAL]
         self.end = 0  # the highest address of the nominal block, after which come the literals
         self.start: Optional[int] = None  # that END names
         self.bits = 0  # of the last word that a VFD has filled
-        for number, (line, parts, source) in enumerate(zip(printout.lines, printout.parts, printout.sources), 1):
-            self.number = number
+        for self.number, (line, (parts, source)) in enumerate(zip(printout.lines, printout.fields), 1):
             if not is_note(line):
                 self.entries.append(self.entry(line, parts, source))
                 self.end = max(self.end, self.origin or 0) if self.used[-1] == NOMINAL else self.end
-        self.close()
-
-    def close(self) -> None:
         self.check_statement()
         if self.is_repeated:
             self.doubt(None, "no line says where the duplicated lines end")
 
     def doubt(self, token: Optional[Token], text: str) -> None:
-        self.doubts.append(Doubt(self.number, token.start + 1 if token else 1, text))
+        self.doubts.append(Message(self.number, token.start + 1 if token else 1, text))
 
     # -- one line
 
@@ -123,10 +100,9 @@ class PrintedReading:
         if DUPLICATED.search(line):
             self.is_repeated = True
             return entry
-        is_known = is_operation(source.operation)
         if self.has_ended and not self.is_literal(parts, source):
-            return self.passed(entry, parts, line)
-        if is_known and source.operation not in WITH_WORDS or source.operation == "BSSZ" and not parts.words:
+            return self.passed(entry, line)
+        if is_operation(source.operation) and source.operation not in WITH_WORDS or source.operation == "BSSZ" and not parts.words:
             return self.without_words(entry, parts, source)
         if source.operation == "LIT" and not parts.words:
             numbers = self.values_of(parts)
@@ -144,11 +120,11 @@ class PrintedReading:
     @staticmethod
     def is_coded(parts: Parts, source: PrintedSource) -> bool:
         """Returns whether a line has words, or had some before it was read wrongly."""
-        has_digits = parts.address is not None and any(symbol.isdigit() for symbol in parts.address.text)
-        has_word = any(WORD.fullmatch(token.text) for token in parts.words)
+        is_placed = parts.address is not None and parts.address.has_digit
         if source.operation in WITH_WORDS:
-            return has_digits or any(symbol.isdigit() for token in parts.words for symbol in token.text)
-        return has_digits and (has_word or bool(parts.words) and parts.address is not None and parts.address.address is not None)
+            return is_placed or any(token.has_digit for token in parts.words)
+        has_address = parts.address is not None and parts.address.address is not None
+        return is_placed and any(has_address or WORD.fullmatch(token.text) for token in parts.words)
 
     def coded(self, entry: Printed, parts: Parts, source: PrintedSource) -> Printed:
         """Returns what a line with words says."""
@@ -163,16 +139,16 @@ class PrintedReading:
             self.check_size(parts, source)
         if address is None or load is None:
             return entry
+        entry = entry._replace(address=address, load=load, words=words)
         if source.operation or source.label or not self.statement:
             self.check_statement()
-            column = parts.words[0].start + 1 if parts.words else parts.column + 1
-            self.statement = PrintedStatement(self.number, column, source, address, load, list(words)) if self.is_whole(source) else None
+            self.statement = [entry] if self.is_whole(source) else []
         else:
-            self.statement.words.extend(words)
+            self.statement.append(entry)
         if source.operation != "LIT":
             self.repeat(load, parts.address)
             self.origin = None if None in words else load + len(words)  # of what follows from a doubt nothing is said
-        return self.named(entry._replace(address=address, load=load, words=words), self.labels_at(source, address))
+        return self.named(entry, self.labels_at(source, address))
 
     def is_whole(self, source: PrintedSource) -> bool:
         """Returns whether a statement begins and ends its words: a VFD may go on in the last word of another one."""
@@ -206,6 +182,11 @@ class PrintedReading:
 
     # -- addresses
 
+    @property
+    def location(self) -> Optional[int]:
+        """The address of the next word; None if that is not known."""
+        return None if self.origin is None else self.origin - (self.moved or 0)
+
     def number_of(self, token: Token) -> Optional[int]:
         """Returns an address that a line has; None if it is not readable."""
         found = ADDRESS.fullmatch(token.text)
@@ -219,11 +200,11 @@ class PrintedReading:
         """Returns the address of a line, and that to which its words are loaded; both go on where the line before ends."""
         if not parts.address:
             self.doubt(instead, "words without an address")
-            return None if self.origin is None else self.origin - (self.moved or 0), self.origin
+            return self.location, self.origin
         address = self.number_of(parts.address)
         load = self.number_of(parts.load) if parts.load and parts.load is not parts.address else None
         if address is None:
-            return None if self.origin is None else self.origin - (self.moved or 0), self.origin
+            return self.location, self.origin
         if load is None:
             load = self.load_of(address, parts.address.is_load)
         self.check_order(load, parts.load or parts.address)
@@ -244,12 +225,10 @@ class PrintedReading:
         if self.origin is None or load == self.origin or self.is_repeated:
             return
         to = f"{self.origin:04o} comes after the line before"
-        if load > self.origin and self.printout.has_gaps and not self.printout.parts[self.number - 1].text:
-            return
-        if load > self.origin:
-            self.doubt(token, f"a gap: {to}, and no BSS, ORG, LOC or USE says more")
-        else:
+        if load < self.origin:
             self.doubt(token, f"the address goes back: {to}")
+        elif not self.printout.has_gaps or self.printout.fields[self.number - 1][0].text:
+            self.doubt(token, f"a gap: {to}, and no BSS, ORG, LOC or USE says more")
 
     def repeat(self, load: int, token: Optional[Token]) -> None:
         """Fills the cells of the duplicated lines of a dump with the words of the line before."""
@@ -273,28 +252,24 @@ class PrintedReading:
             self.doubt(parts.flag, f"the line has the error flag {parts.flag.text}")
         if name in EQUATES:
             return self.equate(entry, parts, source, numbers)
-        address = numbers[0] if numbers and name in LABELLED else None
         if name == "BASE":
             self.base = next((base for word, base in BASES.items() if source.operand and word.startswith(source.operand.split()[0])),
                              self.base)
-        elif name in LABELLED:
-            self.check_statement()
-            address = self.counter(parts, source, address)
         elif name == "IDENT":
             self.origin, self.moved, self.has_ended = None, 0, False
+        if name not in LABELLED:
+            return entry
+        self.check_statement()
+        address = self.counter(parts, source, numbers[0] if numbers else None)
         return self.named(entry, self.labels_at(source, address)) if address is not None else entry
 
     def values_of(self, parts: Parts) -> List[int]:
         """Returns the numbers of a line without words."""
-        tokens = [token for token in (parts.address, parts.load, *parts.words) if token]
-        found = []
-        for token in dict.fromkeys(tokens):
-            number = octal_number(token.text.lstrip(">"))
+        found = {token: octal_number(token.text.lstrip(">")) for token in (parts.address, parts.load, *parts.words) if token}
+        for token, number in found.items():
             if number is None:
                 self.doubt(token, f"{token.text} is no octal number")
-            else:
-                found.append(number)
-        return found
+        return [number for number in found.values() if number is not None]
 
     def equate(self, entry: Printed, parts: Parts, source: PrintedSource, numbers: List[int]) -> Printed:
         """Returns what EQU says: the number that is printed, which the operand must have too."""
@@ -306,9 +281,9 @@ class PrintedReading:
                        f"{source.label} is {told:o}, as {source.operand.split()[0]} says, and the line has {number:o}")
         if not 0 <= number < CELLS:
             return entry
-        pair = (source.label, number)
+        pair = ((source.label, number),)
         operand = source.operand.split(None, 1)[:1]
-        return self.named(entry, (pair,)) if operand and HERE.fullmatch(operand[0]) else self.named(entry, (), (pair,))
+        return self.named(entry, pair) if operand and HERE.fullmatch(operand[0]) else self.named(entry, (), pair)
 
     def counter(self, parts: Parts, source: PrintedSource, address: Optional[int]) -> Optional[int]:
         """Performs an operation that moves the counters. Returns the address of its label."""
@@ -335,9 +310,8 @@ class PrintedReading:
 
     def organize(self, parts: Parts, address: Optional[int], value: Optional[int]) -> Optional[int]:
         """Performs ORG, whose line may have its operand or the address before it."""
-        if None not in (address, value) and address not in (value, self.origin):
-            self.doubt(parts.address, f"ORG to {value:04o}, and the line has {address:04o}")
-        self.origin, self.moved, self.is_located = address if value is None else value, 0, False
+        self.check_move("ORG", parts, address, value)
+        self.origin, self.moved = address if value is None else value, 0
         return self.origin
 
     def locate(self, parts: Parts, source: PrintedSource, address: Optional[int], value: Optional[int]) -> Optional[int]:
@@ -346,10 +320,13 @@ class PrintedReading:
             self.check_order(octal_number(parts.load.text[1:]) or 0, parts.load)
         if source.operand[:2].upper() == "*O":
             value = self.origin
-        if None not in (address, value) and address not in (value, self.origin):
-            self.doubt(parts.address, f"LOC to {value:04o}, and the line has {address:04o}")
+        self.check_move("LOC", parts, address, value)
         self.moved = None if value is None or self.origin is None else self.origin - value
         return address if value is None else value
+
+    def check_move(self, name: str, parts: Parts, address: Optional[int], value: Optional[int]) -> None:
+        if address is not None and value is not None and address not in (value, self.origin):
+            self.doubt(parts.address, f"{name} to {value:04o}, and the line has {address:04o}")
 
     def use(self, source: PrintedSource, address: Optional[int]) -> None:
         """Performs USE: each block goes on where it was."""
@@ -365,33 +342,34 @@ class PrintedReading:
         """Fills the cells of a BSSZ without words."""
         load, count = self.origin or 0, max(0, min(count, CELLS))
         if count:
-            self.entries.append(Printed(self.number, "", load - (self.moved or 0), load, ("0000",) * count))
+            self.entries.append(Printed(self.number, "", self.location or 0, load, ("0000",) * count))
         self.origin = load + count
 
     def with_label(self, entry: Printed, parts: Parts, source: PrintedSource, line: str) -> Printed:
         """Returns what a line says that has no words and no operation that is known: a macro, or a label alone."""
         is_line = parts.address is not None and parts.address.address is not None and not parts.words
-        labels: Tuple[Tuple[str, int], ...] = ()
+        labels: Pairs = ()
         if is_line and (source.label or parts.is_aligned and source.operation):
             address, _ = self.places(parts, None)
             labels = self.labels_at(source, address) if address is not None and address < CELLS else ()
-        return self.named(entry, labels) if labels else self.passed(entry, parts, line)
+        return self.named(entry, labels) if labels else self.passed(entry, line)
 
-    def passed(self, entry: Printed, parts: Parts, line: str) -> Printed:
+    def passed(self, entry: Printed, line: str) -> Printed:
         """Returns an entry of a line that says nothing."""
         columns = self.printout.columns
         return entry._replace(is_passed=re.search("[0-9]", line[columns.address:columns.text] if columns else line) is not None)
 
     # -- names and operands
 
-    def labels_at(self, source: PrintedSource, address: int) -> Tuple[Tuple[str, int], ...]:
+    @staticmethod
+    def labels_at(source: PrintedSource, address: int) -> Pairs:
         """Returns the names that a label gives to addresses."""
-        if not source.label:
-            return ()
         name = source.label
-        return ((name, (address + 1) % CELLS), (f"{name}X", address)) if source.operation == SUBR else ((name, address),)
+        if name and source.operation == SUBR:
+            return (name, (address + 1) % CELLS), (f"{name}X", address)
+        return ((name, address),) if name else ()
 
-    def named(self, entry: Printed, labels: Tuple[Tuple[str, int], ...], equates: Tuple[Tuple[str, int], ...] = ()) -> Printed:
+    def named(self, entry: Printed, labels: Pairs, equates: Pairs = ()) -> Printed:
         for name, number in (*labels, *equates):
             is_other = self.names.get(name.upper(), number) != number
             self.names[name.upper()] = None if is_other else number
@@ -399,19 +377,18 @@ class PrintedReading:
 
     def value(self, source: PrintedSource) -> Optional[int]:
         """Returns the number of an operand; None if it has names that are not known."""
-        told = Told(self.known, self.base, self.origin, self.origin and self.origin - (self.moved or 0))
-        return told.number(source.statement)
+        return Told(self.known, self.base, self.origin, self.origin and self.location).number(source.statement)
 
     def check_statement(self) -> None:
         """Compares the words of a statement with what the assembler makes of it."""
-        statement, self.statement = self.statement, None
-        if not statement or not self.known or None in statement.words:
+        statement, self.statement = self.statement, []
+        words = [int(word, 8) for entry in statement for word in entry.words if word]
+        if not statement or not self.known or any(None in entry.words for entry in statement):
             return
-        source, words = statement.source, [int(word or "0", 8) for word in statement.words]
-        told = Told(self.known, self.base, statement.load, statement.address)
-        wanted = told_by(told, source.operation, source.statement, words)
+        first, parts, source = statement[0], *self.printout.fields[statement[0].number - 1]
+        wanted = told_by(Told(self.known, self.base, first.load, first.address), source.operation, source.statement, words)
         if wanted is not None and wanted != words:
             shown = [" ".join(f"{word:04o}" for word in some) for some in (words, wanted)]
-            operand = source.operand.split()[:1] or [""]
-            said = f"{source.operation} {operand[0]}".strip()
-            self.doubts.append(Doubt(statement.line, statement.column, f"the line has {shown[0]}, and {said} makes {shown[1]}"))
+            said = " ".join([source.operation, *source.operand.split()[:1]])
+            column = parts.words[0].start + 1 if parts.words else parts.column + 1
+            self.doubts.append(Message(first.number, column, f"the line has {shown[0]}, and {said} makes {shown[1]}"))
