@@ -71,12 +71,13 @@ class Engine(Protocol):
     def looks(self, places: Sequence[int], most: int) -> Tuple[Sequence[int], int]:
         """Makes turns as `turns` does. Returns the numbers at some places (1 to 16) after each of them, and how many turns they are."""
 
-    def until(self, places: Sequence[int], numbers: Sequence[int], most: int) -> Tuple[int, Sequence[int]]:
-        """Makes turns as `turns` does, but up to the first after which the first of some places do not have these numbers. Returns how many
-        they are, and the numbers at all the places if that turn was made. More turns may have been made and undone."""
+    def until(self, places: Sequence[int], numbers: Sequence[int], most: int, typed: bytes = b"") -> Tuple[int, Sequence[int]]:
+        """Performs lines, then makes turns as `turns` does, but up to the first after which the first of some places do not have these
+        numbers. Returns how many they are, and the numbers at all the places if that turn was made. More turns may have been made and
+        undone."""
 
-    def perform(self, text: str) -> bool:
-        """Performs lines of actions. Returns whether none is rejected."""
+    def perform(self, typed: bytes) -> None:
+        """Performs lines of actions, none of which is rejected."""
 
     def again(self, count: int) -> Records:
         """Performs undone actions again, and returns what each overwrote."""

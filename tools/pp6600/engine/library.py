@@ -232,10 +232,10 @@ class LibraryEngine:
                 self.room.value *= 4
                 self.text = ctypes.create_string_buffer(self.room.value)
 
-    def perform(self, text: str) -> bool:
-        typed = text.encode("latin-1")
+    def perform(self, typed: bytes) -> None:
         self.size.value = len(typed)
-        return self._answer(typed, self.size, self.text, self.room, *self.counted) == DONE and not self.refused.value
+        if self._answer(typed, self.size, self.text, self.room, *self.counted) != DONE or self.refused.value:
+            raise Failure(f"the simulator refuses {typed.decode('latin-1')}")
 
     def numbers(self, first: int, count: int) -> Sequence[int]:
         return self.session.numbers(first, count)
@@ -256,27 +256,30 @@ class LibraryEngine:
         turns = self._look(places, most)
         return array("Q", self.seen[:len(places) * turns].tobytes()), turns
 
-    def until(self, places: Sequence[int], numbers: Sequence[int], most: int) -> Tuple[int, Sequence[int]]:
-        made, width = self._look(places, most), len(places)
-        same = made
+    def until(self, places: Sequence[int], numbers: Sequence[int], most: int, typed: bytes = b"") -> Tuple[int, Sequence[int]]:
+        if typed:
+            self.perform(typed)
+        made = same = self._look(places, most)
+        width, seen = len(places), self.seen
         for at, number in enumerate(numbers):
-            column = self.seen[at:same * width:width].tolist()
+            column = seen[at:same * width:width].tolist()
             alike = column.count(number)
             if alike == same - 1 and column[alike] != number:  # mostly the last one
                 same = alike
             elif alike < same:
                 same = next(turn for turn, one in enumerate(column) if one != number)
-        count = same + (same < made)
-        if count < made:
-            self.back(made - count)
-        return count, self.seen[same * width:count * width].tolist()
+        if same == made:
+            return made, ()
+        if same + 1 < made:
+            self.back(made - same - 1)
+        return same + 1, seen[same * width:same * width + width].tolist()
 
     def _look(self, places: Sequence[int], most: int) -> int:
         """Makes turns. Returns how many; what was seen is in the room for it."""
         if self.looked is not places or most > self.most_seen:
             self._make_room(places, most)
         self.most.value = most
-        status = self._looks(self.most, self.looked_at, self.width, self.seen_at, self.seen_room, self.counted[0])
+        status = self._looks_there()
         if status > WATCHED:
             open_status(status)
             raise Failure("the machine does not have these places")
@@ -285,9 +288,10 @@ class LibraryEngine:
     def _make_room(self, places: Sequence[int], most: int) -> None:
         """Makes room for the numbers at places after so many turns."""
         width = len(places)
-        self.looked, self.most_seen, self.looked_at, self.width = places, most, (c_uint32 * width)(*places), c_size_t(width)
-        self.seen_at, self.seen_room = (c_uint64 * (most * width))(), c_size_t(most * width)
-        self.seen = memoryview(self.seen_at).cast("B").cast("Q")
+        room = (c_uint64 * (most * width))()
+        self.looked, self.most_seen, self.seen = places, most, memoryview(room).cast("B").cast("Q")
+        self._looks_there = functools.partial(self._looks, self.most, byref((c_uint32 * width)(*places)), c_size_t(width), byref(room),
+                                              c_size_t(most * width), self.counted[0])
 
     def back(self, count: int) -> None:
         if not self.session.back(count):

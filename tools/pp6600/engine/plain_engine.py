@@ -6,6 +6,7 @@ import bisect
 from array import array
 from typing import Iterator, List, Sequence, Tuple
 
+from ..failure import Failure
 from . import interface as flat
 from .interface import Counts, Records, Rejection
 from .plain import places
@@ -75,7 +76,8 @@ class PlainEngine:
             found.extend([numbers[place] for place in own])
         return found, len(found) // len(places)
 
-    def until(self, places: Sequence[int], numbers: Sequence[int], most: int) -> Tuple[int, Sequence[int]]:
+    def until(self, places: Sequence[int], numbers: Sequence[int], most: int, typed: bytes = b"") -> Tuple[int, Sequence[int]]:
+        self.perform(typed)
         own, machine = [own_place(place) for place in places], self.machine.numbers
         for made, _ in enumerate(self._made(most), 1):
             if any(machine[place] != number for place, number in zip(own, numbers)):
@@ -91,8 +93,10 @@ class PlainEngine:
             self.is_watched = bool(watches) and self.console.hit(record, watches) is not None
             most -= 1
 
-    def perform(self, text: str) -> bool:
-        return all(answer == "OK" for answer in self.answer(text))
+    def perform(self, typed: bytes) -> None:
+        text = typed.decode("latin-1")
+        if not all(answer == "OK" for answer in self.answer(text)):
+            raise Failure(f"the simulator refuses {text}")
 
     def back(self, count: int) -> None:
         for _ in range(count):

@@ -18,7 +18,7 @@ from .new_turns import NewTurns, value_told
 from .past import Past, name_of
 from .plain_script import PlainScript
 from .session import REPLAYED, Session
-from .tape import Position, UnitCounts, Units
+from .tape import STEP, Position, UnitCounts, Units
 
 COUNTED = re.compile(r"[ \t]*(STEP|BACK|FORWARD)(?:[ \t]+0*([1-7][0-7]{0,6}))?[ \t\r]*", re.I)
 BACK_W = re.compile(r"[ \t]*BACK[ \t]+W[ \t\r]*", re.I)
@@ -130,8 +130,8 @@ class Attached(Session):
             raise Failure(f"a device can't be told {what!r:.60}: it can be changed in place")
         self._recall()
         begin, new = self.position, self._new_turns()
-        new.tell(number, what)
-        self._commit(new)
+        line = new.tell(number, what)
+        self._commit(new, line)
         self.told[Position(begin + 1)] = number, what
         self.plain.go(self.position)
 
@@ -216,11 +216,12 @@ class Attached(Session):
     def _new_turns(self) -> NewTurns:
         return NewTurns(self.engine, self.pasts, self.history.room, self.tape, self.position)
 
-    def _commit(self, new: NewTurns) -> None:
-        """Takes what was made into the tape, in place of what is ahead."""
-        new.flush()
+    def _commit(self, new: NewTurns, line: str = "") -> None:
+        """Takes a line and what was made after it into the tape, in place of what is ahead."""
         self.cut(self.position)
-        self.tape.go_on(new.tape)
+        self.tape.append(line, bool(line))
+        self.tape.append_replies(new.turns, new.replies)
+        self.tape.append(STEP, new.turn - self.tape.turns)
         self.history.went(new.position, self.engine.counts().kept)
         self.plain.stops += new.stops
         for past, (at, values) in zip(self.pasts, new.new):

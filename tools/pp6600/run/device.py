@@ -50,17 +50,12 @@ INACTIVE, EMPTY, NOTHING = Reply("I"), Reply("E"), Reply()
 Answer = Tuple[Any, Reply]  # a new state, and a reply
 
 
+FULL = [Reply("F", word) for word in range(MOST_WORD + 1)]
+
+
 def full(word: int) -> Reply:
     """Returns the reply that puts a word on the channel."""
-    try:
-        return filled(word)
-    except TypeError:  # it can't be kept; the session says what is wrong with it
-        return Reply("F", word)
-
-
-@functools.lru_cache(maxsize=MOST_WORD + 1, typed=True)
-def filled(word: int) -> Reply:
-    return Reply("F", word)
+    return FULL[word] if type(word) is int and 0 <= word <= MOST_WORD else Reply("F", word)  # the session says what is wrong with another
 
 
 class Device:
@@ -157,7 +152,10 @@ def is_value(state: Any) -> bool:
     if kind in PLAIN:
         return True
     if issubclass(kind, (tuple, frozenset)) and not kind.__dictoffset__:
-        return PLAIN.issuperset(map(type, state)) or all(map(is_value, state))
+        for item in state:
+            if type(item) not in PLAIN and not is_value(item):
+                return False
+        return True
     return isinstance(state, enum.Enum)
 
 
@@ -209,28 +207,30 @@ def place_of(error: Exception) -> str:
 def called(device: Device, value: Value, event: Event, now: Channel) -> Tuple[Value, Optional[Reply]]:
     """Returns the value of a device after an event, and its reply if it changes the channel, which is as `now`."""
     kind, _, turn = event
+    before, _, due = value
     try:
-        answer = getattr(device, kind)(value.state, event)
+        answer = getattr(device, kind)(before, event)
     except Exception as error:
         raise failure(device, event, f"fails: {type(error).__name__}: {error}{place_of(error)}") from error
     if not isinstance(answer, tuple) or len(answer) != 2 or not isinstance(answer[1], Reply):
         raise failure(device, event, f"must return a state and a Reply, and returned {answer!r:.60}")
     state, reply = answer
-    if state is not value.state and not is_value(state):
+    if state is not before and not is_value(state):
         raise failure(device, event, f"returned a state that can be changed in place: {state!r:.60}")
     letter, word, wake = reply
-    due = None if kind == "due" else value.due
     if wake is not None:
         if type(wake) is not int or wake < 1:
             raise failure(device, event, f"can't wake after {wake!r:.60} turns")
         due = turn + wake
-    if letter is None:
-        return value_of((state, now, due)), None
+    elif kind == "due":
+        due = None
     if letter == "F" and type(word) is int and 0 <= word <= MOST_WORD:
-        return value_of((state, (FULL_STATE, word), due)), reply
-    if letter not in ("I", "E") or word is not None:
-        raise failure(device, event, f"can't reply {letter} {word!r:.60}: a reply is INACTIVE, EMPTY, or full(word up to 7777 octal)")
-    return value_of((state, (STATES.index(letter), now[1]), due)), reply
+        now = FULL_STATE, word
+    elif letter is not None:
+        if letter not in ("I", "E") or word is not None:
+            raise failure(device, event, f"can't reply {letter} {word!r:.60}: a reply is INACTIVE, EMPTY, or full(word up to 7777 octal)")
+        now = STATES.index(letter), now[1]
+    return value_of((state, now, due)), None if letter is None else reply
 
 
 def failure(device: Device, event: Event, what: str) -> DeviceFailure:

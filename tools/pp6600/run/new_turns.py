@@ -5,6 +5,8 @@ that changed one are undone."""
 
 from __future__ import annotations
 
+import itertools
+import operator
 from typing import Dict, List, Optional, Sequence, Tuple
 
 from ..engine import interface as flat
@@ -17,6 +19,7 @@ from .tape import Action, Position, Tape
 
 MOST_AT_ONCE = 4096  # turns
 MOST_LOOKED = 16  # places
+NOTHING_SEEN: Sequence[int] = ()
 Channels = Sequence[Channel]
 
 
@@ -26,8 +29,9 @@ class NewTurns:
     def __init__(self, engine: Engine, pasts: Sequence[Past], room: int, tape: Tape, position: Position) -> None:
         """The engine keeps so many actions, and is at a position of the tape."""
         self.engine, self.pasts, self.room, self.turn = engine, pasts, min(room, MOST_AT_ONCE), tape.turn(position)
-        self.tape = Tape.after(tape, position)  # what was made, up to a turn
-        self.on_tape, self.others = self.turn, position - self.turn  # the turn, and the actions that are no turns
+        self.others = position - self.turn  # the actions that are no turns
+        self.turns: List[int] = []  # that were made before each reply
+        self.replies: List[Action] = []
         self.stops: List[int] = []  # positions after turns with a HIT
         self.values = [past.value for past in pasts]  # of the devices
         self.new: List[Tuple[List[int], List[Value]]] = [([], []) for _ in pasts]  # those that came, with their positions
@@ -50,7 +54,7 @@ class NewTurns:
         end, hit = self.turn + most, None
         is_new = self._now() != [value.seen for value in self.values]  # after a SET or a DEADSTART there is something to see
         while self.turn < end and hit is None:
-            is_regular = len(self.pasts) == 1 and self.on_tape == self.turn and self.due is None and not (is_new or watched)
+            is_regular = len(self.pasts) == 1 and self.changed == self.turn and self.due is None and not (is_new or watched)
             row = self._regular_words(end) if is_regular else self._turns(1 if is_new else min(self._expected(), end - self.turn))
             hit = self._hit(watched) if watched else None
             if row or is_new or self.due is not None and self.due <= self.turn:
@@ -70,39 +74,42 @@ class NewTurns:
     def _regular_words(self, end: int) -> Sequence[int]:
         """Makes turns and the replies of the one device, as long as a reply comes after as many turns as the one before. Returns the numbers
         looked at if a state changed otherwise."""
-        engine, past, gap, value, turn = self.engine, self.pasts[0], self.gap, self.values[0], self.turn
+        past, gap, value, turn = self.pasts[0], self.gap, self.values[0], self.turn
+        device, until, looked_at, states = past.device, self.engine.until, self.looked, self.states
         values: List[Value] = []
         replies: List[Action] = []
+        typed, row = b"", NOTHING_SEEN
         try:
             while turn < end:
-                count, row = engine.until(self.looked, self.states, gap if turn + gap < end else end - turn)
-                turn += count
+                count, row = until(looked_at, states, gap if turn + gap < end else end - turn, typed)
+                typed, turn = b"", turn + count
                 if count != gap or not row:
-                    return row
-                value, reply = looked(past.device, value, (row[0], row[1]), turn)
-                if reply is None or value.due is not None:
-                    return row  # the device is asked once more
-                action = past.action(reply)
-                if not engine.perform(action.line):
-                    raise Failure(f"the simulator refuses {action.line}")
+                    break
+                state, word = row
+                new, reply = looked(device, value, (state, word), turn)
+                if reply is None or new.due is not None:
+                    break  # the device is asked once more
+                value, row = new, NOTHING_SEEN
+                action, typed = past.action(reply)
                 values.append(value)
                 replies.append(action)
-                self.states[0] = value.seen[0]
+                states[0] = value.seen[0]
         finally:
             self.turn = turn
+            self._perform(typed)
             self._note_words(gap, replies, values)
-        return ()
+        return row
 
     def _note_words(self, gap: int, replies: Sequence[Action], values: Sequence[Value]) -> None:
         """Notes replies that came after so many turns each."""
         if replies:
-            self.tape.append_words(gap, replies)
+            turns = range(self.changed + gap, self.changed + gap * len(replies) + 1, gap)
+            self.turns += turns
+            self.replies += replies
             at, new = self.new[0]
-            at += self.tape.starts[-2 * len(replies) + 1::2]
+            at += map(operator.add, turns, itertools.count(self.others + 1))
             new += values
-            self.values[0] = values[-1]
-            self.on_tape += gap * len(replies)
-            self.changed = self.on_tape
+            self.values[0], self.changed = values[-1], turns[-1]
             self.others += len(replies)
 
     def _expected(self) -> int:
@@ -134,24 +141,25 @@ class NewTurns:
             if new is not value:
                 changed.append((number, new))
                 if reply is not None:
-                    replies.append(past.action(reply))
+                    replies.append(past.action(reply)[0])
         self._note(changed, replies)
 
-    def tell(self, number: int, what: object) -> None:
-        """Tells a device something. It does not look at its channel."""
+    def tell(self, number: int, what: object) -> str:
+        """Tells a device something. It does not look at its channel. Returns the line that the action is."""
         value, reply = value_told(self.pasts[number], self.values[number], what, self._now()[number], self.turn)
         line = f"SET Q 0 {self.engine.numbers(flat.Q, 1)[0]:04o}"
-        self._perform(line)
-        self.tape.append(line)
+        self._perform(line.encode())
         self.others += 1
-        self._note([(number, value)], [] if reply is None else [self.pasts[number].action(reply)])
+        self._note([(number, value)], [] if reply is None else [self.pasts[number].action(reply)[0]])
+        return line
 
     def _note(self, changed: Sequence[Tuple[int, Value]], replies: Sequence[Action]) -> None:
         """Performs replies, and notes what devices are after them."""
         if replies:
-            self._perform("\n".join([line for line, _ in replies]))
+            self._perform("\n".join([line for line, _ in replies]).encode())
             self.others += len(replies)
-            self.flush(replies)
+            self.turns += [self.turn] * len(replies)
+            self.replies += replies
         position, has_dues = self.turn + self.others, self.due is not None
         for number, value in changed:
             at, values = self.new[number]
@@ -163,14 +171,9 @@ class NewTurns:
         if has_dues:
             self._see_dues()
 
-    def _perform(self, lines: str) -> None:
-        if not self.engine.perform(lines):
-            raise Failure(f"the simulator refuses {lines}")
-
-    def flush(self, replies: Sequence[Action] = ()) -> None:
-        """Sees that all turns are on the tape, and replies to the last one."""
-        self.tape.append_replies(self.turn - self.on_tape, replies)
-        self.on_tape = self.turn
+    def _perform(self, typed: bytes) -> None:
+        if typed:
+            self.engine.perform(typed)
 
     def _see_dues(self) -> None:
         """Sees for which turn the first device is due."""

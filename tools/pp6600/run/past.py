@@ -28,7 +28,7 @@ class Past:
         self.at = [0]  # positions
         self.values: List[Optional[Value]] = [self.value]
         self.folded = 0  # so many of the first are not all kept
-        self.replies: Dict[Tuple[Optional[str], Optional[int]], Action] = {}  # by the state and the word
+        self.replies: Dict[Reply, Tuple[Action, bytes]] = {}
 
     def add(self, at: Sequence[int], values: Sequence[Value]) -> None:
         """Adds values. The last one is at hand then."""
@@ -61,11 +61,10 @@ class Past:
         if self.entry >= end:
             self.entry = -1
 
-    def action(self, reply: Reply) -> Action:
-        """Returns the action that a reply is."""
-        state, word, _ = reply
-        action = self.replies.get((state, word))
-        if action is None:
-            line = f"SET H {self.device.channel:02o} {state}{'' if word is None else f' {word:o}'}"
-            action = self.replies[state, word] = Action(ReplyLine(line, name_of(self.device)))
-        return action
+    def action(self, reply: Reply) -> Tuple[Action, bytes]:
+        """Returns the action that a reply is, and its line as the engine takes it."""
+        found = self.replies.get(reply)
+        if found is None:
+            line = f"SET H {self.device.channel:02o} {reply.state}{'' if reply.word is None else f' {reply.word:o}'}"
+            found = self.replies[reply] = Action(ReplyLine(line, name_of(self.device))), line.encode("ascii")
+        return found

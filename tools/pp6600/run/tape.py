@@ -13,9 +13,11 @@ from __future__ import annotations
 
 import bisect
 import functools
+import operator
 import re
-from itertools import chain, repeat
-from typing import Container, Dict, Iterable, Iterator, List, NamedTuple, NewType, Optional, Sequence, Tuple, TypeVar
+from array import array
+from itertools import chain, compress, count, repeat
+from typing import Any, Container, Dict, Iterable, Iterator, List, MutableSequence, NamedTuple, NewType, Optional, Sequence, Tuple, TypeVar
 
 from ..failure import Failure
 from .forms import MOST_TURNS, PROCESSORS
@@ -127,24 +129,23 @@ def pairs(first: Iterable[T], second: Iterable[T]) -> Iterator[T]:
     return chain.from_iterable(zip(first, second))
 
 
+def sums() -> Any:
+    """Returns the beginning of a list of sums, which has no object for each of them."""
+    return array("q", [0])
+
+
 class Tape:
     """The actions of a run. A unit is an action as a user counts them: with the replies of devices after it."""
 
     def __init__(self, actions: Iterable[Action] = ()) -> None:
         self.runs: List[Action] = []
-        self.starts: List[Position] = [Position(0)]  # of each run of actions, and of the end; and the turns and units before them
-        self.turns_before, self.units_before = [0], [0]
+        self.starts: MutableSequence[Position] = sums()  # of each run of actions, and of the end; and the turns and units before them
+        self.turns_before: MutableSequence[int] = sums()
+        self.units_before: MutableSequence[int] = sums()
         self.dead_starts: List[Position] = []  # the positions after them
         self.watches = 0  # how many of them are WATCH or UNWATCH
         for line, times in actions:
             self.append(line, times)
-
-    @classmethod
-    def after(cls, tape: Tape, position: Position) -> Tape:
-        """Returns an empty tape that goes on from a position of another one."""
-        new = cls()
-        new.starts, new.turns_before, new.units_before = [position], [tape.turn(position)], [tape.units(position)]
-        return new
 
     def append(self, line: str, times: int = 1) -> None:
         """Adds an action at the end, so many times."""
@@ -157,40 +158,23 @@ class Tape:
         if not is_turn and not is_reply:
             self._note_kind(self.runs[-1].word)
 
-    def append_replies(self, turns: int, replies: Sequence[Action]) -> None:
-        """Adds turns after which there are replies, or none, and the replies."""
-        if turns:
-            self._add(turns_of(turns), turns, turns)
-        self.runs += replies
-        for _ in replies:
-            self.starts.append(Position(self.starts[-1] + 1))
-            self.turns_before.append(self.turns_before[-1])
-            self.units_before.append(self.units_before[-1])
-
-    def append_words(self, turns: int, replies: Sequence[Action]) -> None:
-        """Adds replies, each after so many turns."""
-        count, start = len(replies), self.starts[-1]
-        ends = range(start + turns, start + count * (turns + 1), turns + 1)  # of the turns, before each reply
-        self.runs += pairs(repeat(turns_of(turns), count), replies)
-        self.starts += map(Position, pairs(ends, range(ends.start + 1, ends.stop + 1, turns + 1)))
-        for sums in (self.turns_before, self.units_before):
-            after = list(range(sums[-1] + turns, sums[-1] + count * turns + 1, turns))
-            sums += pairs(after, after)
+    def append_replies(self, turns: Sequence[int], replies: Sequence[Action]) -> None:
+        """Adds replies, and the turns before each of them: it comes after so many in all."""
+        self.append(STEP, turns[0] - self.turns if turns else 0)
+        gaps = list(map(operator.sub, turns, chain((self.turns,), turns)))
+        ends = list(map(operator.add, turns, count(self.end - self.turns)))  # of the turns before each
+        units = list(map(operator.add, turns, repeat(self.units_before[-1] - self.turns)))
+        is_run = list(pairs(gaps, repeat(True, len(gaps))))  # no turns are none
+        self.runs += compress(pairs(map(turns_of, gaps), replies), is_run)
+        self.starts.extend(compress(pairs(ends, map(operator.add, ends, repeat(1))), is_run))
+        self.turns_before.extend(compress(pairs(turns, turns), is_run))
+        self.units_before.extend(compress(pairs(units, units), is_run))
 
     def _add(self, run: Action, turns: int, units: int) -> None:
         self.runs.append(run)
         self.starts.append(self.starts[-1] + run[1])  # type: ignore[arg-type]
         self.turns_before.append(self.turns_before[-1] + turns)
         self.units_before.append(self.units_before[-1] + units)
-
-    def go_on(self, new: Tape) -> None:
-        """Adds the actions of a tape that goes on from the end of this one."""
-        if new.runs and self.runs and new.runs[0].line == self.runs[-1].line == STEP:
-            new.runs[0] = Action(STEP, self._pop().times + new.runs[0].times)
-        self.runs += new.runs
-        self.starts += new.starts[1:]
-        self.turns_before += new.turns_before[1:]
-        self.units_before += new.units_before[1:]
 
     def _pop(self) -> Action:
         """Removes the last run, and returns it."""
