@@ -1,9 +1,18 @@
 -- What is written of a source.
-use Rattle.std.specs.Prelude.{ℕ, List, [], ◌∷◌, ◌++◌, Option, Some, None, codes, decimal}
-use Rattle.std.specs.List.{flat_map}
+use Rattle.std.specs.Prelude.{ℕ, ◌-◌, List, [], ◌∷◌, ◌++◌, Option, Some, None, codes, decimal, length, replicate, take}
+use Rattle.std.specs.Char.{is_ascii_whitespace}
+use Rattle.std.specs.List.{flat_map, suffix_len}
 use Rattle.pp_arith.specs.Octal.{octal_text}
 use Rattle.pp_assembler.specs.declared.message.Complaint.{Complaint}
 use Rattle.pp_assembler.specs.declared.program.Cell.{Cell}
+
+-- A text with blanks up to a width.
+abbrev pub in_columns : ℕ → List ℕ → List ℕ
+in_columns width text = text ++ replicate (width - length text) 32
+
+-- A line without the blanks at its end.
+unfoldable pub ended : List ℕ → List ℕ
+ended line = take (length line - suffix_len is_ascii_whitespace line) line ++ 10 ∷ []
 
 -- The line of a complaint: its line and its column, decimal, and its text.
 abbrev pub complaint_line : Complaint → List ℕ
