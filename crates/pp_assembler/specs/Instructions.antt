@@ -1,7 +1,12 @@
 -- What an instruction has as operand.
-use Rattle.std.specs.Prelude.{ℕ, ◌==◌, ◌&&◌, ◌||◌, nat_le, if◌then◌else◌}
+use Rattle.std.specs.Prelude.{◌≢◌, ℕ, ◌<◌, ◌==◌, ◌&&◌, ◌||◌, List, Some, nat_le, if◌then◌else◌, slice_get}
 use Rattle.pp_assembler.specs.declared.instructions.Form.{Form}
 use Rattle.pp_assembler.specs.declared.instructions.Form.TheVariants.{Alone, D, Target, Constant, Indexed, Both}
+use Rattle.pp_assembler.specs.declared.instructions.TheConstants.{NAMES}
+
+-- No instruction with a code below this one has the name.
+abbrev pub IsNoneBelow : List ℕ → ℕ → Type 0
+IsNoneBelow name code = (other : ℕ) → other < code → slice_get NAMES other ≢ Some name
 
 -- The form of the instruction with a code, as docs/ASSEMBLER.md has it.
 abbrev pub form : ℕ → Form

@@ -2,5 +2,6 @@ pub mod Cells
 pub mod Instructions
 pub mod Places
 pub mod Rows
+pub mod SourceText
 pub mod Statements
 pub mod Texts

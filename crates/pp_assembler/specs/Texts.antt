@@ -1,9 +1,23 @@
 -- What is written of a source.
-use Rattle.std.specs.Prelude.{ℕ, List, [], ◌∷◌, ◌++◌, Option, Some, None, codes, decimal}
-use Rattle.std.specs.List.{flat_map}
+use Rattle.std.specs.Prelude.{ℕ, ℤ, pos, negsuc, ◌+◌, ◌-◌, ◌&&◌, ◌==◌, nat_le, nat_lt, Bool, if◌then◌else◌, List, [], ◌∷◌, ◌++◌, Option, Some, None, codes, decimal, length, replicate, take, slice_get}
+use Rattle.std.specs.Char.{is_ascii_whitespace}
+use Rattle.std.specs.List.{flat_map, list_any, slice_range, suffix_len}
 use Rattle.pp_arith.specs.Octal.{octal_text}
+use Rattle.pp_assembler.specs.declared.lines.Line.{Line}
 use Rattle.pp_assembler.specs.declared.message.Complaint.{Complaint}
+use Rattle.pp_assembler.specs.declared.pass.Row.{Row}
+use Rattle.pp_assembler.specs.declared.program.Assembly.{Assembly}
 use Rattle.pp_assembler.specs.declared.program.Cell.{Cell}
+use Rattle.pp_assembler.specs.declared.symbols.Definition.{Definition}
+use Rattle.pp_assembler.specs.declared.symbols.Symbol.{Symbol}
+
+-- A text with blanks up to a width.
+abbrev pub in_columns : ℕ → List ℕ → List ℕ
+in_columns width text = text ++ replicate (width - length text) 32
+
+-- A line without the blanks at its end.
+unfoldable pub ended : List ℕ → List ℕ
+ended line = take (length line - suffix_len is_ascii_whitespace line) line ++ 10 ∷ []
 
 -- The line of a complaint: its line and its column, decimal, and its text.
 abbrev pub complaint_line : Complaint → List ℕ
@@ -26,3 +40,57 @@ cell_lines = flat_map cell_line
 abbrev pub start_line : Option ℕ → List ℕ
 start_line None = []
 start_line (Some address) = codes "P " ++ octal_text address 4 ++ 10 ∷ []
+
+-- A number in octal, with zeros up to a width after its sign.
+abbrev pub signed_octal : ℤ → ℕ → List ℕ
+signed_octal (pos number) width = octal_text number width
+signed_octal (negsuc less) width = codes "-" ++ octal_text (less + 1) width
+
+-- What is between two places of a list, or nothing if they are not in it, in this order.
+abbrev pub between : {X : Type 0} → List X → ℕ → ℕ → List X
+between all first end = if nat_le first end && nat_le end (length all) then slice_range all first end else []
+
+-- The words of a row of the listing.
+abbrev pub row_words : Assembly → Row → List ℕ
+row_words made row = between made.words.items row.first row.end
+
+-- The location and the origin of a row.
+abbrev pub addresses : Row → List ℕ
+addresses row = codes " " ++ signed_octal row.location 4 ++ codes " " ++ signed_octal row.origin 4
+
+-- The number of a line, its addresses and its words, if it has words.
+abbrev pub numbers_line : ℕ → Row → List ℕ → List ℕ
+numbers_line number row words = if length words == 0 then []
+    else octal_text number 1 ++ addresses row ++ flat_map (λ word. codes " " ++ octal_text word 4) words ++ 10 ∷ []
+
+-- The line of a row whose line is one of the source.
+abbrev pub numbers_of : Option Line → Row → List ℕ → List ℕ
+numbers_of None row words = []
+numbers_of (Some line) row words = numbers_line line.number row words
+
+abbrev pub row_line : Assembly → Row → List ℕ
+row_line made row = numbers_of (slice_get made.lines.all.items row.statement) row (row_words made row)
+
+-- What is after the last / of a name.
+unfoldable pub unqualified : List ℕ → List ℕ
+unqualified [] = []
+unqualified (symbol ∷ name) = if list_any (λ one. one == 47) (symbol ∷ name) then unqualified name else symbol ∷ name
+
+-- The line of a name that stands for a number, if that is not minus: a cell of the memory, or another number.
+abbrev pub value_line : List ℕ → ℤ → Bool → List ℕ
+value_line name (negsuc less) is_address = []
+value_line name (pos value) is_address =
+    name ++ (if is_address && nat_lt value 0o10000 then codes " " ++ octal_text value 4 else codes " = " ++ octal_text value 1) ++ 10 ∷ []
+
+-- The same of a name that may have no number, or several in turn.
+abbrev pub numbered_line : List ℕ → Option ℤ → Definition → List ℕ
+numbered_line name None definition = []
+numbered_line name (Some value) definition = if definition.is_set then [] else value_line name value definition.is_address
+
+abbrev pub defined_line : List ℕ → Option Definition → List ℕ
+defined_line name None = []
+defined_line name (Some definition) = numbered_line name definition.value definition
+
+-- The line of a name, whose key is in a text, by what it stands for.
+abbrev pub name_line : List ℕ → Symbol → List ℕ
+name_line text symbol = defined_line (unqualified (between text symbol.key.first symbol.key.end)) symbol.seen

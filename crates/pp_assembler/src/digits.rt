@@ -1,18 +1,20 @@
 //! Octal and decimal digits.
 ghost use Rattle.std.specs.Prelude.{◌≡◌, ◌≤◌, ◌++◌, OnOk, decimal};
+ghost use Rattle.pp_assembler.specs.Texts.{signed_octal};
 
-use pp_arith::octal;
+use crate::columns::put_number;
 use std::alloc::{AllocError, Global};
 
 /// Writes an octal number, with zeros up to a width, 1 to 22.
 pub fn put_octal(out: &mut Vec<u8>, number: i64, width: u8) -> Result<(), AllocError>
     requires some { 1 ≤ width }
     requires at_most { width ≤ 22 }
+    ensures { OnOk result (out.new.items ≡ out.old.items ++ signed_octal number width) }
 {
     if number < 0 {
         out.push(b'-')?;
     }
-    out.extend_from_slice(octal(number.unsigned_abs(), width).as_slice())
+    put_number(out, number.unsigned_abs(), width)
 }
 
 /// Writes a decimal number.

@@ -1,6 +1,6 @@
 //! The names of the 64 (decimal) instructions, and what each has as operand.
-ghost use Rattle.std.specs.Prelude.{◌≡◌, ◌<◌, IfSome, Some, slice_get};
-ghost use Rattle.pp_assembler.specs.Instructions.{form, size};
+ghost use Rattle.std.specs.Prelude.{◌≡◌, ◌<◌, IfNone, IfSome, Some, slice_get};
+ghost use Rattle.pp_assembler.specs.Instructions.{IsNoneBelow, form, size};
 
 /// What an instruction has as operand.
 #[derive(Clone, Copy, Debug, PartialEq, Eq)]
@@ -45,6 +45,8 @@ pub fn name_of(code: u8) -> [u8; 3]
 pub fn code_of(name: &[u8]) -> Option<u8>
     ensures at_most { IfSome result (λ code. code < 0o100) }
     ensures named { IfSome result (λ code. slice_get NAMES code ≡ Some name.now) }
+    ensures first { IfSome result (IsNoneBelow name.now) }
+    ensures none { IfNone result (IsNoneBelow name.now 0o100) }
 {
     for code in 0..INSTRUCTIONS {
         if NAMES[code].as_slice() == name {

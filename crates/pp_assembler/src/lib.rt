@@ -3,6 +3,7 @@
 
 mod blocks;
 mod cells;
+mod columns;
 mod conditions;
 mod digits;
 mod directives;

@@ -1,6 +1,7 @@
 //! The statements of a source: its lines, each with those that continue it, and those that SUBR makes.
 ghost use Rattle.std.specs.Prelude.{◌≡◌, IfOk, map};
 ghost use Rattle.pp_assembler.specs.Places.{length_of, line_lengths};
+ghost use Rattle.pp_assembler.specs.Texts.{between};
 
 use crate::fields::{LAST_COLUMN, is_empty, length_without_blanks};
 use crate::message::Field;
@@ -42,7 +43,9 @@ impl Span {
     }
 
     /// Returns the bytes, of all.
-    pub fn of(self, all: &[u8]) -> &[u8] {
+    pub fn of(self, all: &[u8]) -> &[u8]
+        ensures { result.now ≡ between all.now self.first self.end }
+    {
         all.get(self.first..self.end).unwrap_or(b"")
     }
 }
