@@ -222,18 +222,6 @@ class Sessions(PanelCase):
         """Returns what a search must leave as it is."""
         return list(panel.session.sent), panel.session.history.kept, panel.session.state
 
-    def test_saved(self):
-        """What is saved has a note with the options, and performed again it is the same session."""
-        panel, path = self.panel(OVERWRITTEN, *LOADED), self.path("saved")
-        press(panel, f"g106<Enter>tWg100<Enter>tyW:set a 0 0<Enter>y25sw{path}<Enter>")
-        self.assertTrue(panel.session.is_saved())
-        first, *lines = read(path).splitlines()
-        self.assertTrue(first.startswith("* ") and DECK in first, first)
-        self.assertEqual([*OVERWRITTEN.splitlines(), "WATCH M 0 106", "BACK W", "WATCH M 0 100", "BACK W", "set a 0 0", "STEP 25"], lines)
-        again = self.panel(read(path), *LOADED)
-        self.assertEqual(panel.session.log, [entry for entry in again.session.log if not entry[0].startswith("*")])
-        self.assertEqual(("0060", "000000"), tuple(panel.session.state.processors[0].registers[name] for name in "PA"))
-
     def test_no_such_turn(self):
         with self.assertRaisesRegex(Failure, "there is no turn 1301 yet: the last one is 1300"):
             self.panel(OVERWRITTEN, *LOADED, turn=0o1301)
