@@ -21,12 +21,12 @@ import threading
 import time
 
 HERE = os.path.dirname(os.path.abspath(__file__))
-PASSED = re.compile(r"^.*\.\.\. ok\n", re.M)
+PASSED = re.compile(r"^(?:.*\.\.\. )?ok\n", re.M)
 SKIPPED = re.compile(r"\.\.\. skipped (['\"])(.*)\1$", re.M)
-RAN = re.compile(r"^Ran (\d+) tests? in", re.M)
-NOT_PASSED = re.compile(r"(failures|errors|unexpected successes|skipped)=(\d+)")
+FAILED = re.compile(r"\.\.\. (?:FAIL|ERROR)$", re.M)
+NOT_PASSED = re.compile(r"(?:failures|errors|unexpected successes)=(\d+)")  # in the last line
 LONGEST = 1800  # seconds, far more than any module takes on a busy machine
-FIRST = ("test_film_page", "test_film_session", "test_film_walk", "test_sessions", "test_random", "test_install", "test_debug_random")  # they take longest
+FIRST = [f"test_{name}" for name in "film_page film_session film_walk sessions random install debug_random".split()]  # they take longest
 
 
 def modules(names):
@@ -73,33 +73,22 @@ class Module:
         return self.output() + late, status == 0
 
 
-class Counts(collections.Counter):
-    """How many tests passed, failed and were skipped."""
+def counted(output, ended_well=True):
+    """Returns how many tests passed, failed and were skipped, by what a module has written to its end, or so far."""
+    said = sum(map(int, NOT_PASSED.findall(output.rsplit("\n\n", 1)[-1])))
+    failed = max(said, len(FAILED.findall(output)), int(not ended_well))
+    return collections.Counter(passed=len(PASSED.findall(output)), failed=failed, skipped=len(SKIPPED.findall(output)))
 
-    @classmethod
-    def of(cls, output, ended_well):
-        """Returns the counts of a module that has ended."""
-        ran = RAN.search(output)
-        found = dict.fromkeys(("failures", "errors", "unexpected successes", "skipped"), 0)
-        found.update((kind, int(number)) for kind, number in NOT_PASSED.findall(output.rsplit("\n\n", 1)[-1]))
-        skipped = found.pop("skipped")
-        failed = max(sum(found.values()), int(not ended_well))
-        return cls(passed=max(int(ran[1]) - failed - skipped, 0) if ran else 0, failed=failed, skipped=skipped)
 
-    @classmethod
-    def so_far(cls, output):
-        """Returns the counts of a module that runs still."""
-        return cls(passed=len(PASSED.findall(output)), failed=len(re.findall(r"\.\.\. (?:FAIL|ERROR)$", output, re.M)))
-
-    def text(self):
-        return f"{self['passed']} passed, {self['failed']} failed"
+def text_of(counts):
+    return f"{counts['passed']} passed, {counts['failed']} failed"
 
 
 class Run:
     """The modules that run, and the counts of those that have ended."""
 
     def __init__(self):
-        self.counts, self.running, self.lock, self.is_ending = Counts(), {}, threading.Lock(), False
+        self.counts, self.running, self.lock, self.is_ending = collections.Counter(), {}, threading.Lock(), False
 
     def module(self, name):
         """Runs a module, and shows how it ended."""
@@ -112,7 +101,7 @@ class Run:
             if self.is_ending:
                 return
             del self.running[name]
-            counts = Counts.of(output, ended_well)
+            counts = counted(output, ended_well)
             self.counts += counts
             self.show(module, output, counts)
 
@@ -121,14 +110,14 @@ class Run:
         reasons = collections.Counter(reason for _, reason in SKIPPED.findall(output))
         shown = PASSED.sub("", output) if counts["failed"] else "".join(f"skipped {count}: {reason}\n" for reason, count in reasons.items())
         took = time.monotonic() - module.began
-        print(f"{shown}{module.name}: {counts.text()}, {counts['skipped']} skipped in {took:.0f} s", flush=True)
+        print(f"{shown}{module.name}: {text_of(counts)}, {counts['skipped']} skipped in {took:.0f} s", flush=True)
 
     def end(self):
         """Ends all modules, and adds what they have tested so far."""
         with self.lock:
             self.is_ending = True
             for module in self.running.values():
-                self.counts += Counts.so_far(module.output())
+                self.counts += counted(module.output())
                 module.kill(signal.SIGINT)
             time.sleep(0.5)  # to remove their folders
             for module in self.running.values():
@@ -146,11 +135,11 @@ def main():
             future.result()
     except KeyboardInterrupt:
         run.end()
-        print(f"\ntests: interrupted\n{run.counts.text()} so far", flush=True)
+        print(f"\ntests: interrupted\n{text_of(run.counts)} so far", flush=True)
         os._exit(130)
     if run.counts["skipped"]:
         print(f"{run.counts['skipped']} skipped")
-    print(run.counts.text())
+    print(text_of(run.counts))
     return 1 if run.counts["failed"] or not run.counts["passed"] else 0
 
 

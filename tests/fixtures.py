@@ -8,9 +8,6 @@ import subprocess
 from tests.support import EXAMPLES, PYTHON, TOP, blocks, program
 
 DECK, LOADER = (os.path.join(EXAMPLES, "overwritten-loader", name) for name in ("deck", "loader.pp"))
-# A device, and a program for it: FNC 1, then FNC 2, with which it fails.
-COUNTS = f"{os.path.join(TOP, 'tests', 'debug', 'counts.py')}:Counts@11"
-FAILS = "SET M 0 100 7711 1 7711 2 300\nSET P 0 100\nSTEP\n"
 # Each tool with words that are right, and what those without a simulator read.
 WITH_SIMULATOR = {"changes": ["M", "0", "106"], "origin": ["M", "0", "106"], "save": ["0", "0", "1"],
                   "compare": ["--other-panel", "examples/dead-start/panel"], "show": [], "state": [], "talk": [], "trace": [],

@@ -1,11 +1,13 @@
 """Makes random programs and sessions. A session follows from its seed and its profile alone."""
 
 import dataclasses
+import os
 import random
 import shlex
+import tempfile
 
 from tests.cases import Stored, blocks
-from tests import support as _  # it finds the package
+from tests.support import write
 
 from pp6600.engine.plain.lines import FORMS, PlainConsole
 from pp6600.engine.plain.instructions import TWO_WORDS
@@ -325,18 +327,9 @@ class Maker:
         return text.encode('latin-1')
 
 
-def commands(session):
-    """Returns commands for the shell that repeat a session."""
-    found = []
+def kept(session):
+    """Writes the files of a session into a new folder, which stays, and returns the command that repeats it there."""
+    folder = tempfile.mkdtemp(prefix='pp6600-differs-')
     for name, data in session.all_files().items():
-        if name in session.words + ['script']:
-            lines = [f"    '{quoted(line)}' \\\n" for line in data.splitlines(keepends=True)]
-            found.append(f"printf '%b' \\\n{''.join(lines)}    >{name}")
-    words = shlex.join(['pp6600', *session.words])
-    return '\n'.join([*found, f'{words} <{session.standard_input}' + ' >/dev/full' * session.output_fails])
-
-
-def quoted(data):
-    """Returns bytes as %b of printf reads them between single quotes."""
-    return ''.join('\\n' if byte == 10 else chr(byte) if 32 <= byte < 127 and byte not in b"\\'" else f'\\0{byte:03o}'
-                   for byte in data)
+        write(os.path.join(folder, name), data)
+    return f"cd {folder}; {shlex.join(['pp6600', *session.words])} <{session.standard_input}{' >/dev/full' * session.output_fails}"

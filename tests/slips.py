@@ -8,6 +8,7 @@ ones. It takes some minutes. That all are found says that docs/evaluate reads th
 found: some sessions were chosen for these.
 """
 
+import concurrent.futures
 import gc
 import itertools
 import os
@@ -50,24 +51,14 @@ def slips():
 
 def deep(task):
     """Returns what a task returns that may call itself very often."""
-    limit, found = sys.getrecursionlimit(), []
-
-    def caught():
-        try:
-            found.append((task(), None))
-        except Exception as fault:  # pylint: disable=broad-except
-            found.append((None, fault))
+    limit, size = sys.getrecursionlimit(), threading.stack_size(STACK)
     sys.setrecursionlimit(10 ** 8)
-    threading.stack_size(STACK)
-    thread = threading.Thread(target=caught)
-    thread.start()
-    thread.join()
-    threading.stack_size(0)
-    sys.setrecursionlimit(limit)
-    value, fault = found[0]
-    if fault:
-        raise fault
-    return value
+    try:
+        with concurrent.futures.ThreadPoolExecutor(1) as pool:
+            return pool.submit(task).result()
+    finally:
+        threading.stack_size(size)
+        sys.setrecursionlimit(limit)
 
 
 def random_cases(most_turns):

@@ -3,34 +3,27 @@
 Each number that is stored has a record of its write: the place, what wrote it and in which turn, and the records of the numbers that
 it was computed from, which the arithmetic of that simulator itself hands on."""
 
-import bisect
 import operator
 
 from tests import support as _  # it finds the package
 
+from pp6600.engine.interface import place_at, place_number
 from pp6600.engine.plain import devices, instructions, machine as machines, places
-from pp6600.engine.plain.places import CELLS, C, FRAME, H, PAPER
+from pp6600.engine.plain.places import C, H
+from pp6600.engine.plain_engine import flat_place, own_place
 
 TURNS = -1  # a place for the number of turns, which steps back and forward with the others
-# The names of places, by the first of each kind.
-KINDS = {TURNS: "turns", places.M: "M", places.P: "P", H: "H", places.A: "A", places.Q: "Q", places.PHASE: "phase",
-         places.STATE: "state", FRAME: "frame", places.SLOT: "slot", places.WATCHES: "watches", places.CARD: "card",
-         places.CARD_COLUMN: "card column",
-         places.READER_MODE: "reader mode", places.PAPER_LENGTH: "paper length", places.PAPER_COLUMN: "paper column",
-         places.PRINTER_MODE: "printer mode", PAPER: "paper", C: "C"}
-FIRSTS = sorted(KINDS)
 
 
 def name_of(place):
     """Returns the name of a place: its kind and its numbers."""
-    first = FIRSTS[bisect.bisect_right(FIRSTS, int(place)) - 1]
-    return (KINDS[first], *(divmod(int(place), CELLS) if KINDS[first] == "M" else (int(place) - first,)))
+    kind, numbers = place_at(flat_place(int(place))) if place != TURNS else ("TURNS", ())
+    return (kind, *numbers)
 
 
 def place_of(name):
     """Returns the place with a name."""
-    first = next(first for first, kind in KINDS.items() if kind == name[0])
-    return first + (name[1] * CELLS + name[2] if name[0] == "M" else name[1])
+    return own_place(place_number(name[0], name[1:]))
 
 
 class Number(int):
@@ -116,7 +109,7 @@ class Machine(machines.Machine):
 
     def named(self):
         """Returns the numbers that were written by the names of their places."""
-        return {name_of(place): number for place, number in self.numbers.items()}
+        return {name_of(place): number for place, number in self.numbers.items() if isinstance(number, Number)}
 
     def writes_of(self, step):
         numbers = self.numbers
@@ -143,7 +136,7 @@ class Machine(machines.Machine):
             details = device
         elif step is machines.barrel:
             sources = frozenset()
-        if name_of(place)[0] == "paper":
+        if name_of(place)[0] == "LP":
             sources = self.numbers[H + self.printer].sources
         return Number(number, {(Record(name_of(place), cause, turn, int(number), sources, **details), None, None)})
 

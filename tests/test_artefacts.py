@@ -121,14 +121,6 @@ class Programs(Artefacts):
             if case.how and case.how[0] != "file-size-limit":  # which is the launcher's to handle
                 with self.subTest(case.name):
                     CaseTests.check(self, case, path)
-        with self.subTest("the reader of the answers has ended"):
-            reader, writer = os.pipe()
-            os.close(reader)
-            done = subprocess.run([path], input=b"STEP\n", stdout=writer, stderr=subprocess.PIPE, timeout=PATIENCE, check=False)
-            os.close(writer)
-            self.assertEqual((b"pp6600: WRITE FAILED\n", 3), (done.stderr, done.returncode))
-        with self.subTest("a long word"):
-            self.assertEqual((b"", b"pp6600: CANNOT OPEN SCRIPT\n", 2), outcome(Stored("", ["a" * 20000], b"", {}), path))
 
     def test_static(self):
         self.check("pp6600-static")

@@ -2,6 +2,7 @@
 others are worked by hand; tests/programs has programs, and files of cases. The tool's forms are in tests/sessions/assemble.txt."""
 
 import glob
+import itertools
 import os
 import random
 import re
@@ -205,15 +206,13 @@ class Sources(Case):
     """The program of each script as a source beside it."""
 
     @staticmethod
-    def cells_set(path, processor):
-        """Returns the cells of a processor that the lines of a script set before its first turn."""
+    def programs(path):
+        """Returns the cells that a script sets before its first turn, by their addresses, for each processor that has some."""
         cells = {}
-        for line in read(path).splitlines():
-            words = line.split()
-            if words[:1] == ["STEP"]:
-                break
-            if words[:3] == ["SET", "M", f"{processor:o}"]:
-                cells.update(enumerate((int(word, 8) for word in words[4:]), int(words[3], 8)))
+        for line in itertools.takewhile(lambda line: not line.startswith("STEP"), read(path).splitlines()):
+            if line.startswith("SET M "):
+                number, first, *words = line.split()[2:]
+                cells.setdefault(number, {}).update(enumerate((int(word, 8) for word in words), int(first, 8)))
         return cells
 
     @staticmethod
@@ -221,31 +220,23 @@ class Sources(Case):
         """Returns the words of a panel or of a deck."""
         return [int(word, 8) for line in lines for word in line.partition("*")[0].split()]
 
-    def processors(self, path):
-        """Returns the processors that have the words of a source in a script beside it; a panel or a deck is -1."""
-        found, folder = assembled(read(path).splitlines()), os.path.dirname(path)
-        self.assertEqual([], found.messages, path)
-        there = os.listdir(os.path.join(TOP, folder))
-        scripts = [os.path.join(folder, name) for name in ("script", "stdin") if name in there]
-        cells = {address: cell.word for address, cell in found.cells.items()}
-        numbers = {number for script in scripts for number in range(10) if self.cells_set(script, number) == cells}
-        is_words = any(name in there and self.words_of(read(folder, name).splitlines()) == self.words_of(lines_of(found, name, 0))
-                       for name in ("deck", "panel") if not numbers)
-        return numbers or ({-1} if is_words else set())
-
     def test_words(self):
-        """Each source has the words of a script, a panel or a deck, and each program of a script has a source."""
-        sources = {}
+        """Each source has the words of a script, a panel or a deck beside it, and each program of a script has a source."""
+        processors = {}  # of each source
         for path in sorted(glob.glob(f"{TOP}/ex*/**/*.pp", recursive=True)):
-            path = os.path.relpath(path, TOP)
-            sources[path] = self.processors(path)
-            self.assertNotEqual(set(), sources[path], path)
-        self.assertGreater(len(sources), 20)
+            found, there = assembled(read(path).splitlines()), os.listdir(os.path.dirname(path))
+            beside = {name: os.path.join(os.path.dirname(path), name) for name in there}
+            cells = {address: cell.word for address, cell in found.cells.items()}
+            programs = [one for name in ("script", "stdin") if name in there for one in self.programs(beside[name]).items()]
+            processors[path] = {number for number, own in programs if own == cells}
+            self.assertEqual([], found.messages, path)
+            self.assertTrue(processors[path] or any(
+                self.words_of(read(beside[name]).splitlines()) == self.words_of(lines_of(found, name, 0))
+                for name in ("deck", "panel") if name in there), path)
+        self.assertGreater(len(processors), 20)
         for path in sorted(glob.glob(f"{TOP}/ex*/*/script")):
-            folder = os.path.relpath(os.path.dirname(path), TOP)
-            numbers = {number for number in range(10) if self.cells_set(path, number)}
-            found = set().union(*(own for name, own in sources.items() if name.startswith(f"{folder}/")))
-            self.assertLessEqual(numbers, found, path)
+            below = [own for name, own in processors.items() if name.startswith(f"{os.path.dirname(path)}/")]
+            self.assertLessEqual(set(self.programs(path)), set().union(*below), path)
 
     def test_solutions(self):
         """A program that is a source solves its exercise, as words do."""

@@ -15,7 +15,6 @@ from pp6600.front.debug.debugged import MachineWithDevices
 from pp6600.front.debug.running import Runner
 from pp6600.run.device import Chain, Reply, chain_of, is_value
 from pp6600.run.tape import ReplyLine
-from pp6600.devices.paper_tape import PaperTape
 
 SEED, COUNT = map(int, os.environ.get("PP6600_DEVICES", "0:4").split(":"))
 
@@ -125,19 +124,9 @@ class Refusals(Case):
             self.assertEqual(["OK"], session.act(line))
         return session
 
-    def test_channels(self):
-        def device(channel):
-            return PaperTape(b"", channel)
-
-        rows = (
-            ([device(1), device(1)], "PaperTape can't be on channel 1: PaperTape, another device, is on it"),
-            ([device(5)], "PaperTape can't be on channel 5: the card reader is on it"),
-            ([device(6)], "PaperTape can't be on channel 6: the printer is on it"),
-            ([device(0o14)], "PaperTape can't be on channel 12: there are the channels 0 to 13, octal"), ([1], "1 is not a Device"))
-        for devices, message in rows:
-            with self.subTest(message), self.assertRaises(Failure) as caught:
-                self.begun(*devices)
-            self.assertEqual(message, str(caught.exception))
+    def test_what_is_no_device(self):
+        with self.assertRaisesRegex(Failure, "^1 is not a Device$"):
+            self.begun(1)
 
     def test_a_session_without_a_device(self):
         session = self.begun()
@@ -202,33 +191,3 @@ class Told(Case):
             session.act("BACK 1")
             self.assertEqual(list(range(0o50 - count)), [event.word for event in session.state()])
         self.assertEqual(["ERR 07 TOO FEW KEPT"], session.act("BACK 2"))
-
-
-class Paper(Case):
-    def test_back_w_goes_to_before_the_whole_unit(self):
-        session = Attached([program()], [PaperTape(b"AB")])
-        self.addCleanup(session.close)
-        # FNC 1, then ACN, after which the tape puts A on the channel: the reply changes the register, and not the turn
-        for line, *wanted in (("SET M 0 100 7711 1 7411 300", "OK"), ("SET P 0 100", "OK"), ("WATCH H 11", "OK"),
-                              ("STEP 200", "TURNS 1 SLOT 01", "HIT H 11 0000 0001"),
-                              ("STEP 200", "TURNS 12 SLOT 01", "HIT H 11 0001 0101"), ("BACK W", "BACK 1 SLOT 00"),
-                              ("STEP", "TURNS 1 SLOT 01", "HIT H 11 0001 0101"), ("BACK 13", "BACK 13 SLOT 00"),
-                              ("FORWARD 13", "FORWARD 13 SLOT 01"), ("DUMP W", "W H 11")):
-            self.assertEqual(wanted, session.act(line), line)
-        self.assertEqual(1, session.state().place)
-
-    def test_read_rewind_and_punch(self):
-        session = Attached([program()], [PaperTape(b"AB")])
-        self.addCleanup(session.close)
-        # FNC 1, ACN, IAN to 0300 and 0301; FNC 3; FNC 2, ACN, OAN 0300, OAN 0301, FJM to itself, DCN, UJN 0
-        for line in ("SET M 0 100 7711 1 7411 7011 5400 300 7011 5400", "SET M 0 110 301 1400 7711 3 7711 2 7411 5000",
-                     "SET M 0 120 300 7211 5000 301 7211 6611 125 7511", "SET M 0 130 300", "SET P 0 100"):
-            self.assertEqual(["OK"], session.act(line))
-        session.act("STEP 1000")
-        tape = session.devices[0]
-        self.assertEqual(["0300 0101 0102"], session.act("DUMP M 0 300 301"))
-        self.assertEqual((b"AB", 0), (tape.output(session.state()), session.state().place))
-        session.act("BACK 1000")
-        self.assertEqual(PaperTape.start, session.state())
-        session.act("FORWARD 1000")
-        self.assertEqual(b"AB", tape.output(session.state()))

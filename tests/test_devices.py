@@ -5,7 +5,6 @@ import random
 import re
 
 from tests.cases import blocks
-from tests.films import PageCase
 from tests.support import EXAMPLES, PYTHON, Case, add_tests, program, read, run, tool, write
 
 from pp6600 import Attached, Console, Failure
@@ -96,7 +95,7 @@ class Blocks(DeviceCase):
         ring = "ring" if records.endswith("ring") else ""
         return {"card_reader": lambda: CardReader(records_of(records), channel=0o5), "line_printer": lambda: LinePrinter(channel=0o5),
                 "magnetic_tape": lambda: MagneticTape(records_of(records.removesuffix("ring").strip()), ring),
-                "console_display": ConsoleDisplay}[kind]()
+                "console_display": lambda: ConsoleDisplay(*records.split()), "paper_tape": lambda: PaperTape(records.encode(), 0o5)}[kind]()
 
     def check_step(self, number, step, wanted):
         """Checks the status after a step, and the words that were read and how many of 100 IAM left."""
@@ -138,6 +137,7 @@ LOOKS = {
     "printed": lambda session, _: session.devices[0].output(session.state()).replace("\f", "\\f").replace("\n", "\\n"),
     "tape": lambda session, _: ", ".join(" ".join(f"{word:o}" for word in block) or "mark" for block in session.devices[0].blocks(session.state())),
     "left": lambda session, _: marks_on(session, 0), "right": lambda session, _: marks_on(session, 1),
+    "punched": lambda session, _: session.devices[0].output(session.state()).decode(), "place": lambda session, _: f"{session.state().place:o}",
     "keys": lambda session, _: session.state().keys, "waits": lambda session, _: f"at {session.registers(0)['P']}",
     "channel": lambda session, text: f"{text.split()[0]} {session.channel(int(text.split()[0], 8))}"[:len(text)]}
 add_tests(Blocks, Blocks.check, blocks("devices.txt")[1])
@@ -178,20 +178,6 @@ class TapeFiles(Case):
         self.assertEqual(self.BLOCKS, read_tape(self.file(data)))
         self.assertEqual([], read_tape(self.file(b"")))
 
-    def test_wrong_files(self):
-        for data, message in (
-                ("03", "it is cut off, for it has 1 bytes, and a number at byte 0"),
-                ("03000000 29cbb8 00 03", "it is cut off, for it has 9 bytes, and a number at byte 8"),
-                ("03000000 29", "it is cut off, for it has 5 bytes, and a number at byte 8"),
-                ("00000000 03000000 29cbb8 00 02000000", "the record at byte 4 has 3 bytes, and after them another number"),
-                ("03000080 29cbb8 00 03000080", "at byte 0 it has 80000003 (hexadecimal), which begins no record that can be read"),
-                ("01000000 2900 01000000", "the record at byte 0 has 1 bytes, which are no words of 12 bits, two in three bytes"),
-                ("02000000 29c1 02000000", "the record at byte 0 has 2 bytes, which are no words of 12 bits, two in three bytes")):
-            path = self.file(bytes.fromhex(data))
-            with self.subTest(data), self.assertRaises(Failure) as caught:
-                MagneticTape(path)
-            self.assertEqual(f"{path} is no tape file: {message}", str(caught.exception))
-
     def test_a_tape_is_saved_into_a_new_file_and_its_own_is_only_read(self):
         first, second = self.file(self.BYTES), self.path("new")
         tape = MagneticTape(first, "ring")
@@ -219,15 +205,6 @@ class Displays(DeviceCase):
         symbols = {mark.x // 8: mark.symbol for mark in session.devices[0].picture(session.state()).screens[0]}
         wanted = dict(enumerate("ABCDEFGHIJKLMNOPQRSTUVWXYZ0123456789+-*/()", 1))
         self.assertEqual({**wanted, 0o54: "=", 0o56: ",", 0o57: "."}, symbols)
-
-    def test_fading(self):
-        """What is drawn is dark after so many turns."""
-        session = self.begun(ConsoleDisplay("100"), SHOW.format("7000", 1), ["SET M 0 2000 1411", "STEP 1000"])
-        self.assertEqual("", marks_on(session, 0))
-        self.ask(session, "BACK 700")
-        self.assertEqual("L 10 0 0, I 10 10 0", marks_on(session, 0))
-        for fading in (0, "0"):
-            self.assertRaises(Failure, ConsoleDisplay, fading)
 
     def test_what_is_drawn_again_and_again(self):
         """It is kept once: nothing that is seen is lost."""
@@ -356,17 +333,6 @@ class Films(Case):
 
     def test_without_a_picture(self):
         self.assertEqual({}, pictures_of([program()], [PaperTape()], []))
-
-
-class Page(PageCase):
-    def test_the_picture_of_the_moment(self):
-        """L and I at turn 76, F and T too at turn 110, and none at turn 1: FNC, ACN, LDN, OAM, four words in turns of PP 00."""
-        path = self.film("--device", "console_display@10", script="SET M 0 100 7710 7002 7410 1404 7310 110 300\n"
-                         "SET M 0 110 6000 7400 1411 624\nSET P 0 100\nSTEP 200\n")
-        for turn, count in (("1", 0), ("200", 4), ("76", 2), ("110", 4), ("1", 0)):
-            self.browser.open(path, f"#turn={turn}")
-            self.assertEqual(count, self.value("document.querySelectorAll('#pictures path').length"), turn)
-        self.assertEqual("ConsoleDisplay on channel 10", self.value("document.querySelector('#pictures figcaption').textContent"))
 
 
 class Options(Case):

@@ -2,7 +2,6 @@
 the program does, tests/test_artefacts.py tries."""
 
 import os
-import random
 import shutil
 import subprocess
 import unittest
@@ -36,45 +35,32 @@ class LibraryCase(Case):
 class Machines(LibraryCase):
     """Random machines."""
 
-    def test_what_turns_overwrote_leads_back(self):
-        """Put back, the numbers of the last turn first, they give the machine as it was; undone they are the same."""
+    def test_what_actions_overwrote(self):
+        """Put back, the numbers of the last one first, it gives the machine as it was, and so does to undo them; performed again they overwrite
+        the same."""
         for seed in range(60):
-            session, kinds = self.open(history=500, central=32768), (BUSY, WATCHING)
-            session.answer("\n".join(Maker(seed, kinds[seed % 2]).script()).encode())
+            session = self.open(history=500, central=32768)
+            session.answer("\n".join(Maker(seed, (BUSY, WATCHING)[seed % 2]).script()).encode())
             session.answer(b"DEADSTART\n" * (seed % 3 == 0))
             before, slot = session.numbers(0, PLACES), session.numbers(106583, 1)[0]
             moments, _ = session.turns(200)
-            now = session.numbers(0, PLACES)
-            for moment in reversed(moments):
+            olds = [(place, session.numbers(place, 1)[0]) for place in (8192 + 4095, 8192)]
+            self.assertEqual(session.answer(b"SET M 2 7777 1 2\n").refused, 0)
+            actions = [*moments, library.Moment(10, olds)]
+            now, half = session.numbers(0, PLACES), len(actions) // 2
+            after = list(now), session.counts()
+            for moment in reversed(actions):
                 for place, number in reversed(moment.olds):
                     now[place] = number
             with self.subTest(seed=seed):
                 self.assertEqual(now, before)
                 self.assertEqual([moment.processor for moment in moments], [(slot + turn) % 10 for turn in range(len(moments))])
                 self.assertLessEqual(max(len(moment.olds) for moment in moments), 44)
-                self.assertTrue(session.back(len(moments)))
+                self.assertTrue(session.back(len(actions)))
                 self.assertEqual(session.numbers(0, PLACES), before)
-            session.close()
-
-    def test_actions_performed_again_overwrite_the_same(self):
-        """Turns undone are performed again as they were, and an operator's action too; the session is as FORWARD leaves it."""
-        for seed in range(40):
-            session, kinds = self.open(history=500, central=32768), (BUSY, WATCHING)
-            session.answer("\n".join(Maker(seed, kinds[seed % 2]).script()).encode())
-            moments = []
-            for line, places in ((b"SET A 3 1", [40963]), (b"SET M 2 7777 1 2", [8192 + 4095, 8192]), (b"SET C 5 6", [106592 + 5])):
-                moments += session.turns(20 + seed)[0]
-                olds = [(place, session.numbers(place, 1)[0]) for place in places]
-                self.assertEqual(session.answer(line + b"\n").refused, 0)
-                moments.append(library.Moment(10, olds))
-            after, counts = session.numbers(0, PLACES), session.counts()
-            with self.subTest(seed=seed):
-                self.assertTrue(session.back(len(moments)))
-                self.assertIsNone(session.again(len(moments) + 1))
-                self.assertEqual(session.counts().ahead, len(moments))
-                half = len(moments) // 2
-                self.assertEqual(session.again(half) + session.again(0) + session.again(len(moments) - half), moments)
-                self.assertEqual((session.numbers(0, PLACES), session.counts()), (after, counts))
+                self.assertIsNone(session.again(len(actions) + 1))
+                self.assertEqual(session.again(half) + session.again(0) + session.again(len(actions) - half), actions)
+                self.assertEqual((session.numbers(0, PLACES), session.counts()), after)
             session.close()
 
     def test_a_dead_start_performed_again(self):
@@ -86,21 +72,6 @@ class Machines(LibraryCase):
         self.assertEqual((start.processor, len(start.olds)), (10, library.MOST_OLDS))
         self.assertEqual(start.olds, [(place, before[place]) for place, _ in start.olds])
         self.assertEqual(session.again(1)[0].processor, 0)
-
-    def test_looks_are_the_numbers_after_each_turn(self):
-        for seed in range(20):
-            script = "\n".join(Maker(seed, WATCHING).script()).encode()
-            chosen = random.Random(seed).sample(range(PLACES), 8) + [40960, 40970, 106583]
-            looking, turning = self.open(central=32768), self.open(central=32768)
-            looking.answer(script)
-            turning.answer(script)
-            rows, watched = looking.looks(100, chosen)
-            for row in rows:
-                moments, hit = turning.turns(1)
-                self.assertEqual(len(moments), 1)
-                self.assertEqual(row, [turning.numbers(place, 1)[0] for place in chosen])
-            self.assertEqual(watched, hit)
-            self.assertEqual(looking.counts(), turning.counts())
 
 
 class WrongHands(LibraryCase):

@@ -17,16 +17,15 @@ from pp6600.engine.plain.devices import READING
 from pp6600.engine.plain.places import PAPER_LENGTH
 from pp6600.engine.plain.program import console_of, read_words
 
-KINDS = {"frame": "XP", "paper": "LP"}  # places that have another name
 LINE = re.compile(r' *(M [0-7]+ [0-7]+|\w+ [0-7]+) (?:([0-7]+)|"."|LINE END|\.\.)(?: TURN ([0-7]+))? (.*?)(?:, NOW [0-7]+)?$')
 TIMES = re.compile(r" ([0-7]+) TIMES SINCE TURN ([0-7]+)")
-ADDRESS = {"M": "M {:02o} {:04o}", "C": "C {:06o}", "paper": "LP {:06o}"}
+ADDRESS = {"M": "M {:02o} {:04o}", "C": "C {:06o}", "LP": "LP {:06o}"}
 
 
 def name_of(place):
     """Returns the name of a place, as the tool writes it."""
     kind, *numbers = place
-    return ADDRESS.get(kind, f"{KINDS.get(kind, kind)} {{:02o}}").format(*numbers)
+    return ADDRESS.get(kind, f"{kind} {{:02o}}").format(*numbers, 0)
 
 
 def cause_of(record):
@@ -44,17 +43,17 @@ def cause_of(record):
 
 def sources_of(record, parts):
     """Yields the writes that a write has its number from, each with the parts of its word that are wanted, or None for all."""
-    if record.place == ("frame", 0) and parts:
+    if record.place == ("XP", 0) and parts:
         parts = tuple(part for part in parts if part != 4)  # the exchange clears the B field
     for source, part, became in record.sources:
         if became is not None and parts is not None and became not in parts or parts == ():
             continue
         of_source = None
-        if source.place[0] in ("C", "frame"):
-            is_word = record.place[0] in ("C", "frame")
+        if source.place[0] in ("C", "XP"):
+            is_word = record.place[0] in ("C", "XP")
             whole = (0, 1) if record.details.get("code") == 0o27 else parts if is_word else None
             of_source = whole if part is None else (part,)
-        yield source, (0, 1, 2, 3) if record.place == ("frame", 0) and of_source is None else of_source
+        yield source, (0, 1, 2, 3) if record.place == ("XP", 0) and of_source is None else of_source
 
 
 def writes_behind(record):
@@ -95,7 +94,7 @@ class Origins(Case):
         of_turns, others = {}, [("M", 3, 0o7000), ("Q", 5)]
         for place, number in machine.named().items():
             kind = place[0]
-            if kind in ("M", "A", "P", "Q", "C", "H", "frame") or kind == "paper" and place[1] < machine.numbers[PAPER_LENGTH]:
+            if kind in ("M", "A", "P", "Q", "C", "H", "XP") or kind == "LP" and place[1] < machine.numbers[PAPER_LENGTH]:
                 if number.record.cause != "line":
                     of_turns.setdefault(place[0], []).append(place)
                 else:

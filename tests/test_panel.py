@@ -5,13 +5,11 @@ import os
 import re
 import sys
 
-from tests.fixtures import BLOCKS_GO_ON, COMPLETES, COUNTS, DECK, FAILS, LOADER
-from tests.panels import BLOCKS, DISPLAYS, FIRST_PROGRAM, OVERWRITTEN, READS, BlockCase, PanelCase, bottom, press
-from tests.support import EXAMPLES, TOP, Case, add_tests, blocks, program, read, run, tool
+from tests.fixtures import BLOCKS_GO_ON, COMPLETES, DECK, LOADER
+from tests.panels import BLOCKS, FIRST_PROGRAM, OVERWRITTEN, BlockCase, PanelCase, bottom, press
+from tests.support import EXAMPLES, TOP, Case, add_tests, blocks, read, run, tool
 
 from pp6600 import Console, Failure
-from pp6600.devices.console_display import ConsoleDisplay
-from pp6600.devices.paper_tape import PaperTape
 from pp6600.engine.plain import places
 from pp6600.engine.plain.lines import SYMBOLS
 from pp6600.front import keys
@@ -19,7 +17,6 @@ from pp6600.front.panel.screen import ScreenContent, layout, screen, small_scree
 from pp6600.front.panel.text import CHANGED, CURSOR, HERE, OVERWRITTEN as OVER, REFUSED
 from pp6600.front.panel.view import View, memory_top
 from pp6600.run.state import state_of
-from pp6600.shell.device_options import device_of
 
 LOADED = "--deck", DECK
 PROGRAMS = os.path.join(TOP, "tests", "programs")
@@ -225,27 +222,9 @@ class Sessions(PanelCase):
         """Returns what a search must leave as it is."""
         return list(panel.session.sent), panel.session.history.kept, panel.session.state
 
-    def test_saved(self):
-        """What is saved has a note with the options, and performed again it is the same session."""
-        panel, path = self.panel(OVERWRITTEN, *LOADED), self.path("saved")
-        press(panel, f"g106<Enter>tWg100<Enter>tyW:set a 0 0<Enter>y25sw{path}<Enter>")
-        self.assertTrue(panel.session.is_saved())
-        first, *lines = read(path).splitlines()
-        self.assertTrue(first.startswith("* ") and DECK in first, first)
-        self.assertEqual([*OVERWRITTEN.splitlines(), "WATCH M 0 106", "BACK W", "WATCH M 0 100", "BACK W", "set a 0 0", "STEP 25"], lines)
-        again = self.panel(read(path), *LOADED)
-        self.assertEqual(panel.session.log, [entry for entry in again.session.log if not entry[0].startswith("*")])
-        self.assertEqual(("0060", "000000"), tuple(panel.session.state.processors[0].registers[name] for name in "PA"))
-
     def test_no_such_turn(self):
         with self.assertRaisesRegex(Failure, "there is no turn 1301 yet: the last one is 1300"):
             self.panel(OVERWRITTEN, *LOADED, turn=0o1301)
-
-    def test_lines_of_a_source_are_saved(self):
-        """They are sent before the script."""
-        panel, path = self.panel("STEP 3\n", sources=[(0, self.file(counter(), "count.pp"))]), self.path("saved")
-        press(panel, f"w{path}<Enter>")
-        self.assertEqual(panel.session.state.numbers, self.panel(read(path)).session.state.numbers)
 
     def test_the_question_who_makes_a_change_changes_nothing(self):
         """The machine, what is kept and what is ahead are as they would be without it."""
@@ -306,76 +285,3 @@ class Lines(PanelCase):
                 self.assert_walks(panel, "N" * (len(starts) - 1), starts[1:])
                 self.assert_walks(panel, "P" * (len(starts) - 1), starts[-2::-1])
                 self.assert_walks(panel, ["11N", "3N", "10P"], [starts[0o11], starts[0o14], starts[4]])
-
-    def test_none(self):
-        """The loader never comes to its own line again; it is said since when the processor is in none."""
-        panel = source_panel(self, turn=0o36, size=(120, 24))
-        said = bottom(panel, "N")
-        self.assertRegex(said, "^NONE: no other line up to turn 10001300; PP 00 is in none after turn [0-7]+$")
-        press(panel, f"{said.split()[-1]}G")
-        self.assertEqual("0106", panel.session.state.processors[0].registers["P"])
-
-
-class Devices(PanelCase):
-    """Pictures and keys of devices, and runs with them."""
-
-    def at(self, panel):
-        """Returns the turn, the word at 0201, the next byte of the tape, and how many units are ahead."""
-        session = panel.session
-        return session.history.turns, session.state.memories[0].word(0o201), session.simulator.state().place, session.history.to_redo
-
-    def test_large_screens_and_small_ones(self):
-        """At 160 by 50 a screen has 64 cells, so a large symbol has strokes; a picture is seen whole at 160 by 24 too."""
-        def rows(pressed=""):
-            return [line.strip() for line in press(panel, pressed) if line.strip()]
-        panel = self.panel(DISPLAYS, devices=[ConsoleDisplay()], size=(160, 50))
-        shown = rows("200sv")
-        self.assertEqual((5, "\u2846", "\u28c7\u28c0\u2840"), (len(shown), shown[2][:1], shown[3][:3]), shown)
-        panel.resize(160, 24)
-        self.assertEqual("L I F T", rows()[2])
-        panel.resize(60, 10)
-        self.assertEqual(10, len(press(panel)))
-
-    def test_keys(self):
-        """What is typed for a device is there until the program takes it."""
-        panel = self.panel(DISPLAYS, devices=[ConsoleDisplay()])
-        for pressed, wanted in (("Ka\\r<Enter>", "A\r"), ("300s", "\r"), ("<Home>", ""), ("Kb<Enter>", ""), ("<End>Kb!<Enter>", "\r")):
-            press(panel, pressed)
-            self.assertEqual(wanted, panel.session.simulator.state().keys, pressed)
-
-    def test_to_and_fro(self):
-        panel = self.wide_panel(READS, devices=[PaperTape(b"AB")])
-        for pressed, *wanted in (("", 0o200, "0102", 2, 0), ("b", 0o177, "0102", 2, 1), ("B", 0o165, "0102", 2, 0o13),
-                                 ("<", 0, "0000", 0, 0o202), (">", 0o200, "0102", 2, 0), ("62G", 0o62, "0000", 2, 0o116),
-                                 ("s", 0o63, "0102", 2, 0o115), ("50G", 0o50, "0000", 1, 0o130), ("s", 0o51, "0000", 2, 0o127),
-                                 (">3s", 0o203, "0102", 2, 0)):
-            press(panel, pressed)
-            self.assertEqual(tuple(wanted), self.at(panel), pressed)
-
-    def test_saved(self):
-        panel, path = self.wide_panel(READS, devices=[PaperTape(b"AB")]), self.path("saved")
-        press(panel, "60GSSty", f"w{path}<Enter>")
-        lines = read(path).splitlines()
-        self.assertEqual(["* A session of panel.", *READS.splitlines()[:2], "STEP 1", "* DEVICE PaperTape", "SET H 11 I"], lines[:6])
-        with Console([program()]) as console:
-            list(console.ask_each(lines))
-            for line in "DUMP PP 0", "DUMP M 0 200 203", "DUMP H", "DUMP W":
-                self.assertEqual(panel.session.simulator.ask(line), console.ask(line))
-
-    def test_origin_and_changes(self):
-        panel = self.wide_panel(READS, devices=[PaperTape(b"AB")])
-        self.assertIn("H 11 0102 TURN 51 DEVICE PaperTape", "\n".join(press(panel, "g201<Enter>c")))
-        press(panel, "<Down><Enter>")  # to before the turn of the reply
-        self.assertEqual((0o50, "0000", 1), self.at(panel)[:3])
-        self.assertEqual("NONE: P 0 = 77, in turns 51 to 200", bottom(panel, "uP 0 = 77<Enter>"))
-        self.assertEqual("the next turn, PP 00 in IAM 11 at 0104, makes the change", bottom(panel, ">gH 11<Enter>W"))
-        self.assertEqual((0o50, "0000", 1), self.at(panel)[:3])
-
-    def test_a_device_fails(self):
-        panel = self.wide_panel(FAILS, devices=[device_of(COUNTS)])
-        session, channel = panel.session, panel.session.state.channels[0o11]
-        self.assertEqual("function of Counts must return a state and a Reply, and returned (2, 5)", bottom(panel, "12s"))
-        self.assertEqual((1, 1, channel),
-                         (session.history.turns, session.simulator.state(), session.state.channels[0o11]))
-        press(panel, "b")
-        self.assertEqual((0, 0), (session.history.turns, session.simulator.state()))

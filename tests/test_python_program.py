@@ -17,7 +17,7 @@ import sys
 
 from tests.cases import named
 from tests.fixtures import sessions
-from tests.generator import Maker, commands
+from tests.generator import Maker
 from tests.support import EXAMPLES, PATIENCE, TOP, Case, add_tests, program, read, run, write, writer
 from tests.ways import CaseTests
 
@@ -113,7 +113,7 @@ class Compared(Case):
                 write(os.path.join(os.getcwd(), name), data)
             if session.standard_input != ".":
                 with open("/dev/full", "wb") as full:
-                    self.compare(f"PP6600_PYTHON={number}:1\n{commands(session)}", session.words, session.standard_input,
+                    self.compare(f"PP6600_PYTHON={number}:1", session.words, session.standard_input,
                                  full if session.output_fails else subprocess.PIPE)
 
     def test_words(self):
@@ -165,7 +165,6 @@ class Compared(Case):
                 file.write(b"*" * size + b"\r\nSTEP\n" + b"*" * size + b"\r")
             with self.subTest(size):
                 self.compare(size, [], "script")
-
 
     def check(self, session):
         """A session of a page; the files that it names are those of examples/."""

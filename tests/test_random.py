@@ -3,7 +3,7 @@ written is compared byte for byte.
 
     PP6600_RANDOM=SEED:COUNT   runs COUNT sessions from seed SEED on; SEED:1 repeats one. The default is 0:2000
 
-The first difference ends the run. Its session is made small and printed as commands for the shell. With -v each test
+The first difference ends the run. Its session is made small and kept in a folder that is named. With -v each test
 ends with how often each instruction, case, form of a line, error and fault has occurred; by default each must occur.
 Not tried here: the limit of a script in bytes, no memory, and a read that fails after some bytes.
 """
@@ -14,7 +14,7 @@ import subprocess
 import sys
 import unittest
 
-from tests.generator import WORDS, Maker, Session, commands, word_line
+from tests.generator import WORDS, Maker, Session, kept, word_line
 from tests.support import Case, program
 
 from pp6600.engine.plain.lines import FORMS, PlainConsole
@@ -153,7 +153,7 @@ class RandomSessions(Case):
         if of_program != of_python:
             if make_small:
                 session = shrunk(session, self.differs)
-                name = f'{name}\n{commands(session)}'
+                name = f'{name}\n{kept(session)}'
             self.fail_with(name, session)
         status, fault, _ = of_python
         seen[f'status {status}'] += 1

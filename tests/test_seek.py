@@ -10,7 +10,7 @@ import re
 
 from tests.generator import LOOPS, Maker
 from tests.oracle import Timeline
-from tests.support import Case, program, tool
+from tests.support import Case, add_tests, program, tool
 
 FIRST, COUNT = map(int, os.environ.get("PP6600_SEEK", "0:10").split(":"))
 CELLS = 0o347  # of the cells from 0 on, which programs of LOOPS use
@@ -20,30 +20,26 @@ PARTS = ("P {n} = {p}", "P {n} outside 100 {p}", "P {n} != {p}", "A {n} > 5", "Q
          "A {n} inside 1 {p}", "P {n} < {p}")
 
 
-class SeekCase(Case):
-    """Random sessions of programs that loop."""
-
-    def session(self, seed):
-        """Returns the choice of a session, the numbers of its processors and its lines."""
-        maker = Maker(seed, LOOPS)
-        return random.Random(seed), maker.processors, maker.script()
-
-    def each_session(self, check, count=COUNT):
-        for seed in range(FIRST, FIRST + count):
-            with self.subTest(seed=seed):
-                check(*self.session(seed))
-
-    def timeline(self, numbers, lines):
-        return Timeline([program()], lines, [(number, 0, CELLS) for number in numbers])
-
-
 def turns_in(out):
     """Returns the numbers of the turns that lines begin with."""
     return [int(line.split()[1], 8) for line in out.splitlines() if line.startswith("TURN")]
 
 
-class Until(SeekCase):
-    def check(self, choose, numbers, lines):
+class Seek(Case):
+    """Random sessions of programs that loop."""
+
+    def check(self, find):
+        """Checks what is found in each session, by its choice, the numbers of its processors and its lines."""
+        for seed in range(FIRST, FIRST + COUNT):
+            maker = Maker(seed, LOOPS)
+            with self.subTest(seed=seed):
+                find(self, random.Random(seed), maker.processors, maker.script())
+
+    def timeline(self, numbers, lines):
+        return Timeline([program()], lines, [(number, 0, CELLS) for number in numbers])
+
+    def until(self, choose, numbers, lines):
+        """The turns at which a condition comes to hold, all, and the first or the last from a turn on."""
         timeline, text = self.timeline(numbers, lines), "".join(f"{line}\n" for line in lines)
         for _ in range(2):
             parts = [choose.choice(PARTS).format(n=f"{choose.choice(numbers):o}", a=f"{choose.randrange(9):o}",
@@ -58,12 +54,7 @@ class Until(SeekCase):
                 with self.subTest(condition, words=words):
                     self.assertEqual(found, turns_in(tool("until", condition, *words, script=text).out))
 
-    def test_random_conditions(self):
-        self.each_session(self.check)
-
-
-class Changes(SeekCase):
-    def check(self, choose, numbers, lines):
+    def changes(self, choose, numbers, lines):
         """Every change of a place, by an action too that is no turn, with the numbers before and after it."""
         timeline = self.timeline(numbers, lines)
         number = choose.choice(numbers)
@@ -75,12 +66,7 @@ class Changes(SeekCase):
             with self.subTest(place):
                 self.assertEqual(wanted or ["NO CHANGE"], [re.sub("^(TURN [0-7]+) .* (WAS .*)$", r"\1 \2", line) for line in got])
 
-    def test_random_sessions(self):
-        self.each_session(self.check)
-
-
-class States(SeekCase):
-    def check(self, choose, numbers, lines):
+    def states(self, choose, numbers, lines):
         """The state after a turn, and the trace of the turns around it."""
         timeline, text = self.timeline(numbers, lines), "".join(f"{line}\n" for line in lines)
         turns = [at for at in range(len(timeline.actions)) if timeline.is_turn(at)]
@@ -99,12 +85,7 @@ class States(SeekCase):
             self.assertRegex(line, rf"^TURN {turn:o} PP {number:02o} P {p} .* A {a} Q {q} PHASE {phase}")
             self.assertEqual(timeline.waits[at + 1][number], " WAITS" in line)
 
-    def test_random_sessions(self):
-        self.each_session(self.check)
-
-
-class Compare(SeekCase):
-    def check(self, choose, numbers, lines):
+    def compare(self, choose, numbers, lines):
         """The first turn after which a number differs that did not differ before the first one."""
         others = list(lines)
         number = choose.choice(numbers)
@@ -121,5 +102,5 @@ class Compare(SeekCase):
         done = tool("compare", *(self.file("".join(f"{line}\n" for line in some)) for some in (lines, others)))
         self.assertEqual(wanted, [line for line in done.out.splitlines() if line.startswith("AFTER")], done)
 
-    def test_random_sessions(self):
-        self.each_session(self.check, COUNT // 2)
+
+add_tests(Seek, Seek.check, ((find.__name__, find) for find in (Seek.until, Seek.changes, Seek.states, Seek.compare)))

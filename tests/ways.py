@@ -52,6 +52,13 @@ class Ways:
         with open("/dev/full", "wb") as full:
             return self.plain(stdout=full)
 
+    def broken_output(self):
+        """With a pipe that nobody reads as standard output."""
+        reader, writer = os.pipe()
+        os.close(reader)
+        with open(writer, "wb") as broken:
+            return self.plain(stdout=broken)
+
     def file_size_limit(self, size):
         """Under its launcher, with a file of at most so many bytes as standard output."""
         if self.words[0] == program():
