@@ -45,19 +45,18 @@ class Is(Test):
         return self.known[number]
 
     def begin(self, run: Session) -> bool:
-        self.held = self.verdict(run.engine.numbers(self.places[0], 1)[0])
-        return self.held
+        super().begin(run)
+        return self.verdict(*self.last.values())
 
     def verdicts(self, looks: Looks) -> bytes:
-        place, number = self.places[0], self.column.processor
-        values = looks.columns[place] if number is None else looks.own(number, place)
-        before, distinct = self.held, {one: self.verdict(one) for one in set(values)}
+        number, (place, before) = self.column.processor, *self.last.items()
+        values = looks.own(number, place)
+        distinct = {one: self.verdict(one) for one in set(values)}
         if all(distinct.values()) or not any(distinct.values()):
             found = bytes([any(distinct.values())]) * len(values)
         else:
             found = bytes(map(distinct.__getitem__, values))
-        self.held = bool(found[-1]) if found else before
-        return found if number is None else looks.spread(number, found, before)
+        return looks.spread(number, found, self.verdict(before))
 
 
 class StateIs(Is):
@@ -100,32 +99,19 @@ class Changes(Test):
     def places(self) -> Sequence[int]:
         return self.looked if len(self.looked) <= MOST_LOOKED else []
 
-    def begin(self, run: Session) -> bool:
-        self.last = {place: run.engine.numbers(place, 1)[0] for place in self.places}
-        return False
-
     def verdicts(self, looks: Looks) -> bytes:
-        number = self.column.processor
+        number, held = self.column.processor, 0
         if not self.places:
             return self.of_many(looks)
-        held = 0
-        columns = [(place, looks.columns[place] if number is None else looks.own(number, place)) for place in self.places]
-        for place, values in columns:
-            held |= int.from_bytes(self.changes(place, values), "big")
-        found = held.to_bytes(len(columns[0][1]), "big")
-        return found if number is None else looks.once(number, found)
-
-    def changes(self, place: int, values: Sequence[int]) -> bytes:
-        """Returns at which of some values a number is another one than before."""
-        last = self.last[place]
-        if not len(values) or {*values} == {last}:
-            return bytes(len(values))
-        self.last[place] = values[-1]
-        return bytes(map(operator.ne, chain((last,), values), values))
+        for place, before in self.last.items():
+            values = looks.own(number, place)
+            if {*values} - {before}:
+                held |= int.from_bytes(bytes(map(operator.ne, chain((before,), values), values)), "big")
+        return looks.once(number, held.to_bytes(len(values), "big"))
 
     def of_many(self, looks: Looks) -> bytes:
         """As `verdicts`, of more cells than are looked at: by what the turns overwrote."""
-        records, found = looks.records(), bytearray(looks.turns)
+        records, found = looks.records, bytearray(looks.turns)
         if {*records.places}.isdisjoint(self.looked):
             return bytes(found)
         end, now = len(records.places), dict(zip(self.looked, looks.run.engine.numbers(self.looked[0], len(self.looked))))
@@ -151,22 +137,21 @@ class Waits(Test):
         return [first + self.number for first in (flat.P, flat.A, flat.Q, flat.PHASE)]
 
     def begin(self, run: Session) -> bool:
-        self.last = tuple(run.engine.numbers(place, 1)[0] for place in self.places)
+        super().begin(run)
         return self.holds
 
     def verdicts(self, looks: Looks) -> bytes:
         held, registers = self.holds, [(*one,) for one in zip(*(looks.own(self.number, place) for place in self.places))]
-        same = bytes(map(operator.eq, chain((self.last,), registers), registers))
+        same = bytes(map(operator.eq, chain((tuple(self.last.values()),), registers), registers))
         if any(same):
             same = self.waited(looks, registers, same)
-        self.last = registers[-1] if registers else self.last
         self.holds = bool(same[-1]) if same else held
         return looks.spread(self.number, same, held)
 
     def waited(self, looks: Looks, registers: Sequence[Tuple[int, ...]], same: bytes) -> bytes:
         """Returns which turns waited, of those that changed no register."""
         keys = {(registers[at][0], registers[at][3]) for at in indexes(same)}
-        written = looks.written() if any(not phase for _, phase in keys) else set()
+        written = looks.written if any(not phase for _, phase in keys) else set()
         known = {(p, phase): self.waits_at(looks, p, phase) for p, phase in keys
                  if phase or flat.CELLS + CELLS * self.number + p not in written}
         own, found = looks.first_own(self.number), bytearray(len(same))
@@ -193,19 +178,14 @@ class Returns(Test):
         self.column = Column(Place("P", (number,)))
         self.stored: Dict[int, int] = {}  # by the address of the jump back: the return address
 
-    def begin(self, run: Session) -> bool:
-        (self.last,) = run.engine.numbers(flat.P + self.number, 1)
-        return False
-
     def verdicts(self, looks: Looks) -> bytes:
-        own, first = looks.own(self.number, flat.P + self.number), looks.first_own(self.number)
-        if {self.last, *own}.isdisjoint({*self.jumps, *self.firsts}):
-            self.last = own[-1] if len(own) else self.last
+        own, first = [*self.last.values(), *looks.own(self.number, flat.P + self.number)], looks.first_own(self.number)
+        if {*own}.isdisjoint({*self.jumps, *self.firsts}):
             return bytes(looks.turns)
-        return looks.once(self.number, bytes([self.verdict(address, first + PROCESSORS * at, looks) for at, address in enumerate(own)]))
+        return looks.once(self.number, bytes([self.verdict(was, address, first + PROCESSORS * at, looks)
+                                              for at, (was, address) in enumerate(zip(own, own[1:]))]))
 
-    def verdict(self, address: int, at: int, looks: Looks) -> bool:
-        was, self.last = self.last, address
+    def verdict(self, was: int, address: int, at: int, looks: Looks) -> bool:
         if address in self.firsts and was != address:
             processor = looks.processor_at(at)
             if processor.name == RJM and not processor.phase:  # the subroutine was called

@@ -4,13 +4,13 @@ from __future__ import annotations
 
 import functools
 import re
-from typing import Iterable, Iterator, List, Sequence, Tuple, TypeVar, Union
+from typing import Iterable, Iterator, List, Sequence, TypeVar, Union
 
 from ..engine import interface as flat
 from ..engine.choose import default_engine, engine_of
 from ..engine.interface import Rejection
 from ..failure import Failure
-from .forms import CELLS, CLOCK, MOST_TURNS, PROCESSORS, Place, Registers, fields, is_refusal, registers_of, words_of
+from .forms import CELLS, CLOCK, PROCESSORS, Place, Registers, fields, is_refusal, registers_of, words_of
 from .turn import Processor
 
 LONGEST_LINE = 255
@@ -173,16 +173,6 @@ class Console:
             return "<p>This simulator has ended.</p>"
         from .notebook import table_of  # no tool needs it
         return table_of([self.processor(number) for number in range(PROCESSORS)], self.channels(), [self.reader(), self.printer()[0]])
-
-    # ---- turns
-
-    def steps(self, turns: int) -> Iterator[Tuple[int, List[str]]]:
-        """Makes so many turns, and yields after each STEP how many it made and its answer, with a HIT if there is one."""
-        while turns:
-            answer = self.demand(f"STEP {min(turns, MOST_TURNS):o}")
-            made = int(answer[0].split()[1], 8)
-            turns -= made
-            yield made, answer
 
 
 def file_of(words: Sequence[str], text: str) -> str:

@@ -16,8 +16,8 @@ import functools
 import operator
 import re
 from array import array
-from itertools import chain, compress, count, repeat
-from typing import Any, Container, Dict, Iterable, Iterator, List, MutableSequence, NamedTuple, NewType, Optional, Sequence, Tuple, TypeVar
+from itertools import chain, count, repeat
+from typing import Any, Container, Dict, Iterable, Iterator, List, MutableSequence, NamedTuple, NewType, Optional, Sequence, Tuple
 
 from ..failure import Failure
 from .forms import MOST_TURNS, PROCESSORS
@@ -25,7 +25,6 @@ from .forms import MOST_TURNS, PROCESSORS
 MOST_KEPT = 10000  # decimal, without --history
 Position = NewType("Position", int)  # how many actions of a tape come before
 Units = NewType("Units", int)  # a number of actions as a user counts them
-T = TypeVar("T")
 STEP = "STEP"
 NOTE_OF_DEVICE = re.compile(r"\* DEVICE (\S+)\r?")  # the line after it is a reply of this device
 REPLY = "SET H "
@@ -124,14 +123,16 @@ class Action(NamedTuple):
 turns_of = functools.lru_cache(maxsize=4096)(functools.partial(Action, STEP))
 
 
-def pairs(first: Iterable[T], second: Iterable[T]) -> Iterator[T]:
-    """Yields one of each in turn."""
-    return chain.from_iterable(zip(first, second))
-
-
 def sums() -> Any:
     """Returns the beginning of a list of sums, which has no object for each of them."""
     return array("q", [0])
+
+
+def interleaved(first: Sequence[int], second: Iterable[int]) -> Any:
+    """Returns one of each in turn, as a list of sums has them."""
+    found = array("q", bytes(2 * 8 * len(first)))
+    found[::2], found[1::2] = array("q", first), array("q", second)
+    return found
 
 
 class Tape:
@@ -160,15 +161,17 @@ class Tape:
 
     def append_replies(self, turns: Sequence[int], replies: Sequence[Action]) -> None:
         """Adds replies, and the turns before each of them: it comes after so many in all."""
-        self.append(STEP, turns[0] - self.turns if turns else 0)
-        gaps = list(map(operator.sub, turns, chain((self.turns,), turns)))
-        ends = list(map(operator.add, turns, count(self.end - self.turns)))  # of the turns before each
-        units = list(map(operator.add, turns, repeat(self.units_before[-1] - self.turns)))
-        is_run = list(pairs(gaps, repeat(True, len(gaps))))  # no turns are none
-        self.runs += compress(pairs(map(turns_of, gaps), replies), is_run)
-        self.starts.extend(compress(pairs(ends, map(operator.add, ends, repeat(1))), is_run))
-        self.turns_before.extend(compress(pairs(turns, turns), is_run))
-        self.units_before.extend(compress(pairs(units, units), is_run))
+        gaps = list(map(operator.sub, turns[1:], turns))
+        few = len(turns) if 0 in gaps else 1  # that are added one by one; the first turns go on with those before them
+        for at, reply in zip(turns[:few], replies):
+            self.append(STEP, at - self.turns)
+            self._add(reply, 0, 0)
+        turns, replies = turns[few:], replies[few:]
+        self.runs += chain.from_iterable(zip(map(turns_of, gaps), replies))
+        ends, units = (list(map(operator.add, turns, more)) for more in (count(self.end - self.turns), repeat(self.units_before[-1] - self.turns)))
+        self.starts += interleaved(ends, map(operator.add, ends, repeat(1)))
+        self.turns_before += interleaved(turns, turns)
+        self.units_before += interleaved(units, units)
 
     def _add(self, run: Action, turns: int, units: int) -> None:
         self.runs.append(run)

@@ -90,33 +90,31 @@ class Touches(Test):
         return [*self.of_channel, *(flat.P + number for number in self.processors)]
 
     def begin(self, run):
-        """Looks at a run before some turns."""
-        self.before = {place: run.engine.numbers(place, 1)[0] for place in self.places}
         self.phases = run.engine.numbers(flat.PHASE, PROCESSORS)
-        return False
+        return super().begin(run)
 
     def verdicts(self, looks):
-        found, written = bytearray(looks.turns), looks.written()
+        found = bytearray(looks.turns)
         for place in self.of_channel:
-            values, before = looks.columns[place], self.before[place]
+            values, before = looks.columns[place], self.last[place]
             if values.count(before) < len(values):
                 for at, (was, now) in enumerate(zip(chain((before,), values), values)):
                     found[at] |= was != now and (looks.slot + at) % PROCESSORS in self.processors
         for number in self.processors:
-            for at in self.of_processor(looks, number, written):
+            for at in self.of_processor(looks, number):
                 found[at] = 1
-        self.begin(looks.run)
+        self.phases = looks.run.engine.numbers(flat.PHASE, PROCESSORS)
         return bytes(found)
 
-    def of_processor(self, looks, number, written):
+    def of_processor(self, looks, number):
         """Returns the turns of a processor that may use the channel. The run is after them."""
         memory, first, phase = flat.CELLS + CELLS * number, looks.first_own(number), self.phases[number]
-        p = [self.before[flat.P + number], *looks.own(number, flat.P + number)][:-1]
+        p = [self.last[flat.P + number], *looks.own(number, flat.P + number)][:-1]
         low, addresses = min(p, default=0), {*p}
         words = looks.run.engine.numbers(memory + low, max(p, default=0) - low + 1)
         users = {one for one in addresses if self.uses(words[one - low])}
         if phase and self.uses(phase) or any(words[one - low] >> 6 in BLOCK_BEGINS for one in users) or \
-                not written.isdisjoint(memory + one for one in addresses):
+                not looks.written.isdisjoint(memory + one for one in addresses):
             users = addresses
         return [first + PROCESSORS * at for at, one in enumerate(p) if one in users] if users else []
 

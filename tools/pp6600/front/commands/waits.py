@@ -1,12 +1,13 @@
 """The processors that wait."""
 
+from contextlib import closing
 from typing import NamedTuple
 
 from ...language.names import AllSymbols
 from ...language.symbol_options import add_symbols, symbols_of
-from ...run.conditions import Changes
-from ...run.forms import CELLS, CLOCK, MOST_WATCHES, PROCESSORS, REGISTERS, Place
-from ...run.search import Column, Condition, halve, last_moments, spans
+from ...run.conditions import Changes, Is
+from ...run.forms import CELLS, CLOCK, MOST_TURNS, MOST_WATCHES, PROCESSORS, REGISTERS, Place
+from ...run.search import Column, Condition, Search, last_found, last_moments
 from ...run.session import Session
 from ...run.state import central_of, state_of
 from ...run.tape import STEP
@@ -38,35 +39,14 @@ class Waiting(NamedTuple):
     line: str  # what is written first of it
     source: str  # the line of its source, after two blanks, if it has one
 
-    def is_in_place(self, run):
-        """Returns whether its registers and its instruction are those of the end."""
-        now, end = run.processor(self.number), self.processor
-        return all(now.registers[name] == end.registers[name] for name in REGISTERS) and now.words[0] == end.words[0]
-
-    def stays_from(self, run, turn):
-        """Returns whether it stays in its place from there to the end of the run. A phase changes alone only when a block begins, so
-        before the place is reached."""
-        tape = run.tape
-        run.goto(tape.after_turn(turn))
-        stays = self.is_in_place(run)
-        if stays:
-            run.watch([*(f"{name} {self.number:o}" for name in ("P", "A", "Q")), f"M {self.number:o} {self.processor.registers['P']}"])
-        while stays and run.position < tape.end:
-            stays = run.comes_to(tape.starts[tape.run_after(run.position) + 1])
-            if stays and run.position < tape.end:
-                run.goto(tape.after_turn(run.turn))
-                stays = self.is_in_place(run)
-        run.unwatch()
-        return stays
-
     def in_place_since(self, run):
-        """Returns the number of turns after which it stays in its place."""
-        known = run.tape.turns
-        for start, _ in spans(known):
-            if not self.stays_from(run, start):
-                return halve(start, known, lambda turn: self.stays_from(run, turn))
-            known = start
-        return known
+        """Returns the number of turns after which its registers and its instruction stay those of the end."""
+        processor = self.processor
+        numbers = {Place(name, (self.number,)): processor.registers[name] for name in REGISTERS}
+        numbers[Place("M", (self.number, processor.p))] = processor.words[0]
+        search = Search(run, Condition([Is(Column(place), int(digits, 8).__eq__) for place, digits in numbers.items()]))
+        search.by_settings = True
+        return max((turn for _, turn in last_found(search, 1)), default=0)
 
     def first_turn(self, run):
         """Returns since which turn it waits: its first one in its place, or the turn that it will have."""
@@ -79,31 +59,28 @@ class Waiting(NamedTuple):
 
 def drop_moved(run, turns, numbers):
     """Makes so many turns, and drops the processors that move from the watched ones, up to the last of them."""
-    for _, answer in run.steps(turns):
-        for line in answer[1:]:
-            number = int(line.split()[2], 8)
+    while turns and numbers:
+        made, *hits = run.demand(f"STEP {min(turns, MOST_TURNS):o}")
+        turns -= int(made.split()[1], 8)
+        for number in {int(line.split()[2], 8) for line in hits}:
             numbers.discard(number)
             run.demand(f"UNWATCH P {number:o}")
-        if not numbers:
-            return
 
 
 def waiting_for_ever(words, tape, numbers):
     """Returns those of at most eight waiting processors that will never go on: the machine comes back to a state where it was,
     and meanwhile they have not moved. Then it does so again and again."""
-    run = Session.of_tape(words, tape)
-    run.goto(tape.end)
-    before, central, staying, passed = state_of(run), central_of(run), set(numbers), 0
-    run.watch(f"P {number:o}" for number in numbers)
-    for trips in TRIPS:
-        drop_moved(run, CLOCK_TRIP * (trips - passed), staying)
-        passed = trips
-        if not staying or not any(before.differences(state_of(run))) and central == central_of(run):
-            break
-    else:
-        staying = set()
-    run.close()
-    return staying
+    with closing(Session.of_tape(words, tape)) as run:
+        run.goto(tape.end)
+        before, central, staying, passed = state_of(run), central_of(run), set(numbers), 0
+        for number in numbers:
+            run.demand(f"WATCH P {number:o}")
+        for trips in TRIPS:
+            drop_moved(run, CLOCK_TRIP * (trips - passed), staying)
+            passed = trips
+            if not staying or not any(before.differences(state_of(run))) and central == central_of(run):
+                return staying
+    return set()
 
 
 # ---- who changed a channel last
