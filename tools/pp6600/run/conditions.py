@@ -4,14 +4,15 @@ from __future__ import annotations
 
 import operator
 import re
-from itertools import chain
-from typing import Any, Callable, Dict, Iterator, List, Optional, Sequence, Tuple
+from itertools import chain, compress
+from typing import Any, Callable, Dict, List, Optional, Sequence, Tuple
 
 from ..engine import interface as flat
 from ..failure import Failure
 from ..language.names import AllSymbols
 from ..shell.options import octal
 from .forms import CELLS, CLOCK, PROCESSORS, REGISTERS, STATES, Place
+from .recording import Recording
 from .search import Column, Condition, Looks, Test
 from .session import Session
 from .turn import Processor
@@ -111,17 +112,10 @@ class Changes(Test):
 
     def of_many(self, looks: Looks) -> bytes:
         """As `verdicts`, of more cells than are looked at: by what the turns overwrote."""
-        records, found = looks.records, bytearray(looks.turns)
-        if {*records.places}.isdisjoint(self.looked):
-            return bytes(found)
-        end, now = len(records.places), dict(zip(self.looked, looks.run.engine.numbers(self.looked[0], len(self.looked))))
-        for at in range(looks.turns - 1, -1, -1):
-            begin = end - records.counts[at]
-            for place, number in zip(records.places[begin:end], records.numbers[begin:end]):
-                if place in now:
-                    found[at] |= number != now[place]
-                    now[place] = number
-            end = begin
+        found, cells = bytearray(looks.turns), {*self.looked}
+        if not looks.written.isdisjoint(cells):
+            for at, was, now in Recording(looks.run, looks.first, looks.position(looks.turns)).turns_back():
+                found[at] = any(place in cells and number != now[place] for place, number in was.items())
         return bytes(found)
 
 
@@ -150,13 +144,13 @@ class Waits(Test):
 
     def waited(self, looks: Looks, registers: Sequence[Tuple[int, ...]], same: bytes) -> bytes:
         """Returns which turns waited, of those that changed no register."""
-        keys = {(registers[at][0], registers[at][3]) for at in indexes(same)}
+        keys = {(one[0], one[3]) for one in compress(registers, same)}
         written = looks.written if any(not phase for _, phase in keys) else set()
         known = {(p, phase): self.waits_at(looks, p, phase) for p, phase in keys
                  if phase or flat.CELLS + CELLS * self.number + p not in written}
         own, found = looks.first_own(self.number), bytearray(len(same))
-        for at in indexes(same):
-            key = registers[at][0], registers[at][3]
+        for at, (p, _, _, phase) in compress(enumerate(registers), same):
+            key = p, phase
             found[at] = known[key] if key in known else looks.processor_at(own + PROCESSORS * at).goes_on_in is not None
         return bytes(found)
 
@@ -193,14 +187,6 @@ class Returns(Test):
         if was not in self.jumps or was == address or looks.processor_at(at).phase:
             return False
         return self.stored.pop(was, address) != address
-
-
-def indexes(verdicts: bytes) -> Iterator[int]:
-    """Yields where verdicts are true."""
-    at = verdicts.find(1)
-    while at >= 0:
-        yield at
-        at = verdicts.find(1, at + 1)
 
 
 def parsed(text: str, symbols: Any = AllSymbols()) -> Condition:

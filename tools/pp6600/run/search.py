@@ -12,8 +12,8 @@ from collections import deque
 from typing import Any, Callable, Dict, Iterator, List, NamedTuple, Optional, Sequence, Set, Tuple
 
 from ..engine import interface as flat
-from ..engine.interface import Records
 from .forms import CELLS, CLOCK, PROCESSORS, STATES, Place, Registers
+from .recording import recorded
 from .session import Session
 from .tape import Position
 from .turn import Processor
@@ -121,17 +121,10 @@ class Looks:
         return self.words[address]
 
     @functools.cached_property
-    def records(self) -> Records:
-        """What the turns overwrote. They are made once more."""
-        self.run.goto(self.first)
-        records = self.run.engine.turns(self.turns)
-        self.run.history.performed(self.turns)
-        return records
-
-    @functools.cached_property
     def written(self) -> Set[int]:
-        """The places that the turns wrote."""
-        return set(self.records.places)
+        """The places that the turns wrote. They are made once more."""
+        self.run.goto(self.first)
+        return set(recorded(self.run, self.turns).places)
 
 
 class Test:

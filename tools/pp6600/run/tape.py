@@ -17,7 +17,7 @@ import operator
 import re
 from array import array
 from itertools import chain, count, repeat
-from typing import Any, Container, Dict, Iterable, Iterator, List, MutableSequence, NamedTuple, NewType, Optional, Sequence, Tuple
+from typing import Any, Container, Dict, Iterable, Iterator, List, MutableSequence, NamedTuple, NewType, Optional, Sequence, Tuple, Type, TypeVar
 
 from ..failure import Failure
 from .forms import MOST_TURNS, PROCESSORS
@@ -25,6 +25,7 @@ from .forms import MOST_TURNS, PROCESSORS
 MOST_KEPT = 10000  # decimal, without --history
 Position = NewType("Position", int)  # how many actions of a tape come before
 Units = NewType("Units", int)  # a number of actions as a user counts them
+L = TypeVar("L", bound="KnownLine")
 STEP = "STEP"
 NOTE_OF_DEVICE = re.compile(r"\* DEVICE (\S+)\r?")  # the line after it is a reply of this device
 REPLY = "SET H "
@@ -36,39 +37,28 @@ def room_of(words: Sequence[str]) -> int:
     return int(words[words.index("--history") + 1]) if "--history" in words else MOST_KEPT
 
 
-class ScriptLine(str):
-    """A line of a script with its number, from 1."""
+class KnownLine(str):
+    """A line of which it is known where it came from."""
 
-    number: int
+    origin: Any
 
-    def __new__(cls, text: str, number: int) -> ScriptLine:
+    def __new__(cls: Type[L], text: str, origin: Any) -> L:
         line = super().__new__(cls, text)
-        line.number = number
+        line.origin = origin
         return line
 
 
-class ReplyLine(str):
+class ScriptLine(KnownLine):
+    """A line of a script, with its number, from 1."""
+
+
+class ReplyLine(KnownLine):
     """A SET H that is the reply of a device of one's own, with the name of this."""
 
-    __slots__ = ("device",)
-    device: str
 
-    def __new__(cls, text: str, device: str) -> ReplyLine:
-        line = super().__new__(cls, text)
-        line.device = device
-        return line
-
-
-class SourceLine(str):
+class SourceLine(KnownLine):
     """A line before a script that loads words of a source. Of each of its numbers, by its number in the line, it has the place in the
     source."""
-
-    places: Dict[int, str]
-
-    def __new__(cls, text: str, places: Dict[int, str]) -> SourceLine:
-        line = super().__new__(cls, text)
-        line.places = places
-        return line
 
 
 def counted(lines: Iterable[str]) -> Iterator[Tuple[int, str]]:
@@ -96,7 +86,7 @@ def with_notes(lines: Iterable[str]) -> Iterator[str]:
     """Yields lines, and before each reply the note that names its device."""
     for line in lines:
         if isinstance(line, ReplyLine):
-            yield f"* DEVICE {line.device}"
+            yield f"* DEVICE {line.origin}"
         yield line
 
 

@@ -49,7 +49,7 @@ def place_changes(run, place, symbols=AllSymbols()):
 
 def source_of(line, place):
     """Returns the place in a source from which a setting took the number at a place, after two blanks; nothing without a source."""
-    return f"  {line.places[places_of_setting(line)[place]]}" if isinstance(line, SourceLine) else ""
+    return f"  {line.origin[places_of_setting(line)[place]]}" if isinstance(line, SourceLine) else ""
 
 
 def last_turns(run, count, symbols=AllSymbols()):
