@@ -220,7 +220,8 @@ class Attached(Session):
         """Takes a line and what was made after it into the tape, in place of what is ahead."""
         self.cut(self.position)
         self.tape.append(line, bool(line))
-        self.tape.append_replies(new.turns, new.replies)
+        for replies in new.replies:
+            self.tape.append_replies(*replies)
         self.tape.append(STEP, new.turn - self.tape.turns)
         self.history.went(new.position, self.engine.counts().kept)
         self.plain.stops += new.stops

@@ -13,10 +13,9 @@ from __future__ import annotations
 
 import bisect
 import functools
-import operator
 import re
 from array import array
-from itertools import chain, count, repeat
+from itertools import chain, repeat
 from typing import Any, Container, Dict, Iterable, Iterator, List, MutableSequence, NamedTuple, NewType, Optional, Sequence, Tuple, Type, TypeVar
 
 from ..failure import Failure
@@ -118,10 +117,10 @@ def sums() -> Any:
     return array("q", [0])
 
 
-def interleaved(first: Sequence[int], second: Iterable[int]) -> Any:
-    """Returns one of each in turn, as a list of sums has them."""
-    found = array("q", bytes(2 * 8 * len(first)))
-    found[::2], found[1::2] = array("q", first), array("q", second)
+def interleaved(first: int, step: int, count: int, more: int = 0) -> Any:
+    """Returns so many numbers from the first one on, and after each the one that is so much more, as a list of sums has them."""
+    found, numbers = array("q", bytes(16 * count)), range(first, first + count * step, step)
+    found[::2], found[1::2] = array("q", numbers), array("q", range(first + more, numbers.stop + more, step))
     return found
 
 
@@ -150,18 +149,17 @@ class Tape:
             self._note_kind(self.runs[-1].word)
 
     def append_replies(self, turns: Sequence[int], replies: Sequence[Action]) -> None:
-        """Adds replies, and the turns before each of them: it comes after so many in all."""
-        gaps = list(map(operator.sub, turns[1:], turns))
-        few = len(turns) if 0 in gaps else 1  # that are added one by one; the first turns go on with those before them
+        """Adds replies, and the turns before each of them: it comes after so many in all. A range of them is added at once."""
+        few = 1 if isinstance(turns, range) else len(turns)  # the first turns go on with those before them
         for at, reply in zip(turns[:few], replies):
             self.append(STEP, at - self.turns)
             self._add(reply, 0, 0)
-        turns, replies = turns[few:], replies[few:]
-        self.runs += chain.from_iterable(zip(map(turns_of, gaps), replies))
-        ends, units = (list(map(operator.add, turns, more)) for more in (count(self.end - self.turns), repeat(self.units_before[-1] - self.turns)))
-        self.starts += interleaved(ends, map(operator.add, ends, repeat(1)))
-        self.turns_before += interleaved(turns, turns)
-        self.units_before += interleaved(units, units)
+        if isinstance(turns, range) and turns[1:]:
+            gap, more = turns.step, len(turns) - 1
+            self.runs += chain.from_iterable(zip(repeat(turns_of(gap)), replies[1:]))
+            self.starts += interleaved(self.end + gap, gap + 1, more, 1)
+            self.turns_before += interleaved(self.turns + gap, gap, more)
+            self.units_before += interleaved(self.units_before[-1] + gap, gap, more)
 
     def _add(self, run: Action, turns: int, units: int) -> None:
         self.runs.append(run)
@@ -421,10 +419,6 @@ class UnitCounts:
     def last_turn(self) -> int:
         """How many turns are in effect or ahead."""
         return self.tape.turns
-
-    @property
-    def slot(self) -> int:
-        return self.history.slot
 
     def in_effect(self) -> Tape:
         return self.history.in_effect()

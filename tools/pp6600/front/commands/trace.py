@@ -1,12 +1,13 @@
 """A run turn by turn."""
 
-from itertools import chain, takewhile
+from itertools import takewhile
 
 from ...engine import interface as flat
 from ...language.names import AllSymbols
 from ...language.symbol_options import add_symbols, symbols_of
-from ...run.forms import CELLS, CLOCK, PROCESSORS
-from ...run.search import Condition, Search, Test, around, spans
+from ...run.conditions import Changes
+from ...run.forms import CELLS, CLOCK, PROCESSORS, Place
+from ...run.search import Column, Condition, Search, Test, around, spans
 from ...run.tape import STEP
 from ...run.turn import CHANNEL_CODES, TWO_WORDS, TurnKind, kind_of_turn
 from ...shell.command_line import add_script, arguments, channel, count, processor, write_lines
@@ -83,23 +84,21 @@ class Touches(Test):
 
     def __init__(self, channel, processors):
         self.channel, self.processors = channel, processors
-        self.of_channel = [flat.REGISTERS + channel] + [flat.STATES + channel] * (channel < CLOCK)
+        self.changes = Changes(Column(Place("H", (channel,))), channel < CLOCK)
 
     @property
     def places(self):
-        return [*self.of_channel, *(flat.P + number for number in self.processors)]
+        return [*self.changes.places, *(flat.P + number for number in self.processors)]
 
     def begin(self, run):
         self.phases = run.engine.numbers(flat.PHASE, PROCESSORS)
-        return super().begin(run)
+        return self.changes.begin(run) or super().begin(run)
 
     def verdicts(self, looks):
-        found = bytearray(looks.turns)
-        for place in self.of_channel:
-            values, before = looks.columns[place], self.last[place]
-            if values.count(before) < len(values):
-                for at, (was, now) in enumerate(zip(chain((before,), values), values)):
-                    found[at] |= was != now and (looks.slot + at) % PROCESSORS in self.processors
+        found = bytearray(self.changes.after(looks))
+        for number in range(PROCESSORS):
+            if number not in self.processors:
+                found[looks.first_own(number)::PROCESSORS] = bytes(len(looks.own(number, self.changes.places[0])))
         for number in self.processors:
             for at in self.of_processor(looks, number):
                 found[at] = 1
