@@ -15,7 +15,7 @@ from .forms import CELLS, CLOCK, PROCESSORS, REGISTERS, STATES, Place
 from .recording import Recording
 from .search import Column, Condition, Looks, Test
 from .session import Session
-from .turn import Processor
+from .turn import BLOCK_GOES_ON, COMPLETES
 
 FORM = ("a condition is PLACE = 105 (also != < > <= >=), PLACE outside 100 117, PLACE inside 100 117, PLACE changes, "
         "M 0 100 117 changes, H 12 is F, H 12 changes state, PP 3 waits, PP 3 in a block, PP 3 not in a block or PP 3 returns wrongly; "
@@ -32,13 +32,11 @@ class Is(Test):
 
     column: Column
 
-    def __init__(self, column: Column, test: Callable[[int], bool]) -> None:
+    def __init__(self, column: Column, test: Callable[[int], bool], place: Optional[int] = None) -> None:
+        """It is the first number of the column, or that at another place."""
         self.column, self.test = column, test
+        self.places = [column.places[0] if place is None else place]
         self.known: Dict[int, bool] = {}  # the verdicts on numbers
-
-    @property
-    def places(self) -> Sequence[int]:
-        return [self.column.places[0]]
 
     def verdict(self, number: int) -> bool:
         if number not in self.known:
@@ -60,31 +58,6 @@ class Is(Test):
         return looks.spread(number, found, self.verdict(before))
 
 
-class StateIs(Is):
-    """Whether the state of a channel is as it must be."""
-
-    @property
-    def places(self) -> Sequence[int]:
-        return [flat.STATES + self.column.place.numbers[0]]
-
-
-class OfClock(Test):
-    """Whether the state of the clock, which is always F, is as it must be."""
-
-    def __init__(self, column: Column, held: bool) -> None:
-        self.column, self.held = column, held
-
-    @property
-    def places(self) -> Sequence[int]:
-        return []
-
-    def begin(self, run: Session) -> bool:
-        return self.held
-
-    def verdicts(self, looks: Looks) -> bytes:
-        return bytes([self.held]) * looks.turns
-
-
 class Changes(Test):
     """Whether the numbers of a column have changed in the latest turn."""
 
@@ -94,11 +67,8 @@ class Changes(Test):
     def __init__(self, column: Column, with_state: bool = False, with_number: bool = True) -> None:
         """Of a channel it is its state, its number, or both."""
         self.column = column
-        self.looked: Sequence[int] = [flat.STATES + column.place.numbers[0]] * with_state + [*column.places] * with_number
-
-    @property
-    def places(self) -> Sequence[int]:
-        return self.looked if len(self.looked) <= MOST_LOOKED else []
+        self.looked = [flat.STATES + column.place.numbers[0]] * with_state + [*column.places] * with_number
+        self.places = self.looked if len(self.looked) <= MOST_LOOKED else []
 
     def verdicts(self, looks: Looks) -> bytes:
         number, held = self.column.processor, 0
@@ -123,12 +93,8 @@ class Waits(Test):
     """Whether the latest turn of a processor was a wait: it changed no register, by an instruction that may wait. A setting is no turn."""
 
     def __init__(self, number: int) -> None:
-        self.number = number
-        self.holds = False
-
-    @property
-    def places(self) -> Sequence[int]:
-        return [first + self.number for first in (flat.P, flat.A, flat.Q, flat.PHASE)]
+        self.number, self.holds = number, False
+        self.places = [first + number for first in (flat.P, flat.A, flat.Q, flat.PHASE)]
 
     def begin(self, run: Session) -> bool:
         super().begin(run)
@@ -156,9 +122,8 @@ class Waits(Test):
 
     def waits_at(self, looks: Looks, p: int, phase: int) -> bool:
         """Returns whether the instruction at P may wait, or the block transfer of a phase. The cell is as it was in all the turns."""
-        (word,) = looks.run.engine.numbers(flat.CELLS + CELLS * self.number + p, 1)
-        registers = {"P": f"{p:04o}", "PHASE": f"{phase:04o}", "A": "000000", "Q": "0000"}
-        return Processor(registers, [f"{word:04o}", "0000"]).goes_on_in is not None
+        word = phase or looks.run.engine.numbers(flat.CELLS + CELLS * self.number + p, 1)[0]
+        return word >> 6 in (BLOCK_GOES_ON if phase else COMPLETES)
 
 
 class Returns(Test):
@@ -170,6 +135,7 @@ class Returns(Test):
         """The entries are the cells of return addresses by the addresses of the jumps back."""
         self.number, self.jumps, self.firsts = number, entries, {cell + 1: jump for jump, cell in entries.items()}
         self.column = Column(Place("P", (number,)))
+        self.places = [*self.column.places]
         self.stored: Dict[int, int] = {}  # by the address of the jump back: the return address
 
     def verdicts(self, looks: Looks) -> bytes:
@@ -234,7 +200,7 @@ def first_test(words: List[str], symbols: Any) -> Tuple[Test, List[str]]:
         return Changes(Column(place, last - place.numbers[1] + 1)), rest[2:]
     kind = rest[0].lower() if rest else ""
     if kind == "changes" and place.kind == "H" and rest[1:2] and rest[1].lower() == "state":
-        return OfClock(Column(place), False) if place.numbers[0] == CLOCK else Changes(column_of(place), True, False), rest[2:]
+        return state_of_clock(place, False) if place.numbers[0] == CLOCK else Changes(column_of(place), True, False), rest[2:]
     if kind == "changes":
         return Changes(column_of(place)), rest[1:]
     if kind == "is" and place.kind == "H":
@@ -288,8 +254,13 @@ def state_test(place: Place, words: List[str]) -> Tuple[Test, List[str]]:
         raise Failure(f"a channel is {', '.join(STATES[:-1])} or {STATES[-1]}")
     wanted = STATES.index(letter)
     if place.numbers[0] == CLOCK:
-        return OfClock(Column(place), letter == STATE_OF_CLOCK), words[2:]
-    return StateIs(column_of(place), lambda state: state == wanted), words[2:]
+        return state_of_clock(place, letter == STATE_OF_CLOCK), words[2:]
+    return Is(column_of(place), wanted.__eq__, flat.STATES + place.numbers[0]), words[2:]
+
+
+def state_of_clock(place: Place, held: bool) -> Test:
+    """Returns the test of the state of the clock, which is always F: it holds always or never."""
+    return Is(Column(place), lambda number: held)
 
 
 def column_of(place: Place) -> Column:

@@ -9,7 +9,6 @@ from typing import Dict, List, Optional, Sequence, Tuple
 
 from ..engine import interface as flat
 from ..engine.interface import Engine
-from ..failure import Failure
 from .device import Channel, Event, Reply, Value, called, looked
 from .forms import CHANNELS, Place
 from .past import Past

@@ -133,11 +133,7 @@ class Test:
     is_change = False  # so that it never holds for two turns
     remembers = False  # what came before, so that it is looked at from the first turn on
     column: Optional[Column] = None  # whose numbers are shown
-
-    @property
-    def places(self) -> Sequence[int]:
-        """The places that it looks at."""
-        return [*self.column.places] if self.column else []
+    places: Sequence[int] = ()  # that it looks at
 
     def begin(self, run: Session) -> bool:
         """Looks before some turns. Returns whether it holds."""

@@ -56,13 +56,10 @@ class BeginsLine(Test):
 
     def __init__(self, number: int, source: Any) -> None:
         self.number, self.source = number, source
+        self.places = [flat.P + number, flat.PHASE + number]
         self.line: Optional[int] = None  # the number of the line that it is in, if it is in one
         self.left: Optional[int] = None  # after how many turns it left its source
         self.turn = 0  # how many turns it has seen
-
-    @property
-    def places(self) -> Sequence[int]:
-        return [flat.P + self.number, flat.PHASE + self.number]
 
     def line_of(self, address: int, words: Sequence[str]) -> Optional[int]:
         line = self.source.line_of(address, *words)

@@ -16,7 +16,7 @@ import functools
 import re
 from array import array
 from itertools import chain, repeat
-from typing import Any, Container, Dict, Iterable, Iterator, List, MutableSequence, NamedTuple, NewType, Optional, Sequence, Tuple, Type, TypeVar
+from typing import Any, Container, Iterable, Iterator, List, MutableSequence, NamedTuple, NewType, Optional, Sequence, Tuple, Type, TypeVar
 
 from ..failure import Failure
 from .forms import MOST_TURNS, PROCESSORS

@@ -85,10 +85,7 @@ class Touches(Test):
     def __init__(self, channel, processors):
         self.channel, self.processors = channel, processors
         self.changes = Changes(Column(Place("H", (channel,))), channel < CLOCK)
-
-    @property
-    def places(self):
-        return [*self.changes.places, *(flat.P + number for number in self.processors)]
+        self.places = [*self.changes.places, *(flat.P + number for number in processors)]
 
     def begin(self, run):
         self.phases = run.engine.numbers(flat.PHASE, PROCESSORS)

@@ -85,45 +85,27 @@ def waiting_for_ever(words, tape, numbers):
 
 # ---- who changed a channel last
 
-class LastChange(NamedTuple):
-    """The last change of a channel: the turn, or the one before a setting, and who made it."""
-
-    turn: int
-    maker: str
-
-
-def last_changes(run, channels, symbols):
-    """Returns the last change of each of some channels, by their numbers."""
-    changes = {}
-    for channel in channels:
-        changed, setting = changed_by_turns(run, channel), last_setting(run.tape, channel)
-        if setting and setting.turn >= (changed[0].turn if changed else 0):
-            changes[channel] = setting
-        elif changed:
-            changes[channel] = LastChange(changed[0].turn, maker(run, channel, *changed, symbols))
-        else:
-            changes[channel] = LastChange(0, "NOBODY")
-    return changes
-
-
-def changed_by_turns(run, channel):
-    """Returns the last turn that changed a channel, with the channel before and after it; None if there is none."""
-    found = last_moments(run, Condition([Changes(Column(Place("H", (channel,))), True)]), 1)
-    return (found[0], *found[0].numbers[0][1:]) if found else None
+def last_change(run, channel, symbols):
+    """Returns the turn of the last change of a channel, or the one before a setting, and who made it."""
+    found, setting = last_moments(run, Condition([Changes(Column(Place("H", (channel,))), True)]), 1), last_setting(run.tape, channel)
+    turn = found[0].turn if found else 0
+    if setting[0] >= turn:
+        return setting
+    return turn, maker(run, channel, found[0], symbols)
 
 
 def last_setting(tape, channel):
-    """Returns the last SET of a channel or DEADSTART, or None."""
+    """Returns after which turn the last SET of a channel or DEADSTART was, and its name; that of nobody if there is none."""
     for turns, action in zip(reversed(tape.turns_before), reversed(tape.runs)):
         words = action.line.upper().split()
         if words[0] == "DEADSTART" or words[:2] == ["SET", "H"] and int(words[2], 8) == channel:
-            return LastChange(turns, words[0])
-    return None
+            return turns, words[0]
+    return 0, "NOBODY"
 
 
-def maker(run, channel, moment, was, now, symbols):
-    """Returns who changed a channel in a turn, from and to a state: its processor, or else a device."""
-    made = moment.made
+def maker(run, channel, found, symbols):
+    """Returns who changed a channel in a turn: its processor, or else a device."""
+    made, ((_, was, now),) = found.made, found.numbers
     turn = Turn(made.slot, made.processor, made.after, lambda address: 0, run.central_size)
     if is_made_by(turn, channel, was[0], now[0]):
         line = symbols.line_at_p(made.slot, made.processor)
@@ -175,7 +157,7 @@ def waits(run, symbols=AllSymbols()):
     for_ever = set().union(*(waiting_for_ever(run.words, run.tape, numbers[at:at + MOST_WATCHES])
                              for at in range(0, len(numbers), MOST_WATCHES)))
     channels = sorted({one.processor.channel for one in found if one.processor.channel < CLOCK})
-    changes = last_changes(run, channels, symbols) if channels else {}
+    changes = {channel: last_change(run, channel, symbols) for channel in channels}
     for one in found:
         yield f"{one.line} {one.first_turn(run)}{', FOR EVER' if one.number in for_ever else ''}{one.source}"
         if one.processor.channel in changes:
