@@ -101,9 +101,11 @@ class LibrarySession:
         self._handle = Handle()
         library, self._at = load(path), byref(self._handle)
         self.calls = {name: functools.partial(getattr(library, f"pp6600_{name}"), self._at) for name in CALLS}
-        self._text: Any = ctypes.create_string_buffer(ANSWER_ROOM)  # kept from call to call, with what is said of an answer
+        self.text: Any = ctypes.create_string_buffer(ANSWER_ROOM)  # kept from call to call, with what is said of an answer
         self.answered = c_size_t(), c_size_t(), c_uint32(), c_uint32()
         self.counted = tuple(map(byref, self.answered))
+        self.looked: Sequence[int] = ()  # the places of the latest looks, and for how many turns there is room
+        self.most_seen, self.is_watched = 0, False
         text, count, status = ctypes.create_string_buffer(TEXT_ROOM), c_size_t(), c_uint32()
         if not all(0 <= number < MOST_OF_BYTE for number in (reader, printer)) or \
                 not all(0 <= number < MOST_OF_WORD for number in (history, central)):
@@ -134,7 +136,7 @@ class LibrarySession:
         """Performs lines, and returns their answers. It asks with more room as long as an answer does not fit."""
         texts, lines, refused, taken, size, status = [], 0, 0, 0, max(room, 1), ROOM
         while status == ROOM:
-            left, into = typed[taken:], self._text if size <= len(self._text) else ctypes.create_string_buffer(size)
+            left, into = typed[taken:], self.text if size <= len(self.text) else ctypes.create_string_buffer(size)
             status = self._call("answer", left, c_size_t(len(left)), into, c_size_t(size), *self.counted)
             more, count, performed, rejected = (number.value for number in self.answered)
             texts.append(into[:count])
@@ -180,12 +182,28 @@ class LibrarySession:
 
     def looks(self, most: int, places: Sequence[int]) -> Tuple[List[List[int]], bool]:
         """Performs turns as `turns` does. Returns the numbers at the places after each, and whether the last changed a watched number."""
-        width, turns, into = len(places), c_size_t(), (c_uint64 * (most * len(places)))()
-        chosen = (c_uint32 * width)(*places)
-        status = self._call("looks", c_uint32(most), chosen, c_size_t(width), into, c_size_t(most * width), byref(turns))
-        if status == REFUSED:
+        turns, width = self.look(most, [*places]), len(places)
+        numbers = self.seen[:turns * width].tolist()
+        return [numbers[at:at + width] for at in range(0, turns * width, width)], self.is_watched
+
+    def look(self, most: int, places: Sequence[int]) -> int:
+        """As `looks`, but returns how many turns; what was seen is in `seen`."""
+        if self.looked is not places or most > self.most_seen:
+            self._make_room(most, places)
+        self.most.value = most
+        status = self._looks()
+        if status > WATCHED:
+            open_status(status)
             raise Failure("looks are at 1 to 16 places that the machine has")
-        return [into[at * width:(at + 1) * width] for at in range(turns.value)], status == WATCHED
+        self.is_watched = status == WATCHED
+        return int(self.answered[0].value)
+
+    def _make_room(self, most: int, places: Sequence[int]) -> None:
+        """Makes room for the numbers at places after so many turns."""
+        width, room = len(places), (c_uint64 * (most * len(places)))()
+        self.looked, self.most_seen, self.most, self.seen = places, most, c_uint32(), memoryview(room).cast("B").cast("Q")
+        self._looks = functools.partial(self.calls["looks"], self.most, byref((c_uint32 * width)(*places)), c_size_t(width), byref(room),
+                                        c_size_t(most * width), self.counted[0])
 
     def back(self, count: int) -> bool:
         """Undoes actions. Returns whether there were enough; if not, none is undone."""
@@ -212,33 +230,17 @@ class LibraryEngine:
             self.session = LibrarySession(**options, path=path)
         except Unloadable as failure:
             raise Failure(f"{path} is not the library of the simulator: {failure.__cause__}") from failure
-        self._answer, self._looks = self.session.calls["answer"], self.session.calls["looks"]  # which are called most often
-        self.text: Any = ctypes.create_string_buffer(ANSWER_ROOM)
-        self.size, self.room = c_size_t(), c_size_t(ANSWER_ROOM)
-        (self.taken, self.count, _, self.refused), self.counted = self.session.answered, self.session.counted
-        self.looked: Sequence[int] = ()  # the places of the latest looks, and for how many turns there is room
-        self.most_seen, self.most = 0, c_uint32()
+        self.numbers, self.close = self.session.numbers, self.session.close
+        self._answer, self._refused, self._size = self.session.calls["answer"], self.session.answered[3], c_size_t()
+        self._answers = self.session.text, c_size_t(ANSWER_ROOM), *self.session.counted
 
     def answer(self, text: str) -> List[str]:
-        typed, found = text.encode("latin-1"), b""
-        while True:
-            self.size.value = len(typed)
-            status = self._answer(typed, self.size, self.text, self.room, *self.counted)
-            found += self.text[:self.count.value]
-            if status == DONE:
-                return found.decode("ascii").splitlines()
-            typed = typed[self.taken.value:]
-            if open_status(status) == ROOM:
-                self.room.value *= 4
-                self.text = ctypes.create_string_buffer(self.room.value)
+        return self.session.answer(text.encode("latin-1"), ANSWER_ROOM).text.decode("ascii").splitlines()
 
     def perform(self, typed: bytes) -> None:
-        self.size.value = len(typed)
-        if self._answer(typed, self.size, self.text, self.room, *self.counted) != DONE or self.refused.value:
+        self._size.value = len(typed)
+        if self._answer(typed, self._size, *self._answers) != DONE or self._refused.value:
             raise Failure(f"the simulator refuses {typed.decode('latin-1')}")
-
-    def numbers(self, first: int, count: int) -> Sequence[int]:
-        return self.session.numbers(first, count)
 
     def counts(self) -> interface.Counts:
         return interface.Counts(*self.session.counts()[:3])
@@ -253,14 +255,14 @@ class LibraryEngine:
         return records
 
     def looks(self, places: Sequence[int], most: int) -> Tuple[Sequence[int], int]:
-        turns = self._look(places, most)
-        return array("Q", self.seen[:len(places) * turns].tobytes()), turns
+        turns = self.session.look(most, places)
+        return array("Q", self.session.seen[:len(places) * turns].tobytes()), turns
 
     def until(self, places: Sequence[int], numbers: Sequence[int], most: int, typed: bytes = b"") -> Tuple[int, Sequence[int]]:
         if typed:
             self.perform(typed)
-        made = same = self._look(places, most)
-        width, seen = len(places), self.seen
+        made = same = self.session.look(most, places)
+        width, seen = len(places), self.session.seen
         for at, number in enumerate(numbers):
             column = seen[at:same * width:width].tolist()
             alike = column.count(number)
@@ -274,25 +276,6 @@ class LibraryEngine:
             self.back(made - same - 1)
         return same + 1, seen[same * width:same * width + width].tolist()
 
-    def _look(self, places: Sequence[int], most: int) -> int:
-        """Makes turns. Returns how many; what was seen is in the room for it."""
-        if self.looked is not places or most > self.most_seen:
-            self._make_room(places, most)
-        self.most.value = most
-        status = self._looks_there()
-        if status > WATCHED:
-            open_status(status)
-            raise Failure("the machine does not have these places")
-        return int(self.taken.value)
-
-    def _make_room(self, places: Sequence[int], most: int) -> None:
-        """Makes room for the numbers at places after so many turns."""
-        width = len(places)
-        room = (c_uint64 * (most * width))()
-        self.looked, self.most_seen, self.seen = places, most, memoryview(room).cast("B").cast("Q")
-        self._looks_there = functools.partial(self._looks, self.most, byref((c_uint32 * width)(*places)), c_size_t(width), byref(room),
-                                              c_size_t(most * width), self.counted[0])
-
     def back(self, count: int) -> None:
         if not self.session.back(count):
             raise Failure("the machine keeps fewer actions")
@@ -300,9 +283,6 @@ class LibraryEngine:
     def forward(self, count: int) -> None:
         if not self.session.forward(count):
             raise Failure("the machine has fewer actions ahead")
-
-    def close(self) -> None:
-        self.session.close()
 
 
 def bytes_of(path: str, name: str) -> bytes:

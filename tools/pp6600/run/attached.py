@@ -115,7 +115,8 @@ class Attached(Session):
         asked = COUNTED.fullmatch(line) if len(line) <= LONGEST_LINE else None
         count = int(asked[2] or "1", 8) if asked else 0
         if asked and count <= MOST_TURNS:
-            return {"STEP": self._step, "BACK": self._back, "FORWARD": self._forward}[asked[1].upper()](count)
+            word = asked[1].upper()
+            return self._step(count) if word == "STEP" else self._go_over(word, count)
         answer = self.ask(line)
         if BACK_W.fullmatch(line):
             return self._back_to_unit(answer)
@@ -178,15 +179,14 @@ class Attached(Session):
         state, register = (self.engine.numbers(first + number, 1)[0] for first in (flat.STATES, flat.REGISTERS))
         return state, register
 
-    def _back(self, count: int) -> List[str]:
-        if count > self.unit:
+    def _go_over(self, word: str, count: int) -> List[str]:
+        """Goes back or forward over so many units. Returns the answer."""
+        unit = self.unit + (count if word == "FORWARD" else -count)
+        if unit < 0:
             return [TOO_FEW_KEPT]
-        return self._arrive("BACK", count, self.tape.after_units(Units(self.unit - count)))
-
-    def _forward(self, count: int) -> List[str]:
-        if count > self.tape.units(self.tape.end) - self.unit:
+        if unit > self.tape.units(self.tape.end):
             return [TOO_FEW_AHEAD]
-        return self._arrive("FORWARD", count, self.tape.after_units(Units(self.unit + count)))
+        return self._arrive(word, count, self.tape.after_units(Units(unit)))
 
     def _back_to_unit(self, answer: List[str]) -> List[str]:
         """Goes back to before a whole unit, after the simulator has answered BACK W."""
@@ -220,7 +220,8 @@ class Attached(Session):
         """Takes a line and what was made after it into the tape, in place of what is ahead."""
         self.cut(self.position)
         self.tape.append(line, bool(line))
-        self.tape.append_replies(new.turns, new.replies)
+        for replies in new.replies:
+            self.tape.append_replies(*replies)
         self.tape.append(STEP, new.turn - self.tape.turns)
         self.history.went(new.position, self.engine.counts().kept)
         self.plain.stops += new.stops

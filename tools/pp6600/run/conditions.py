@@ -4,17 +4,18 @@ from __future__ import annotations
 
 import operator
 import re
-from itertools import chain
-from typing import Any, Callable, Dict, Iterator, List, Optional, Sequence, Tuple
+from itertools import chain, compress
+from typing import Any, Callable, Dict, List, Optional, Sequence, Tuple
 
 from ..engine import interface as flat
 from ..failure import Failure
 from ..language.names import AllSymbols
 from ..shell.options import octal
 from .forms import CELLS, CLOCK, PROCESSORS, REGISTERS, STATES, Place
+from .recording import Recording
 from .search import Column, Condition, Looks, Test
 from .session import Session
-from .turn import Processor
+from .turn import BLOCK_GOES_ON, COMPLETES
 
 FORM = ("a condition is PLACE = 105 (also != < > <= >=), PLACE outside 100 117, PLACE inside 100 117, PLACE changes, "
         "M 0 100 117 changes, H 12 is F, H 12 changes state, PP 3 waits, PP 3 in a block, PP 3 not in a block or PP 3 returns wrongly; "
@@ -31,13 +32,11 @@ class Is(Test):
 
     column: Column
 
-    def __init__(self, column: Column, test: Callable[[int], bool]) -> None:
+    def __init__(self, column: Column, test: Callable[[int], bool], place: Optional[int] = None) -> None:
+        """It is the first number of the column, or that at another place."""
         self.column, self.test = column, test
+        self.places = [column.places[0] if place is None else place]
         self.known: Dict[int, bool] = {}  # the verdicts on numbers
-
-    @property
-    def places(self) -> Sequence[int]:
-        return [self.column.places[0]]
 
     def verdict(self, number: int) -> bool:
         if number not in self.known:
@@ -45,44 +44,18 @@ class Is(Test):
         return self.known[number]
 
     def begin(self, run: Session) -> bool:
-        self.held = self.verdict(run.engine.numbers(self.places[0], 1)[0])
-        return self.held
+        super().begin(run)
+        return self.verdict(*self.last.values())
 
     def verdicts(self, looks: Looks) -> bytes:
-        place, number = self.places[0], self.column.processor
-        values = looks.columns[place] if number is None else looks.own(number, place)
-        before, distinct = self.held, {one: self.verdict(one) for one in set(values)}
+        number, (place, before) = self.column.processor, *self.last.items()
+        values = looks.own(number, place)
+        distinct = {one: self.verdict(one) for one in set(values)}
         if all(distinct.values()) or not any(distinct.values()):
             found = bytes([any(distinct.values())]) * len(values)
         else:
             found = bytes(map(distinct.__getitem__, values))
-        self.held = bool(found[-1]) if found else before
-        return found if number is None else looks.spread(number, found, before)
-
-
-class StateIs(Is):
-    """Whether the state of a channel is as it must be."""
-
-    @property
-    def places(self) -> Sequence[int]:
-        return [flat.STATES + self.column.place.numbers[0]]
-
-
-class OfClock(Test):
-    """Whether the state of the clock, which is always F, is as it must be."""
-
-    def __init__(self, column: Column, held: bool) -> None:
-        self.column, self.held = column, held
-
-    @property
-    def places(self) -> Sequence[int]:
-        return []
-
-    def begin(self, run: Session) -> bool:
-        return self.held
-
-    def verdicts(self, looks: Looks) -> bytes:
-        return bytes([self.held]) * looks.turns
+        return looks.spread(number, found, self.verdict(before))
 
 
 class Changes(Test):
@@ -94,48 +67,25 @@ class Changes(Test):
     def __init__(self, column: Column, with_state: bool = False, with_number: bool = True) -> None:
         """Of a channel it is its state, its number, or both."""
         self.column = column
-        self.looked: Sequence[int] = [flat.STATES + column.place.numbers[0]] * with_state + [*column.places] * with_number
-
-    @property
-    def places(self) -> Sequence[int]:
-        return self.looked if len(self.looked) <= MOST_LOOKED else []
-
-    def begin(self, run: Session) -> bool:
-        self.last = {place: run.engine.numbers(place, 1)[0] for place in self.places}
-        return False
+        self.looked = [flat.STATES + column.place.numbers[0]] * with_state + [*column.places] * with_number
+        self.places = self.looked if len(self.looked) <= MOST_LOOKED else []
 
     def verdicts(self, looks: Looks) -> bytes:
-        number = self.column.processor
+        number, held = self.column.processor, 0
         if not self.places:
             return self.of_many(looks)
-        held = 0
-        columns = [(place, looks.columns[place] if number is None else looks.own(number, place)) for place in self.places]
-        for place, values in columns:
-            held |= int.from_bytes(self.changes(place, values), "big")
-        found = held.to_bytes(len(columns[0][1]), "big")
-        return found if number is None else looks.once(number, found)
-
-    def changes(self, place: int, values: Sequence[int]) -> bytes:
-        """Returns at which of some values a number is another one than before."""
-        last = self.last[place]
-        if not len(values) or {*values} == {last}:
-            return bytes(len(values))
-        self.last[place] = values[-1]
-        return bytes(map(operator.ne, chain((last,), values), values))
+        for place, before in self.last.items():
+            values = looks.own(number, place)
+            if {*values} - {before}:
+                held |= int.from_bytes(bytes(map(operator.ne, chain((before,), values), values)), "big")
+        return looks.once(number, held.to_bytes(len(values), "big"))
 
     def of_many(self, looks: Looks) -> bytes:
         """As `verdicts`, of more cells than are looked at: by what the turns overwrote."""
-        records, found = looks.records(), bytearray(looks.turns)
-        if {*records.places}.isdisjoint(self.looked):
-            return bytes(found)
-        end, now = len(records.places), dict(zip(self.looked, looks.run.engine.numbers(self.looked[0], len(self.looked))))
-        for at in range(looks.turns - 1, -1, -1):
-            begin = end - records.counts[at]
-            for place, number in zip(records.places[begin:end], records.numbers[begin:end]):
-                if place in now:
-                    found[at] |= number != now[place]
-                    now[place] = number
-            end = begin
+        found, cells = bytearray(looks.turns), {*self.looked}
+        if not looks.written.isdisjoint(cells):
+            for at, was, now in Recording(looks.run, looks.first, looks.position(looks.turns)).turns_back():
+                found[at] = any(place in cells and number != now[place] for place, number in was.items())
         return bytes(found)
 
 
@@ -143,43 +93,37 @@ class Waits(Test):
     """Whether the latest turn of a processor was a wait: it changed no register, by an instruction that may wait. A setting is no turn."""
 
     def __init__(self, number: int) -> None:
-        self.number = number
-        self.holds = False
-
-    @property
-    def places(self) -> Sequence[int]:
-        return [first + self.number for first in (flat.P, flat.A, flat.Q, flat.PHASE)]
+        self.number, self.holds = number, False
+        self.places = [first + number for first in (flat.P, flat.A, flat.Q, flat.PHASE)]
 
     def begin(self, run: Session) -> bool:
-        self.last = tuple(run.engine.numbers(place, 1)[0] for place in self.places)
+        super().begin(run)
         return self.holds
 
     def verdicts(self, looks: Looks) -> bytes:
         held, registers = self.holds, [(*one,) for one in zip(*(looks.own(self.number, place) for place in self.places))]
-        same = bytes(map(operator.eq, chain((self.last,), registers), registers))
+        same = bytes(map(operator.eq, chain((tuple(self.last.values()),), registers), registers))
         if any(same):
             same = self.waited(looks, registers, same)
-        self.last = registers[-1] if registers else self.last
         self.holds = bool(same[-1]) if same else held
         return looks.spread(self.number, same, held)
 
     def waited(self, looks: Looks, registers: Sequence[Tuple[int, ...]], same: bytes) -> bytes:
         """Returns which turns waited, of those that changed no register."""
-        keys = {(registers[at][0], registers[at][3]) for at in indexes(same)}
-        written = looks.written() if any(not phase for _, phase in keys) else set()
+        keys = {(one[0], one[3]) for one in compress(registers, same)}
+        written = looks.written if any(not phase for _, phase in keys) else set()
         known = {(p, phase): self.waits_at(looks, p, phase) for p, phase in keys
                  if phase or flat.CELLS + CELLS * self.number + p not in written}
         own, found = looks.first_own(self.number), bytearray(len(same))
-        for at in indexes(same):
-            key = registers[at][0], registers[at][3]
+        for at, (p, _, _, phase) in compress(enumerate(registers), same):
+            key = p, phase
             found[at] = known[key] if key in known else looks.processor_at(own + PROCESSORS * at).goes_on_in is not None
         return bytes(found)
 
     def waits_at(self, looks: Looks, p: int, phase: int) -> bool:
         """Returns whether the instruction at P may wait, or the block transfer of a phase. The cell is as it was in all the turns."""
-        (word,) = looks.run.engine.numbers(flat.CELLS + CELLS * self.number + p, 1)
-        registers = {"P": f"{p:04o}", "PHASE": f"{phase:04o}", "A": "000000", "Q": "0000"}
-        return Processor(registers, [f"{word:04o}", "0000"]).goes_on_in is not None
+        word = phase or looks.run.engine.numbers(flat.CELLS + CELLS * self.number + p, 1)[0]
+        return word >> 6 in (BLOCK_GOES_ON if phase else COMPLETES)
 
 
 class Returns(Test):
@@ -191,21 +135,17 @@ class Returns(Test):
         """The entries are the cells of return addresses by the addresses of the jumps back."""
         self.number, self.jumps, self.firsts = number, entries, {cell + 1: jump for jump, cell in entries.items()}
         self.column = Column(Place("P", (number,)))
+        self.places = [*self.column.places]
         self.stored: Dict[int, int] = {}  # by the address of the jump back: the return address
 
-    def begin(self, run: Session) -> bool:
-        (self.last,) = run.engine.numbers(flat.P + self.number, 1)
-        return False
-
     def verdicts(self, looks: Looks) -> bytes:
-        own, first = looks.own(self.number, flat.P + self.number), looks.first_own(self.number)
-        if {self.last, *own}.isdisjoint({*self.jumps, *self.firsts}):
-            self.last = own[-1] if len(own) else self.last
+        own, first = [*self.last.values(), *looks.own(self.number, flat.P + self.number)], looks.first_own(self.number)
+        if {*own}.isdisjoint({*self.jumps, *self.firsts}):
             return bytes(looks.turns)
-        return looks.once(self.number, bytes([self.verdict(address, first + PROCESSORS * at, looks) for at, address in enumerate(own)]))
+        return looks.once(self.number, bytes([self.verdict(was, address, first + PROCESSORS * at, looks)
+                                              for at, (was, address) in enumerate(zip(own, own[1:]))]))
 
-    def verdict(self, address: int, at: int, looks: Looks) -> bool:
-        was, self.last = self.last, address
+    def verdict(self, was: int, address: int, at: int, looks: Looks) -> bool:
         if address in self.firsts and was != address:
             processor = looks.processor_at(at)
             if processor.name == RJM and not processor.phase:  # the subroutine was called
@@ -213,14 +153,6 @@ class Returns(Test):
         if was not in self.jumps or was == address or looks.processor_at(at).phase:
             return False
         return self.stored.pop(was, address) != address
-
-
-def indexes(verdicts: bytes) -> Iterator[int]:
-    """Yields where verdicts are true."""
-    at = verdicts.find(1)
-    while at >= 0:
-        yield at
-        at = verdicts.find(1, at + 1)
 
 
 def parsed(text: str, symbols: Any = AllSymbols()) -> Condition:
@@ -268,7 +200,7 @@ def first_test(words: List[str], symbols: Any) -> Tuple[Test, List[str]]:
         return Changes(Column(place, last - place.numbers[1] + 1)), rest[2:]
     kind = rest[0].lower() if rest else ""
     if kind == "changes" and place.kind == "H" and rest[1:2] and rest[1].lower() == "state":
-        return OfClock(Column(place), False) if place.numbers[0] == CLOCK else Changes(column_of(place), True, False), rest[2:]
+        return state_of_clock(place, False) if place.numbers[0] == CLOCK else Changes(column_of(place), True, False), rest[2:]
     if kind == "changes":
         return Changes(column_of(place)), rest[1:]
     if kind == "is" and place.kind == "H":
@@ -322,8 +254,13 @@ def state_test(place: Place, words: List[str]) -> Tuple[Test, List[str]]:
         raise Failure(f"a channel is {', '.join(STATES[:-1])} or {STATES[-1]}")
     wanted = STATES.index(letter)
     if place.numbers[0] == CLOCK:
-        return OfClock(Column(place), letter == STATE_OF_CLOCK), words[2:]
-    return StateIs(column_of(place), lambda state: state == wanted), words[2:]
+        return state_of_clock(place, letter == STATE_OF_CLOCK), words[2:]
+    return Is(column_of(place), wanted.__eq__, flat.STATES + place.numbers[0]), words[2:]
+
+
+def state_of_clock(place: Place, held: bool) -> Test:
+    """Returns the test of the state of the clock, which is always F: it holds always or never."""
+    return Is(Column(place), lambda number: held)
 
 
 def column_of(place: Place) -> Column:

@@ -4,13 +4,13 @@ from __future__ import annotations
 
 import functools
 import re
-from typing import Iterable, Iterator, List, Sequence, Tuple, TypeVar, Union
+from typing import Iterable, Iterator, List, Sequence, TypeVar, Union
 
 from ..engine import interface as flat
 from ..engine.choose import default_engine, engine_of
 from ..engine.interface import Rejection
 from ..failure import Failure
-from .forms import CELLS, CLOCK, MOST_TURNS, PROCESSORS, Place, Registers, fields, is_refusal, registers_of, words_of
+from .forms import CELLS, CLOCK, PROCESSORS, Place, Registers, fields, is_refusal
 from .turn import Processor
 
 LONGEST_LINE = 255
@@ -94,7 +94,9 @@ class Console:
 
     def registers(self, processor: int) -> Registers:
         """Returns P, A, Q, PHASE and SLOT of a processor, 0 to 0o11, by their names, each as its octal digits."""
-        return registers_of(self.demand(f"DUMP PP {number_of('a processor', processor):o}")[0])
+        registers = fields(self.demand(f"DUMP PP {number_of('a processor', processor):o}")[0])
+        del registers["PP"]
+        return registers
 
     def slot(self) -> int:
         return int(self.registers(0)["SLOT"], 8)
@@ -102,7 +104,8 @@ class Console:
     def cells(self, processor: int, first: int, last: int) -> List[str]:
         """Returns the words of the cells from first to last, at most 0o7777, each as its four octal digits."""
         number_of("a processor", processor)
-        return words_of(self.demand(f"DUMP M {processor:o} {number_of('a cell', first):o} {number_of('a cell', last):o}"))
+        rows = self.demand(f"DUMP M {processor:o} {number_of('a cell', first):o} {number_of('a cell', last):o}")
+        return [word for row in rows for word in row.split()[1:]]
 
     def words_at(self, processor: int, address: int) -> List[str]:
         """Returns the words of two cells; after cell 7777 comes cell 0000."""
@@ -173,16 +176,6 @@ class Console:
             return "<p>This simulator has ended.</p>"
         from .notebook import table_of  # no tool needs it
         return table_of([self.processor(number) for number in range(PROCESSORS)], self.channels(), [self.reader(), self.printer()[0]])
-
-    # ---- turns
-
-    def steps(self, turns: int) -> Iterator[Tuple[int, List[str]]]:
-        """Makes so many turns, and yields after each STEP how many it made and its answer, with a HIT if there is one."""
-        while turns:
-            answer = self.demand(f"STEP {min(turns, MOST_TURNS):o}")
-            made = int(answer[0].split()[1], 8)
-            turns -= made
-            yield made, answer
 
 
 def file_of(words: Sequence[str], text: str) -> str:

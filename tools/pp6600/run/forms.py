@@ -121,18 +121,6 @@ def fields(line: str) -> Dict[str, str]:
     return dict(zip(words[len(words) % 2::2], words[len(words) % 2 + 1::2]))
 
 
-def registers_of(line: str) -> Registers:
-    """Returns P, A, Q, PHASE and SLOT of an answer to DUMP PP."""
-    found = fields(line)
-    del found["PP"]
-    return found
-
-
-def words_of(rows: Iterable[str]) -> List[str]:
-    """Returns the words of the rows of a dump of cells."""
-    return [word for row in rows for word in row.split()[1:]]
-
-
 def is_refusal(answer: Sequence[str]) -> bool:
     """Returns whether an answer refuses its line."""
     return bool(answer) and answer[0].startswith("ERR ")

@@ -5,13 +5,10 @@ that changed one are undone."""
 
 from __future__ import annotations
 
-import itertools
-import operator
 from typing import Dict, List, Optional, Sequence, Tuple
 
 from ..engine import interface as flat
 from ..engine.interface import Engine
-from ..failure import Failure
 from .device import Channel, Event, Reply, Value, called, looked
 from .forms import CHANNELS, Place
 from .past import Past
@@ -30,8 +27,7 @@ class NewTurns:
         """The engine keeps so many actions, and is at a position of the tape."""
         self.engine, self.pasts, self.room, self.turn = engine, pasts, min(room, MOST_AT_ONCE), tape.turn(position)
         self.others = position - self.turn  # the actions that are no turns
-        self.turns: List[int] = []  # that were made before each reply
-        self.replies: List[Action] = []
+        self.replies: List[Tuple[Sequence[int], Sequence[Action]]] = []  # each after so many turns
         self.stops: List[int] = []  # positions after turns with a HIT
         self.values = [past.value for past in pasts]  # of the devices
         self.new: List[Tuple[List[int], List[Value]]] = [([], []) for _ in pasts]  # those that came, with their positions
@@ -104,10 +100,9 @@ class NewTurns:
         """Notes replies that came after so many turns each."""
         if replies:
             turns = range(self.changed + gap, self.changed + gap * len(replies) + 1, gap)
-            self.turns += turns
-            self.replies += replies
+            self.replies.append((turns, replies))
             at, new = self.new[0]
-            at += map(operator.add, turns, itertools.count(self.others + 1))
+            at += range(turns[0] + self.others + 1, turns[-1] + self.others + len(turns) + 1, gap + 1)
             new += values
             self.values[0], self.changed = values[-1], turns[-1]
             self.others += len(replies)
@@ -158,8 +153,7 @@ class NewTurns:
         if replies:
             self._perform("\n".join([line for line, _ in replies]).encode())
             self.others += len(replies)
-            self.turns += [self.turn] * len(replies)
-            self.replies += replies
+            self.replies.append(([self.turn] * len(replies), replies))
         position, has_dues = self.turn + self.others, self.due is not None
         for number, value in changed:
             at, values = self.new[number]

@@ -35,6 +35,10 @@ class Link:
 class Step:
     """A write of a place: what wrote it and when, and the sources."""
 
+    turn: Turn  # the processor's turn that wrote it, if one did
+    write: Write
+    processor: Processor
+
     def __init__(self, place: Place, cause: int, position: Position = Position(0), detail: Any = None) -> None:
         """The position is that after the action that wrote it. The detail: of a turn a pair of it and its write; of a SET or a
         DEADSTART a pair of its line and the number of the word, from 1, or None; of the reader a pair of card and column, or None."""
@@ -45,25 +49,10 @@ class Step:
         self.code: List[Link] = []  # links to the words of its instruction that have its constants, and were written in the run
         self.block: Optional[Link] = None  # the link to the write of the phase, of a turn of a block transfer
         self.number = ""
-
-    @property
-    def turn(self) -> Turn:
-        """The processor's turn that wrote it."""
-        turn: Turn = self.detail[0]
-        return turn
-
-    @property
-    def write(self) -> Write:
-        write: Write = self.detail[1]
-        return write
-
-    @property
-    def processor(self) -> Processor:
-        return self.turn.processor
-
-    @property
-    def constants(self) -> Tuple[str, ...]:
-        return self.write.constants if self.cause == TURN else ()
+        self.constants: Tuple[str, ...] = ()
+        if cause == TURN:
+            self.turn, self.write = detail
+            self.processor, self.constants = self.turn.processor, self.write.constants
 
 
 class OriginSearch:

@@ -109,10 +109,10 @@ class Writer:
     def by_set(self, step: Step) -> List[str]:
         line, word = step.detail
         if isinstance(line, SourceLine):
-            return [f"FROM {line.places[word]}"]
+            return [f"FROM {line.origin[word]}"]
         if isinstance(line, ReplyLine):
-            return [f"DEVICE {line.device}"]
-        return [f"SET LINE {line.number} WORD {word} (decimal)"]
+            return [f"DEVICE {line.origin}"]
+        return [f"SET LINE {line.origin} WORD {word} (decimal)"]
 
     def by_dead_start(self, step: Step) -> List[str]:
         word = step.detail[1]

@@ -6,13 +6,14 @@ number of turns after each batch. It may raise an exception, which ends the sear
 
 from __future__ import annotations
 
+import functools
 import itertools
 from collections import deque
 from typing import Any, Callable, Dict, Iterator, List, NamedTuple, Optional, Sequence, Set, Tuple
 
 from ..engine import interface as flat
-from ..engine.interface import Records
-from .forms import CLOCK, PROCESSORS, STATES, Place, Registers
+from .forms import CELLS, CLOCK, PROCESSORS, STATES, Place, Registers
+from .recording import recorded
 from .session import Session
 from .tape import Position
 from .turn import Processor
@@ -62,6 +63,7 @@ class Looks:
         """Makes turns, at most so many."""
         self.run, self.first = run, run.position
         self.slot = run.next_slot
+        self.words: Dict[int, List[str]] = {}  # those that no turn wrote, of a processor
         self.columns: Dict[int, Sequence[int]] = {}
         for begin in range(0, max(len(places), 1), MOST_PLACES):
             looked = places[begin:begin + MOST_PLACES] or [flat.SLOT]
@@ -74,12 +76,15 @@ class Looks:
         """Returns how many turns come before the first one of a processor."""
         return (number - self.slot) % PROCESSORS
 
-    def own(self, number: int, place: int) -> Sequence[int]:
-        """Returns the numbers at a place at the end of each turn of a processor."""
-        return self.columns[place][self.first_own(number)::PROCESSORS]
+    def own(self, number: Optional[int], place: int) -> Sequence[int]:
+        """Returns the numbers at a place at the end of each turn, of a processor if there is one."""
+        return self.columns[place] if number is None else self.columns[place][self.first_own(number)::PROCESSORS]
 
-    def spread(self, number: int, verdicts: bytes, before: bool) -> bytes:
-        """Returns the verdicts at the end of each turn, which only turns of a processor change: they are after each of these."""
+    def spread(self, number: Optional[int], verdicts: bytes, before: bool) -> bytes:
+        """Returns the verdicts at the end of each turn, which only turns of a processor change, if there is one: they are after each of
+        these."""
+        if number is None:
+            return verdicts
         if verdicts.count(before) == len(verdicts):
             return bytes([before]) * self.turns
         begin, found = self.first_own(number), bytearray([before]) * self.turns
@@ -88,8 +93,10 @@ class Looks:
             found[part.start:self.turns:PROCESSORS] = verdicts[:len(part)]
         return bytes(found)
 
-    def once(self, number: int, verdicts: bytes) -> bytes:
-        """Returns the verdicts at the end of each turn, which hold right after turns of a processor alone."""
+    def once(self, number: Optional[int], verdicts: bytes) -> bytes:
+        """Returns the verdicts at the end of each turn, which hold right after turns of a processor alone, if there is one."""
+        if number is None:
+            return verdicts
         found = bytearray(self.turns)
         found[self.first_own(number)::PROCESSORS] = verdicts
         return bytes(found)
@@ -103,16 +110,21 @@ class Looks:
         with self.run.at(self.position(at)) as run:
             return run.processor(run.next_slot)
 
-    def records(self) -> Records:
-        """Returns what the turns overwrote. They are made once more."""
-        self.run.goto(self.first)
-        records = self.run.engine.turns(self.turns)
-        self.run.history.performed(self.turns)
-        return records
+    def words_at(self, number: int, address: int, at: int) -> List[str]:
+        """Returns the words of two cells of a processor before a turn."""
+        if address not in self.words:
+            cells = {flat.CELLS + CELLS * number + (address + more) % CELLS for more in (0, 1)}
+            if not self.written.isdisjoint(cells):
+                with self.run.at(self.position(at)) as run:
+                    return run.words_at(number, address)
+            self.words[address] = self.run.words_at(number, address)
+        return self.words[address]
 
+    @functools.cached_property
     def written(self) -> Set[int]:
-        """Returns the places that the turns wrote."""
-        return set(self.records().places)
+        """The places that the turns wrote. They are made once more."""
+        self.run.goto(self.first)
+        return set(recorded(self.run, self.turns).places)
 
 
 class Test:
@@ -121,19 +133,22 @@ class Test:
     is_change = False  # so that it never holds for two turns
     remembers = False  # what came before, so that it is looked at from the first turn on
     column: Optional[Column] = None  # whose numbers are shown
-
-    @property
-    def places(self) -> Sequence[int]:
-        """The places that it looks at."""
-        return [*self.column.places] if self.column else []
+    places: Sequence[int] = ()  # that it looks at
 
     def begin(self, run: Session) -> bool:
         """Looks before some turns. Returns whether it holds."""
+        self.last = {place: run.engine.numbers(place, 1)[0] for place in self.places}
         return False
 
     def verdicts(self, looks: Looks) -> bytes:
-        """Returns whether it holds at the end of each turn, a byte for each."""
+        """Returns whether it holds at the end of each turn, a byte for each. Before them the numbers were the last ones."""
         return bytes(looks.turns)
+
+    def after(self, looks: Looks) -> bytes:
+        """Returns the verdicts, and sees the numbers after the turns."""
+        found = self.verdicts(looks)
+        self.last = {place: looks.columns[place][-1] for place in self.last}
+        return found
 
 
 class Condition:
@@ -151,7 +166,7 @@ class Condition:
 
     def verdicts(self, looks: Looks) -> bytes:
         """Returns whether it holds at the end of each turn, a byte for each."""
-        first, *others = [test.verdicts(looks) for test in self.tests]
+        first, *others = [test.after(looks) for test in self.tests]
         if not others:
             return first
         held = int.from_bytes(first, "big")
@@ -189,8 +204,11 @@ class FoundTurn(NamedTuple):
 class Search:
     """A search over the tape of a session of its own."""
 
+    by_settings = False  # whether the settings after a turn are found too by which the condition comes to hold
+
     def __init__(self, run: Session, condition: Condition, progress: Optional[Progress] = None) -> None:
         self.run, self.condition, self.progress = run, condition, progress or (lambda turn: None)
+        self.held = True
         for column in condition.columns:
             run.number_at(column.place)  # which is refused if the machine has no such place
 
@@ -200,28 +218,35 @@ class Search:
 
     def found(self, first: int = 0, last: Optional[int] = None) -> Iterator[Found]:
         """As `moments`, but yields the position before each turn, and its number."""
+        begin = 0 if self.condition.remembers else max(first - PROCESSORS, 0)  # what waits is known after a round
+        self.run.goto(self.run.tape.after_turn(begin))
+        self.held = True
+        return self.onward(first, last)
+
+    def onward(self, first: int = 0, last: Optional[int] = None) -> Iterator[Found]:
+        """As `found`, from where the session is."""
         run, tape = self.run, self.run.tape
         last = tape.turns if last is None else last
-        begin = 0 if self.condition.remembers else max(first - PROCESSORS, 0)  # what waits is known after a round
-        run.goto(tape.after_turn(begin))
         while run.turn < last:
-            yield from self.turns(min(tape.starts[tape.run_after(run.position) + 1], tape.at_turn(last)), first)
             run.goto(tape.after_turn(run.turn))
+            yield from self.turns(min(tape.starts[tape.run_after(run.position) + 1], tape.at_turn(last)), first)
 
     def turns(self, end: Position, first: int = 0) -> Iterator[Found]:
         """Makes the turns up to a position, with no other action between, and yields those after `first` that are found."""
         run, condition = self.run, self.condition
-        held = condition.begin(run)
+        held, self.held = self.held, condition.begin(run)
+        if self.by_settings and self.held and not held and run.turn >= first:
+            yield run.position, run.turn
         while run.position < end:
             before = run.turn
             looks = Looks(run, condition.places, min(end - run.position, run.history.room))
             verdicts = condition.verdicts(looks)
             here = run.position
-            for at in comes(verdicts, held, condition.is_change):
+            for at in comes(verdicts, self.held, condition.is_change):
                 if before + at + 1 > first:
                     yield looks.position(at), before + at + 1
             run.goto(here)
-            held = bool(verdicts[-1])
+            self.held = bool(verdicts[-1])
             self.progress(run.turn)
 
     def moment(self, position: Position, turn: int) -> FoundTurn:
@@ -261,17 +286,22 @@ def spans(end: int, first: int = 0, span: int = FIRST_SPAN) -> Iterator[Tuple[in
         end, span = start, WIDER * span
 
 
-def last_moments(run: Session, condition: Condition, most: int, first: int = 0, last: Optional[int] = None,
-                 progress: Optional[Progress] = None) -> List[FoundTurn]:
-    """Returns the last turns of a run at which a condition comes to hold, as many as there are up to `most`, in their order."""
+def last_found(search: Search, most: int, first: int = 0, last: Optional[int] = None) -> List[Found]:
+    """Returns the last turns of a run that are found, as many as there are up to `most`, in their order."""
     found: List[Found] = []
-    search = Search(run, condition, progress)
-    last = run.tape.turns if last is None else last
-    for start, end in spans(last, first, max(last, 1) if condition.remembers else FIRST_SPAN):
+    last = search.run.tape.turns if last is None else last
+    for start, end in spans(last, first, max(last, 1) if search.condition.remembers else FIRST_SPAN):
         found[:0] = deque(search.found(start, end), most)
         if len(found) >= most:
             break
-    return list(itertools.starmap(search.moment, found[-most:]))
+    return found[-most:]
+
+
+def last_moments(run: Session, condition: Condition, most: int, first: int = 0, last: Optional[int] = None,
+                 progress: Optional[Progress] = None) -> List[FoundTurn]:
+    """As `last_found`, with what was and is."""
+    search = Search(run, condition, progress)
+    return list(itertools.starmap(search.moment, last_found(search, most, first, last)))
 
 
 def halve(low: int, high: int, holds: Callable[[int], bool]) -> int:

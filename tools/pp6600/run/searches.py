@@ -7,19 +7,18 @@ all instructions that a macro made of a line, and a block transfer with the inst
 
 from contextlib import closing
 from itertools import islice
-from typing import Any, Dict, Iterator, List, Optional, Sequence, Tuple
+from typing import Any, Optional, Sequence
 
 from ..engine import interface as flat
 from ..failure import Failure
 from .conditions import parsed
-from .forms import CELLS, PROCESSORS
-from .search import FoundTurn, Looks, Progress, Search, last_moments, spans
+from .forms import PROCESSORS
+from .search import Condition, FoundTurn, Looks, Progress, Search, Test, last_found, last_moments
 from .session import Session
-from .tape import STEP, Position, Tape
+from .tape import STEP, Tape
 from .turn import states_of
 
 MOST_NEW = 0o10000000  # turns that are searched after those that were made
-WATCHED_AT_ONCE = 0o4000000  # turns, while a processor is where it was
 
 
 class Stopped(Failure):
@@ -49,121 +48,79 @@ def last_before(session: Any, text: str, symbols: Any, progress: Progress) -> Op
         return next(iter(last_moments(run, parsed(text, symbols), 1, 0, session.history.turns - 1, progress)), None)
 
 
-class Lines:
-    """The lines that a processor is in along a run."""
+class BeginsLine(Test):
+    """Whether a processor begins a line of its source by the latest turn. Where its P is as before its turn before, and in a block transfer,
+    it is in the same line."""
 
-    def __init__(self, run: Session, number: int, source: Any, progress: Progress) -> None:
-        """The function `progress` is called with the turns that are reached; it may raise an exception to end the search."""
-        self.run, self.number, self.source, self.progress = run, number, source, progress
-        self.places = [first + number for first in (flat.P, flat.PHASE, flat.A, flat.Q)]
-        self.line: Optional[int] = None
-        self.left: Optional[Position] = None  # the number of the line that it is in, if it is in one; and where it left its source
+    is_change = True
+
+    def __init__(self, number: int, source: Any) -> None:
+        self.number, self.source = number, source
+        self.places = [flat.P + number, flat.PHASE + number]
+        self.line: Optional[int] = None  # the number of the line that it is in, if it is in one
+        self.left: Optional[int] = None  # after how many turns it left its source
+        self.turn = 0  # how many turns it has seen
 
     def line_of(self, address: int, words: Sequence[str]) -> Optional[int]:
         line = self.source.line_of(address, *words)
         return line.number if line and line.is_there else None
 
-    def begin_at(self, position: Position) -> None:
-        """Sees which line the processor is in at a position; in a block transfer that of its instruction, if this is still there."""
-        run, number = self.run, self.number
-        run.goto(position)
+    def begin_in_line(self, run: Session) -> None:
+        """Sees which line the processor is in; in a block transfer that of its instruction, if this is still there."""
+        number = self.number
         address = run.processor(number).address(lambda cell: int(run.cells(number, cell, cell)[0], 8))
         self.line = None if address is None else self.line_of(address, run.words_at(number, address))
+        self.turn = run.turn
 
-    def begun(self, first: Position, last: Position) -> Iterator[Position]:
-        """Yields the positions from one on, and before another, from which the next turn is the processor's and begins a line."""
-        tape = self.run.tape
-        for at in range(tape.run_after(first), len(tape.runs)):
-            start, end = max(tape.starts[at], first), min(tape.starts[at + 1], last)
-            if tape.runs[at].turns and start < end:
-                self.run.goto(start)
-                self.where: Optional[Tuple[int, int]] = None  # P and phase at the turn before; a setting may have changed the cell at P
-                while self.run.position < end:
-                    yield from self.begun_in(end)
-                    self.progress(self.run.turn)
+    def begin(self, run: Session) -> bool:
+        if run.turn != self.turn:
+            self.begin_in_line(run)
+        self.where = (-1, 0)  # a setting may have changed the cell at P
+        return super().begin(run)
 
-    def begun_in(self, end: Position) -> Iterator[Position]:
-        """Makes some turns, and yields the positions among them. While the processor waits, or jumps to itself, its P is watched instead;
-        but not in a block transfer, whose end may leave P as it is."""
-        run = self.run
-        before = tuple(run.engine.numbers(place, 1)[0] for place in self.places)
-        looks = Looks(run, self.places, min(end - run.position, run.history.room))
-        here, first = run.position, looks.first_own(self.number)
-        registers: List[Tuple[int, ...]] = [before, *zip(*(looks.own(self.number, place) for place in self.places))]
-        self.words: Dict[int, List[str]] = {}
-        self.written = looks.written()
-        for at, (p, phase, _, _) in enumerate(registers[:-1]):
-            if self.begins(p, phase, looks.position(first + PROCESSORS * at)):
-                yield looks.position(first + PROCESSORS * at)
-        run.goto(here)
-        if run.position < end and not before[1] and set(registers) == {before}:
-            run.watch([f"P {self.number:o}"])
-            run.comes_to(min(Position(run.position + WATCHED_AT_ONCE), end))
-            run.unwatch()
+    def verdicts(self, looks: Looks) -> bytes:
+        p, phases = ([before, *looks.own(self.number, place)] for place, before in self.last.items())
+        self.turn = looks.run.turn
+        own = range(looks.first_own(self.number), looks.turns, PROCESSORS)
+        return looks.once(self.number, bytes([self.begins(one, phase, looks, at) for at, one, phase in zip(own, p, phases)]))
 
-    def begins(self, p: int, phase: int, position: Position) -> bool:
-        """Returns whether the processor begins a line by its turn after a position. Where its P is as before its turn before, and in a
-        block transfer, it is in the same line."""
+    def begins(self, p: int, phase: int, looks: Looks, at: int) -> bool:
         was, self.where = self.where, (p, phase)
         if phase or was == self.where:
             return False
-        old, self.line = self.line, self.line_of(p, self.words_at(p, position))
+        old, self.line = self.line, self.line_of(p, looks.words_at(self.number, p, at))
         if self.line is None and old is not None:
-            self.left = position
+            self.left = looks.run.tape.turn(looks.position(at))
         return self.line not in (None, old)
 
-    def words_at(self, address: int, position: Position) -> List[str]:
-        """Returns the two words from an address on at a position."""
-        if address in self.words:
-            return self.words[address]
-        memory = flat.CELLS + CELLS * self.number
-        cells = [memory + (address + more) % CELLS for more in (0, 1)]
-        if not self.written.isdisjoint(cells):
-            self.run.goto(position)
-            return self.run.words_at(self.number, address)
-        self.words[address] = [f"{self.run.engine.numbers(cell, 1)[0]:04o}" for cell in cells]
-        return self.words[address]
-
-    def why_none(self) -> str:
+    def why_none(self, run: Session) -> str:
         """Returns what the processor does instead at the end of a search, as a part of a sentence."""
         if self.line is None:
-            return f"; PP {self.number:02o} is in none after turn {self.run.tape.turn(self.left):o}" if self.left is not None else ""
-        waits = self.run.processor(self.number).waits_for(states_of(self.run.channels()))
+            return f"; PP {self.number:02o} is in none after turn {self.left:o}" if self.left is not None else ""
+        waits = run.processor(self.number).waits_for(states_of(run.channels()))
         return f"; PP {self.number:02o} waits for {waits}" if waits else ""
 
 
 def turn_of_next_line(session: Any, number: int, source: Any, count: int, progress: Progress) -> int:
     """Returns after how many turns a processor begins the line that comes so many lines later, by a turn that was made or a new one."""
-    here = session.history.in_effect().without_watches().end
     with closing(going_on(session)) as run:
-        lines = Lines(run, number, source, progress)
-        lines.begin_at(here)
-        found = next(islice(lines.begun(here, run.tape.end), count - 1, None), None)
+        begins = BeginsLine(number, source)
+        run.goto(session.history.in_effect().without_watches().end)
+        begins.begin_in_line(run)
+        found = next(islice(Search(run, Condition([begins]), progress).onward(), count - 1, None), None)
         if found is None:
-            raise none_found(count, f"up to turn {run.tape.turns:o}{lines.why_none()}")
-        return run.tape.turn(found)
+            raise none_found(count, f"up to turn {run.tape.turns:o}{begins.why_none(run)}")
+        return found[1] - 1
 
 
 def turn_of_line_before(session: Any, number: int, source: Any, count: int, progress: Progress) -> int:
     """Returns what `turn_of_next_line` does, of the last lines that were begun before the present position."""
-    found: List[int] = []
     with closing(Session.of_tape(session.simulator.words, session.history.in_effect())) as run:
-        for start, end in spans(run.tape.turns):
-            found[:0] = begun_in(Lines(run, number, source, progress), start, end)
-            if len(found) >= count:
-                return found[-count]
-        raise none_found(count, f"before turn {run.tape.turns:o}")
+        found = last_found(Search(run, Condition([BeginsLine(number, source)]), progress), count)
+        if len(found) < count:
+            raise none_found(count, f"before turn {run.tape.turns:o}")
+        return found[-count][1] - 1
 
 
 def none_found(count: int, where: str) -> Failure:
     return Failure(f"NONE: {'no other line' if count == 1 else f'fewer than {count:o} lines'} {where}")
-
-
-def begun_in(lines: Lines, start: int, end: int) -> List[int]:
-    """Returns the numbers of turns from one on, and before another, after which a line is begun. Whether it is another line, the
-    processor's turn before says."""
-    tape, first = lines.run.tape, max(start - PROCESSORS, 0)
-    if first:
-        lines.begin_at(tape.after_turn(first))
-    turns = map(tape.turn, lines.begun(tape.after_turn(first), tape.at_turn(end)))
-    return [turn for turn in turns if turn >= start]

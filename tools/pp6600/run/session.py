@@ -10,11 +10,11 @@ from __future__ import annotations
 import contextlib
 import itertools
 import re
-from typing import Iterable, Iterator, List, Optional, Sequence
+from typing import Iterator, List, Optional, Sequence
 
 from ..failure import Failure
 from .console import Console
-from .forms import MOST_TURNS, hit_of, refused
+from .forms import MOST_TURNS, refused
 from .tape import STEP, Action, History, Position, Tape, UnitCounts, Units, lines_of, room_of
 
 MOVE = re.compile(r"[ \t]*(BACK|FORWARD)(?:[ \t]+([0-7]{1,10}))?[ \t\r]*", re.I)
@@ -36,7 +36,6 @@ class Session(Console):
         super().__init__(words)
         self.history, self.is_search = History(room_of(self.words), tape), is_search
         self.counts = UnitCounts(self.history)
-        self.watched: List[str] = []  # places, beside those of the tape
         self.written: List[str] = []  # what the engine was sent since it began
         self.times_anew = 0
 
@@ -144,10 +143,9 @@ class Session(Console):
 
     def _play(self, position: Position) -> None:
         """Performs the actions of the tape up to a position by their lines."""
-        if self.watched or self.tape.watches and not self.is_search:
+        if self.tape.watches and not self.is_search:
             for action in self.tape.actions(self.position, position):
-                if not (self.is_search and action.is_watch):
-                    self._perform(action)
+                self._perform(action)
                 self.history.performed(action.times)
             return
         actions = self.tape.actions(self.position, position)
@@ -175,35 +173,12 @@ class Session(Console):
 
     def _go_anew(self, position: Position) -> None:
         """Goes to a position from the beginning, in a fresh engine."""
-        watched, self.watched, self.written = self.watched, [], []
+        self.written = []
         self.times_anew += 1
         self.engine.close()
         self.start()
         self.history.restarted()
         self._play(position)
-        self.watch(watched)
-
-    def watch(self, places: Iterable[str]) -> None:
-        """Watches places beside those of the tape from here on; it can't go back to before without a replay."""
-        for place in places:
-            self.demand(f"WATCH {place}")
-            self.watched.append(place)
-            self.history.kept = self.history.ahead = 0
-
-    def unwatch(self) -> None:
-        """Ends these watches."""
-        for place in self.watched:
-            self.demand(f"UNWATCH {place}")
-        self.watched = []
-        self.history.kept = self.history.ahead = 0
-
-    def comes_to(self, position: Position) -> bool:
-        """Makes the turns up to a position, or to a HIT. Returns whether there was none."""
-        for made, answer in self.steps(position - self.position):
-            self.history.performed(made)
-            if hit_of(answer):
-                return False
-        return True
 
     def cut(self, position: Position) -> None:
         """Discards what comes after a position, which is not before the present one."""

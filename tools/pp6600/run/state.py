@@ -77,11 +77,6 @@ class Memory:
         return next((at % CELLS for at in range(first % CELLS, first % CELLS + CELLS) if cells[at:at + len(wanted)] == wanted), None)
 
 
-def state_of(console: Console, with_central: bool = False) -> State:
-    """Returns the present state, with all central words or without them."""
-    return State(console, with_central)
-
-
 class State:
     """All numbers of the machine: `slot`, `processors`, `memories`, `channels` (the clock is the last), `watched` (places),
     `printer`, `reader`, and `central`: the central words, if they were asked for."""
@@ -132,6 +127,9 @@ class State:
         for number, (one, two) in enumerate(zip_longest(self.printer.paper, other.printer.paper, fillvalue="NONE"), 1):
             if one != two:
                 yield f"PAPER LINE {number:o}", one, two
+
+
+state_of = State
 
 
 def named(number: int, numbers: Numbers) -> Tuple[str, str]:

@@ -13,11 +13,10 @@ from __future__ import annotations
 
 import bisect
 import functools
-import operator
 import re
 from array import array
-from itertools import chain, compress, count, repeat
-from typing import Any, Container, Dict, Iterable, Iterator, List, MutableSequence, NamedTuple, NewType, Optional, Sequence, Tuple, TypeVar
+from itertools import chain, repeat
+from typing import Any, Container, Iterable, Iterator, List, MutableSequence, NamedTuple, NewType, Optional, Sequence, Tuple, Type, TypeVar
 
 from ..failure import Failure
 from .forms import MOST_TURNS, PROCESSORS
@@ -25,7 +24,7 @@ from .forms import MOST_TURNS, PROCESSORS
 MOST_KEPT = 10000  # decimal, without --history
 Position = NewType("Position", int)  # how many actions of a tape come before
 Units = NewType("Units", int)  # a number of actions as a user counts them
-T = TypeVar("T")
+L = TypeVar("L", bound="KnownLine")
 STEP = "STEP"
 NOTE_OF_DEVICE = re.compile(r"\* DEVICE (\S+)\r?")  # the line after it is a reply of this device
 REPLY = "SET H "
@@ -37,39 +36,28 @@ def room_of(words: Sequence[str]) -> int:
     return int(words[words.index("--history") + 1]) if "--history" in words else MOST_KEPT
 
 
-class ScriptLine(str):
-    """A line of a script with its number, from 1."""
+class KnownLine(str):
+    """A line of which it is known where it came from."""
 
-    number: int
+    origin: Any
 
-    def __new__(cls, text: str, number: int) -> ScriptLine:
+    def __new__(cls: Type[L], text: str, origin: Any) -> L:
         line = super().__new__(cls, text)
-        line.number = number
+        line.origin = origin
         return line
 
 
-class ReplyLine(str):
+class ScriptLine(KnownLine):
+    """A line of a script, with its number, from 1."""
+
+
+class ReplyLine(KnownLine):
     """A SET H that is the reply of a device of one's own, with the name of this."""
 
-    __slots__ = ("device",)
-    device: str
 
-    def __new__(cls, text: str, device: str) -> ReplyLine:
-        line = super().__new__(cls, text)
-        line.device = device
-        return line
-
-
-class SourceLine(str):
+class SourceLine(KnownLine):
     """A line before a script that loads words of a source. Of each of its numbers, by its number in the line, it has the place in the
     source."""
-
-    places: Dict[int, str]
-
-    def __new__(cls, text: str, places: Dict[int, str]) -> SourceLine:
-        line = super().__new__(cls, text)
-        line.places = places
-        return line
 
 
 def counted(lines: Iterable[str]) -> Iterator[Tuple[int, str]]:
@@ -97,7 +85,7 @@ def with_notes(lines: Iterable[str]) -> Iterator[str]:
     """Yields lines, and before each reply the note that names its device."""
     for line in lines:
         if isinstance(line, ReplyLine):
-            yield f"* DEVICE {line.device}"
+            yield f"* DEVICE {line.origin}"
         yield line
 
 
@@ -124,14 +112,16 @@ class Action(NamedTuple):
 turns_of = functools.lru_cache(maxsize=4096)(functools.partial(Action, STEP))
 
 
-def pairs(first: Iterable[T], second: Iterable[T]) -> Iterator[T]:
-    """Yields one of each in turn."""
-    return chain.from_iterable(zip(first, second))
-
-
 def sums() -> Any:
     """Returns the beginning of a list of sums, which has no object for each of them."""
     return array("q", [0])
+
+
+def interleaved(first: int, step: int, count: int, more: int = 0) -> Any:
+    """Returns so many numbers from the first one on, and after each the one that is so much more, as a list of sums has them."""
+    found, numbers = array("q", bytes(16 * count)), range(first, first + count * step, step)
+    found[::2], found[1::2] = array("q", numbers), array("q", range(first + more, numbers.stop + more, step))
+    return found
 
 
 class Tape:
@@ -159,16 +149,17 @@ class Tape:
             self._note_kind(self.runs[-1].word)
 
     def append_replies(self, turns: Sequence[int], replies: Sequence[Action]) -> None:
-        """Adds replies, and the turns before each of them: it comes after so many in all."""
-        self.append(STEP, turns[0] - self.turns if turns else 0)
-        gaps = list(map(operator.sub, turns, chain((self.turns,), turns)))
-        ends = list(map(operator.add, turns, count(self.end - self.turns)))  # of the turns before each
-        units = list(map(operator.add, turns, repeat(self.units_before[-1] - self.turns)))
-        is_run = list(pairs(gaps, repeat(True, len(gaps))))  # no turns are none
-        self.runs += compress(pairs(map(turns_of, gaps), replies), is_run)
-        self.starts.extend(compress(pairs(ends, map(operator.add, ends, repeat(1))), is_run))
-        self.turns_before.extend(compress(pairs(turns, turns), is_run))
-        self.units_before.extend(compress(pairs(units, units), is_run))
+        """Adds replies, and the turns before each of them: it comes after so many in all. A range of them is added at once."""
+        few = 1 if isinstance(turns, range) else len(turns)  # the first turns go on with those before them
+        for at, reply in zip(turns[:few], replies):
+            self.append(STEP, at - self.turns)
+            self._add(reply, 0, 0)
+        if isinstance(turns, range) and turns[1:]:
+            gap, more = turns.step, len(turns) - 1
+            self.runs += chain.from_iterable(zip(repeat(turns_of(gap)), replies[1:]))
+            self.starts += interleaved(self.end + gap, gap + 1, more, 1)
+            self.turns_before += interleaved(self.turns + gap, gap, more)
+            self.units_before += interleaved(self.units_before[-1] + gap, gap, more)
 
     def _add(self, run: Action, turns: int, units: int) -> None:
         self.runs.append(run)
@@ -428,10 +419,6 @@ class UnitCounts:
     def last_turn(self) -> int:
         """How many turns are in effect or ahead."""
         return self.tape.turns
-
-    @property
-    def slot(self) -> int:
-        return self.history.slot
 
     def in_effect(self) -> Tape:
         return self.history.in_effect()

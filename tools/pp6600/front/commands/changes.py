@@ -11,7 +11,7 @@ from ...run.conditions import Changes, column_of, first_place
 from ...run.recording import AT_ONCE, Recording
 from ...run.search import Condition, Search
 from ...run.state import differences
-from ...run.tape import STEP, SourceLine
+from ...run.tape import STEP, WATCH_WORDS, SourceLine
 from ...run.turn import places_of_setting
 from ...shell.command_line import arguments, count, words_after, write_lines
 from ...shell.script import replayed
@@ -30,8 +30,8 @@ it shows the state and the register in one; of the paper the number of symbols a
 def place_changes(run, place, symbols=AllSymbols()):
     """Yields the line of each change of a place."""
     column = column_of(place)
-    run.watch([place.short])  # which is refused if the machine has no such place
-    run.unwatch()
+    for word in WATCH_WORDS:
+        run.demand(f"{word} {place.short}")  # which is refused if the machine has no such place
     search = Search(run, Condition([Changes(column)]))
     for start, end, action in zip(run.tape.starts, run.tape.starts[1:], run.tape.runs):
         if action.line == STEP:
@@ -49,7 +49,7 @@ def place_changes(run, place, symbols=AllSymbols()):
 
 def source_of(line, place):
     """Returns the place in a source from which a setting took the number at a place, after two blanks; nothing without a source."""
-    return f"  {line.places[places_of_setting(line)[place]]}" if isinstance(line, SourceLine) else ""
+    return f"  {line.origin[places_of_setting(line)[place]]}" if isinstance(line, SourceLine) else ""
 
 
 def last_turns(run, count, symbols=AllSymbols()):

@@ -1,12 +1,13 @@
 """A run turn by turn."""
 
-from itertools import chain, takewhile
+from itertools import takewhile
 
 from ...engine import interface as flat
 from ...language.names import AllSymbols
 from ...language.symbol_options import add_symbols, symbols_of
-from ...run.forms import CELLS, CLOCK, PROCESSORS
-from ...run.search import Condition, Search, Test, around, spans
+from ...run.conditions import Changes
+from ...run.forms import CELLS, CLOCK, PROCESSORS, Place
+from ...run.search import Column, Condition, Search, Test, around, spans
 from ...run.tape import STEP
 from ...run.turn import CHANNEL_CODES, TWO_WORDS, TurnKind, kind_of_turn
 from ...shell.command_line import add_script, arguments, channel, count, processor, write_lines
@@ -83,40 +84,33 @@ class Touches(Test):
 
     def __init__(self, channel, processors):
         self.channel, self.processors = channel, processors
-        self.of_channel = [flat.REGISTERS + channel] + [flat.STATES + channel] * (channel < CLOCK)
-
-    @property
-    def places(self):
-        return [*self.of_channel, *(flat.P + number for number in self.processors)]
+        self.changes = Changes(Column(Place("H", (channel,))), channel < CLOCK)
+        self.places = [*self.changes.places, *(flat.P + number for number in processors)]
 
     def begin(self, run):
-        """Looks at a run before some turns."""
-        self.before = {place: run.engine.numbers(place, 1)[0] for place in self.places}
         self.phases = run.engine.numbers(flat.PHASE, PROCESSORS)
-        return False
+        return self.changes.begin(run) or super().begin(run)
 
     def verdicts(self, looks):
-        found, written = bytearray(looks.turns), looks.written()
-        for place in self.of_channel:
-            values, before = looks.columns[place], self.before[place]
-            if values.count(before) < len(values):
-                for at, (was, now) in enumerate(zip(chain((before,), values), values)):
-                    found[at] |= was != now and (looks.slot + at) % PROCESSORS in self.processors
+        found = bytearray(self.changes.after(looks))
+        for number in range(PROCESSORS):
+            if number not in self.processors:
+                found[looks.first_own(number)::PROCESSORS] = bytes(len(looks.own(number, self.changes.places[0])))
         for number in self.processors:
-            for at in self.of_processor(looks, number, written):
+            for at in self.of_processor(looks, number):
                 found[at] = 1
-        self.begin(looks.run)
+        self.phases = looks.run.engine.numbers(flat.PHASE, PROCESSORS)
         return bytes(found)
 
-    def of_processor(self, looks, number, written):
+    def of_processor(self, looks, number):
         """Returns the turns of a processor that may use the channel. The run is after them."""
         memory, first, phase = flat.CELLS + CELLS * number, looks.first_own(number), self.phases[number]
-        p = [self.before[flat.P + number], *looks.own(number, flat.P + number)][:-1]
+        p = [self.last[flat.P + number], *looks.own(number, flat.P + number)][:-1]
         low, addresses = min(p, default=0), {*p}
         words = looks.run.engine.numbers(memory + low, max(p, default=0) - low + 1)
         users = {one for one in addresses if self.uses(words[one - low])}
         if phase and self.uses(phase) or any(words[one - low] >> 6 in BLOCK_BEGINS for one in users) or \
-                not written.isdisjoint(memory + one for one in addresses):
+                not looks.written.isdisjoint(memory + one for one in addresses):
             users = addresses
         return [first + PROCESSORS * at for at, one in enumerate(p) if one in users] if users else []
 

@@ -1,12 +1,13 @@
 """The processors that wait."""
 
+from contextlib import closing
 from typing import NamedTuple
 
 from ...language.names import AllSymbols
 from ...language.symbol_options import add_symbols, symbols_of
-from ...run.conditions import Changes
-from ...run.forms import CELLS, CLOCK, MOST_WATCHES, PROCESSORS, REGISTERS, Place
-from ...run.search import Column, Condition, halve, last_moments, spans
+from ...run.conditions import Changes, Is
+from ...run.forms import CELLS, CLOCK, MOST_TURNS, MOST_WATCHES, PROCESSORS, REGISTERS, Place
+from ...run.search import Column, Condition, Search, last_found, last_moments
 from ...run.session import Session
 from ...run.state import central_of, state_of
 from ...run.tape import STEP
@@ -38,35 +39,14 @@ class Waiting(NamedTuple):
     line: str  # what is written first of it
     source: str  # the line of its source, after two blanks, if it has one
 
-    def is_in_place(self, run):
-        """Returns whether its registers and its instruction are those of the end."""
-        now, end = run.processor(self.number), self.processor
-        return all(now.registers[name] == end.registers[name] for name in REGISTERS) and now.words[0] == end.words[0]
-
-    def stays_from(self, run, turn):
-        """Returns whether it stays in its place from there to the end of the run. A phase changes alone only when a block begins, so
-        before the place is reached."""
-        tape = run.tape
-        run.goto(tape.after_turn(turn))
-        stays = self.is_in_place(run)
-        if stays:
-            run.watch([*(f"{name} {self.number:o}" for name in ("P", "A", "Q")), f"M {self.number:o} {self.processor.registers['P']}"])
-        while stays and run.position < tape.end:
-            stays = run.comes_to(tape.starts[tape.run_after(run.position) + 1])
-            if stays and run.position < tape.end:
-                run.goto(tape.after_turn(run.turn))
-                stays = self.is_in_place(run)
-        run.unwatch()
-        return stays
-
     def in_place_since(self, run):
-        """Returns the number of turns after which it stays in its place."""
-        known = run.tape.turns
-        for start, _ in spans(known):
-            if not self.stays_from(run, start):
-                return halve(start, known, lambda turn: self.stays_from(run, turn))
-            known = start
-        return known
+        """Returns the number of turns after which its registers and its instruction stay those of the end."""
+        processor = self.processor
+        numbers = {Place(name, (self.number,)): processor.registers[name] for name in REGISTERS}
+        numbers[Place("M", (self.number, processor.p))] = processor.words[0]
+        search = Search(run, Condition([Is(Column(place), int(digits, 8).__eq__) for place, digits in numbers.items()]))
+        search.by_settings = True
+        return max((turn for _, turn in last_found(search, 1)), default=0)
 
     def first_turn(self, run):
         """Returns since which turn it waits: its first one in its place, or the turn that it will have."""
@@ -79,74 +59,53 @@ class Waiting(NamedTuple):
 
 def drop_moved(run, turns, numbers):
     """Makes so many turns, and drops the processors that move from the watched ones, up to the last of them."""
-    for _, answer in run.steps(turns):
-        for line in answer[1:]:
-            number = int(line.split()[2], 8)
+    while turns and numbers:
+        made, *hits = run.demand(f"STEP {min(turns, MOST_TURNS):o}")
+        turns -= int(made.split()[1], 8)
+        for number in {int(line.split()[2], 8) for line in hits}:
             numbers.discard(number)
             run.demand(f"UNWATCH P {number:o}")
-        if not numbers:
-            return
 
 
 def waiting_for_ever(words, tape, numbers):
     """Returns those of at most eight waiting processors that will never go on: the machine comes back to a state where it was,
     and meanwhile they have not moved. Then it does so again and again."""
-    run = Session.of_tape(words, tape)
-    run.goto(tape.end)
-    before, central, staying, passed = state_of(run), central_of(run), set(numbers), 0
-    run.watch(f"P {number:o}" for number in numbers)
-    for trips in TRIPS:
-        drop_moved(run, CLOCK_TRIP * (trips - passed), staying)
-        passed = trips
-        if not staying or not any(before.differences(state_of(run))) and central == central_of(run):
-            break
-    else:
-        staying = set()
-    run.close()
-    return staying
+    with closing(Session.of_tape(words, tape)) as run:
+        run.goto(tape.end)
+        before, central, staying, passed = state_of(run), central_of(run), set(numbers), 0
+        for number in numbers:
+            run.demand(f"WATCH P {number:o}")
+        for trips in TRIPS:
+            drop_moved(run, CLOCK_TRIP * (trips - passed), staying)
+            passed = trips
+            if not staying or not any(before.differences(state_of(run))) and central == central_of(run):
+                return staying
+    return set()
 
 
 # ---- who changed a channel last
 
-class LastChange(NamedTuple):
-    """The last change of a channel: the turn, or the one before a setting, and who made it."""
-
-    turn: int
-    maker: str
-
-
-def last_changes(run, channels, symbols):
-    """Returns the last change of each of some channels, by their numbers."""
-    changes = {}
-    for channel in channels:
-        changed, setting = changed_by_turns(run, channel), last_setting(run.tape, channel)
-        if setting and setting.turn >= (changed[0].turn if changed else 0):
-            changes[channel] = setting
-        elif changed:
-            changes[channel] = LastChange(changed[0].turn, maker(run, channel, *changed, symbols))
-        else:
-            changes[channel] = LastChange(0, "NOBODY")
-    return changes
-
-
-def changed_by_turns(run, channel):
-    """Returns the last turn that changed a channel, with the channel before and after it; None if there is none."""
-    found = last_moments(run, Condition([Changes(Column(Place("H", (channel,))), True)]), 1)
-    return (found[0], *found[0].numbers[0][1:]) if found else None
+def last_change(run, channel, symbols):
+    """Returns the turn of the last change of a channel, or the one before a setting, and who made it."""
+    found, setting = last_moments(run, Condition([Changes(Column(Place("H", (channel,))), True)]), 1), last_setting(run.tape, channel)
+    turn = found[0].turn if found else 0
+    if setting[0] >= turn:
+        return setting
+    return turn, maker(run, channel, found[0], symbols)
 
 
 def last_setting(tape, channel):
-    """Returns the last SET of a channel or DEADSTART, or None."""
+    """Returns after which turn the last SET of a channel or DEADSTART was, and its name; that of nobody if there is none."""
     for turns, action in zip(reversed(tape.turns_before), reversed(tape.runs)):
         words = action.line.upper().split()
         if words[0] == "DEADSTART" or words[:2] == ["SET", "H"] and int(words[2], 8) == channel:
-            return LastChange(turns, words[0])
-    return None
+            return turns, words[0]
+    return 0, "NOBODY"
 
 
-def maker(run, channel, moment, was, now, symbols):
-    """Returns who changed a channel in a turn, from and to a state: its processor, or else a device."""
-    made = moment.made
+def maker(run, channel, found, symbols):
+    """Returns who changed a channel in a turn: its processor, or else a device."""
+    made, ((_, was, now),) = found.made, found.numbers
     turn = Turn(made.slot, made.processor, made.after, lambda address: 0, run.central_size)
     if is_made_by(turn, channel, was[0], now[0]):
         line = symbols.line_at_p(made.slot, made.processor)
@@ -198,7 +157,7 @@ def waits(run, symbols=AllSymbols()):
     for_ever = set().union(*(waiting_for_ever(run.words, run.tape, numbers[at:at + MOST_WATCHES])
                              for at in range(0, len(numbers), MOST_WATCHES)))
     channels = sorted({one.processor.channel for one in found if one.processor.channel < CLOCK})
-    changes = last_changes(run, channels, symbols) if channels else {}
+    changes = {channel: last_change(run, channel, symbols) for channel in channels}
     for one in found:
         yield f"{one.line} {one.first_turn(run)}{', FOR EVER' if one.number in for_ever else ''}{one.source}"
         if one.processor.channel in changes:
