@@ -12,7 +12,7 @@ from ...shell.device_options import device_of
 from ...shell.options import OPTIONS, processor
 from ...shell.text_files import script_lines, shown
 from .breakpoints import DATA, Breakpoints
-from .debugged import MachineWithDevices, MachineWithoutDevices, latest_turn
+from .debugged import MachineWithDevices, MachineWithoutDevices
 from .listings import Listings
 from .own import OwnSources
 from .protocol import BadRequest
@@ -163,21 +163,16 @@ class Adapter(Requests, Setting):
         return CAPABILITIES
 
     def do_launch(self, **arguments):
-        words = [str(arguments.get("program") or default_engine())]
-        for name in OPTIONS:
-            value = arguments.get(name)
-            words += [f"--{name}", str(value)] if value not in (None, "") else []
-        number = arguments.get("processor")
-        number = processor(str(number)) if number not in (None, "") else None
-        script = arguments.get("script")
-        lines = script_lines(str(script)) if script else []
-        symbols = symbols_from(*(pairs(arguments.get(name), name) for name in ("symbols", "sources")), arguments.get("text"))
-        devices = devices_from(arguments.get("devices"))
+        given = {name: str(value) for name, value in arguments.items() if value not in (None, "")}
+        words = [given.get("program") or default_engine(), *(word for name in OPTIONS if name in given for word in (f"--{name}", given[name]))]
+        number = processor(given["processor"]) if "processor" in given else None
+        lines = script_lines(given["script"]) if "script" in given else []
+        symbols = symbols_from(*(pairs(arguments, name) for name in ("symbols", "sources")), given.get("text"))
+        devices = [device_of(str(text)) for text in of_kind(list, arguments, "devices", "list")]
         own, machine = OwnSources(symbols), MachineWithDevices(words, devices) if devices else MachineWithoutDevices(words)
         self.end_simulator()
         self.machine, self.arguments, self.own = machine, arguments, own
-        if self.listings is None:
-            self.listings = Listings()
+        self.listings = self.listings or Listings()
         self.listings.begin(symbols.of)
         self.perform_script(symbols.loading(lines))
         self.look()
@@ -199,8 +194,8 @@ class Adapter(Requests, Setting):
         if self.arguments.get("stopOnEntry", True):
             self.stopped("entry", self.shown)
         else:
-            self.begin(self.shown + 1, None)
-            self.run_on()
+            self.do_continue(self.shown + 1)
+            self.after()
 
     def do_restart(self, arguments=None, **_):
         self.do_launch(**(arguments or self.arguments))
@@ -238,57 +233,40 @@ class Adapter(Requests, Setting):
         self.paused = self.number(threadId)
         self.is_paused = True
 
-    def begin(self, thread, run):
-        """Runs after the answer. A pause that comes from now on ends it."""
-        self.paused = self.number(thread)
-        self.is_paused = False
+    def go(self, thread, way, otherwise="step"):
+        """Goes after the answer, by a function of what steps the processor. A pause that comes from now on ends it. Reports the stop; if
+        there is none, it is a pause, or another reason."""
+        self.paused, self.is_paused = self.number(thread), False
+
+        def run():
+            stop = way(Stepper(self.machine, self.own, Runner(self.machine, self.points, self.goes_on, self.write_log), self.paused))
+            if self.is_over:
+                return
+            if stop:
+                self.report(stop)
+            else:
+                self.stopped("pause" if self.is_paused else otherwise, self.paused, "" if self.machine.position else BEGINNING)
+
         self.after = run
 
     def do_continue(self, threadId=1, **_):
-        self.begin(threadId, self.run_on)
+        self.go(threadId, lambda stepper: stepper.runner.forward(self.shown), "pause")
         return {"allThreadsContinued": True}
 
     def do_reverseContinue(self, threadId=1, **_):
-        self.begin(threadId, lambda: self.run(Runner.back, "entry", BEGINNING))
+        self.go(threadId, lambda stepper: stepper.runner.back(), "entry")
 
     def do_stepIn(self, threadId, **_):
-        self.begin(threadId, lambda: self.step(self.stepper().runner.step))
+        self.go(threadId, Stepper.turn)
 
     def do_next(self, threadId, granularity="statement", **_):
-        def run():
-            stepper = self.stepper()
-            line = stepper.line() if granularity != BY_TURNS else None
-            self.step(lambda number: stepper.next_line(line) if line else stepper.runner.step(number))
-
-        self.begin(threadId, run)
+        self.go(threadId, Stepper.turn if granularity == BY_TURNS else Stepper.next_line)
 
     def do_stepOut(self, threadId, **_):
-        self.begin(threadId, lambda: self.step(lambda _: self.stepper().out()))
+        self.go(threadId, Stepper.out)
 
     def do_stepBack(self, threadId, granularity="statement", **_):
-        self.begin(threadId, lambda: self.step_back(granularity))
-
-    def runner(self):
-        return Runner(self.machine, self.points, self.goes_on, self.write_log)
-
-    def stepper(self):
-        """Returns what steps the processor of a request."""
-        return Stepper(self.machine, self.own, self.runner(), self.paused)
-
-    def run_on(self):
-        self.run(lambda runner: runner.forward(self.shown), "pause", "")
-
-    def run(self, way, otherwise, text):
-        """Runs, and reports the stop. If there is none, it is a pause, or another reason with a text."""
-        stop = way(self.runner())
-        if self.is_over:
-            return
-        if stop:
-            self.report(stop)
-        elif self.is_paused:
-            self.stopped("pause", self.paused)
-        else:
-            self.stopped(otherwise, self.paused, text)
+        self.go(threadId, lambda stepper: stepper.back(granularity != BY_TURNS))
 
     def report(self, stop):
         """Says why a run has stopped."""
@@ -306,29 +284,15 @@ class Adapter(Requests, Setting):
         source, line = (point.file.source, point.line - 1) if point.file else (self.listings.source(stop.number), stop.address)
         self.wire.event("output", category="console", output=f"{text}\n", source=source, line=line + self.base)
 
-    def step(self, way):
-        """Makes a step of the processor of a request. It ends with a stop, or at its end."""
-        self.run(lambda _: way(self.paused), "step", "")
 
-    def step_back(self, granularity):
-        stepper = self.stepper()
-        is_by_lines = granularity != BY_TURNS and stepper.line()
-        position = stepper.before_line() if is_by_lines else latest_turn(self.machine.tape, self.paused, self.machine.position)
-        if not self.goes_on():
-            position = self.machine.position
-        self.machine.goto(position or 0)
-        self.stopped("step", self.paused, BEGINNING if position is None else "")
+def of_kind(kind, arguments, name, what):
+    """Returns an argument of a launch; an empty one of this kind if it is not given."""
+    asked = arguments.get(name)
+    if asked is not None and not isinstance(asked, kind):
+        raise BadRequest(f"{name} is no {what}")
+    return asked or kind()
 
 
-def devices_from(asked):
-    """Returns the devices that an argument of a launch names."""
-    if asked is not None and not isinstance(asked, list):
-        raise BadRequest("devices is no list")
-    return [device_of(str(text)) for text in asked or ()]
-
-
-def pairs(asked, name):
+def pairs(arguments, name):
     """Returns the processors and the files that an argument of a launch names."""
-    if asked is not None and not isinstance(asked, dict):
-        raise BadRequest(f"{name} is no object with a file for each processor")
-    return [(str(number), str(path)) for number, path in (asked or {}).items()]
+    return [(str(number), str(path)) for number, path in of_kind(dict, arguments, name, "object with a file for each processor").items()]

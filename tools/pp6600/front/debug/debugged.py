@@ -4,6 +4,8 @@ The session performs the lines of the user, and turns, and nothing else: it is w
 forward without a limit. A scout is another simulator on the same tape, at a position of its own. It stays between searches, so each goes
 on from where the last one ended."""
 
+import itertools
+
 from ...run.attached import Attached
 from ...run.forms import PROCESSORS
 from ...run.session import REPLAYED, Session, without_history
@@ -74,13 +76,11 @@ class Debugged:
 
     def next_turn(self, number):
         """Returns the position before the next turn of a processor. After the tape come turns."""
-        at = self.position
-        while True:
+        for at in itertools.count(self.position):
             if at == self.tape.end:
                 self.add_turns(PROCESSORS)
             if self.tape.slot(at) == number and is_turn(self.tape, at):
                 return at
-            at += 1
 
     def part(self, position, most):
         """Returns the end of the next turns, at most so many, or of another action. After the tape come turns, which are added to it."""

@@ -39,17 +39,15 @@ class Beside:
     def __init__(self, symbols=None):
         """The symbols are those of `pp6600.language.listing`, or a source."""
         self.symbols = symbols
-        self.labels = symbols.labels if symbols else {}
-        texts = [text for _, text in symbols.texts().values()] if symbols else []
-        self.label_width = max((len(label) for label in self.labels.values()), default=0)
-        self.text_width = min(max((len(text.encode()) for text in texts), default=0), MOST_TEXT)
-        self.width = sum(2 + width for width in (self.label_width, self.text_width) if width)
+        columns = (symbols.labels.values(), [text for _, text in symbols.texts().values()]) if symbols else ()
+        self.widths = [min(max((len(text.encode()) for text in texts), default=0), MOST_TEXT) for texts in columns]
+        self.width = sum(2 + width for width in self.widths if width)
 
     def at(self, cell, word):
         """Returns the bytes beside a cell that has this word."""
-        label = f"  {self.labels.get(cell, ''):{self.label_width}}".encode() if self.label_width else b""
-        text = self.symbols.text(cell, word).encode()[:self.text_width].decode(errors="ignore").encode() if self.text_width else b""
-        return label + (b"  " + text.ljust(self.text_width) if self.text_width else b"")
+        texts = (self.symbols.labels.get(cell, ""), self.symbols.text(cell, word)) if self.width else ()
+        whole = (text.encode()[:width].decode(errors="ignore").encode() for text, width in zip(texts, self.widths))
+        return b"".join(b"  " + text.ljust(width) for text, width in zip(whole, self.widths) if width)
 
 
 class Listings:

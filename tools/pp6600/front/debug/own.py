@@ -43,9 +43,6 @@ class SourceFile:
         except Failure:
             return None
 
-    def add(self, number, source):
-        self.of[number] = SourceLines(source)
-
     def is_at(self, path):
         return isinstance(path, str) and (path == self.path or os.path.realpath(path) == os.path.realpath(self.path))
 
@@ -73,15 +70,14 @@ class OwnSources:
 
     def __init__(self, symbols):
         """The symbols are those of all processors, as `pp6600.language.listing` has them."""
-        self.files, self.file_of, self.of = [], {}, dict(symbols.sources())
-        self.symbols = symbols
+        self.symbols, self.of, self.file_of = symbols, dict(symbols.sources()), {}
         for number, source in self.of.items():
-            file = self.file(source.path)
-            if not file:
-                file = SourceFile(source.path)
-                self.files.append(file)
-            file.add(number, source)
-            self.file_of[number] = file
+            self.file_of[number] = self.file(source.path) or SourceFile(source.path)
+            self.file_of[number].of[number] = SourceLines(source)
+
+    @property
+    def files(self):
+        return list(dict.fromkeys(self.file_of.values()))
 
     def file(self, path):
         """Returns the file with this path; None if it is no source."""
@@ -89,8 +85,7 @@ class OwnSources:
 
     def line(self, number, address, words):
         """Returns the line of which the instruction in a cell of a processor is, with its words; None if it is of no line."""
-        source = self.of.get(number)
-        found = source.line_of(address, *words) if source else None
+        found = self.of[number].line_of(address, *words) if number in self.of else None
         if not found or not found.is_there:
             return None
         file = self.file_of[number]

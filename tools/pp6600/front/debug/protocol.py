@@ -3,14 +3,16 @@
 import json
 import os
 import queue
+import re
 import sys
 import threading
 
 from ...failure import Failure
 from ...shell.text_files import named
 
+NO_MESSAGE = "what the editor wrote is no message: it"
 LONGEST_HEADER = 4096  # bytes of a line before a message
-LONGEST_MESSAGE = 1 << 26  # bytes
+LENGTH = re.compile(rb"^[ \t]*content-length[ \t]*:[ \t]*([0-9]{1,8})[ \t\r]*$", re.I | re.M)  # at most 8 digits
 
 
 class BadRequest(Failure):
@@ -34,13 +36,13 @@ class Wire:
     def listen(self):
         """Puts each request into the queue, then None or the failure that ended the input."""
         try:
-            while request := self.read(self.input):
+            for request in iter(lambda: self.read(self.input), None):
                 self.requests.put(request)
                 if request["command"] == "disconnect":
-                    self.is_gone = True
-                    return
+                    break
+            else:
+                self.requests.put(None)
             self.is_gone = True
-            self.requests.put(None)
         except OSError as error:
             self.requests.put(Failure(f"can't read {named(None)}: {error.strerror}"))
         except Failure as failure:
@@ -48,32 +50,24 @@ class Wire:
 
     def read(self, stream):
         """Returns the next request, or None at the end of the input."""
-        length, begun = None, False
-        while line := stream.readline(LONGEST_HEADER):
-            if not line.strip():
-                break
-            begun = True
-            name, _, value = line.partition(b":")
-            if name.strip().lower() == b"content-length":
-                length = value.strip()
-        if not line and not begun:
+        header = b""
+        while (line := stream.readline(LONGEST_HEADER)).strip():
+            header += line
+        if not line and not header:
             return None
-        if length is None or not length.isdigit() or int(length) > LONGEST_MESSAGE:
-            raise Failure("what the editor wrote is no message: it has no Content-Length")
-        data = stream.read(int(length))
-        if len(data) < int(length):
-            raise Failure("what the editor wrote is no message: it ends before its length")
-        return self.parsed(data)
-
-    def parsed(self, data):
-        """Returns a request from its text."""
+        length = LENGTH.search(header)
+        if not length:
+            raise Failure(f"{NO_MESSAGE} has no Content-Length")
+        data = stream.read(int(length[1]))
+        if len(data) < int(length[1]):
+            raise Failure(f"{NO_MESSAGE} ends before its length")
         try:
             message = json.loads(data)
         except (ValueError, RecursionError) as error:
-            raise Failure("what the editor wrote is no message: it is not JSON") from error
+            raise Failure(f"{NO_MESSAGE} is not JSON") from error
         if not isinstance(message, dict) or message.get("type", "request") != "request" or not isinstance(message.get("command"), str) \
                 or not isinstance(message.get("seq"), int):
-            raise Failure("what the editor wrote is no message: it is not a request")
+            raise Failure(f"{NO_MESSAGE} is not a request")
         self.note(">", message)
         return message
 

@@ -5,7 +5,7 @@ import binascii
 
 from ...convert.cells import set_lines
 from ...language.calls import calls, sentence
-from ...run.forms import CELLS, PROCESSORS
+from ...run.forms import CELLS, PROCESSORS, hit_of
 from .breakpoints import ProcessorCell
 from .listings import instruction
 from .protocol import BadRequest
@@ -32,14 +32,13 @@ class Requests:
         return (frame - 1) % PROCESSORS
 
     def do_stackTrace(self, threadId, startFrame=0, levels=0, **_):
-        number = self.number(threadId)
-        state = self.machine.state
+        number, state = self.number(threadId), self.machine.state
         processor, memory = state.processors[number], state.memories[number]
         waits = processor.waits_for(state.states())
         name = f"P {processor.registers['P']} {'in ' if processor.phase else ''}{processor.text}{f' waits for {waits}' if waits else ''}"
         frames = [self.one_frame(threadId, name, ProcessorCell(number, processor.p), self.own.line_at_p(number, processor))]
-        begun = (int(memory.word(0), 8) - 1) % CELLS  # cell 0000 has where the block goes on
-        if processor.phase and memory.word(begun) == processor.registers["PHASE"]:
+        begun = processor.address(memory.number) if processor.phase else None
+        if begun is not None:
             line = self.own.line(number, begun, [memory.word(begun), memory.word(begun + 1)])
             frames.append(self.one_frame(threadId + PROCESSORS, f"begun at {begun:04o}", ProcessorCell(number, begun), line))
         return {"stackFrames": frames[startFrame:startFrame + levels if levels else None], "totalFrames": len(frames)}
@@ -58,9 +57,8 @@ class Requests:
 
     def do_source(self, source=None, sourceReference=0, **_):
         number = self.listings.number_of(source) if source else None
-        if number is None and isinstance(sourceReference, int) and 1 <= sourceReference <= PROCESSORS:
-            number = sourceReference - 1
-        if number is None:
+        number = sourceReference - 1 if number is None else number
+        if number not in range(PROCESSORS):
             raise BadRequest("no listing of this session")
         return {"content": self.listings.text(number, self.machine.state.memories[number]), "mimeType": "text/plain"}
 
@@ -86,22 +84,21 @@ class Requests:
 
     def do_variables(self, variablesReference, start=0, count=0, **_):
         scope, number = scope_and_number(variablesReference)
-        places = dict.fromkeys([*self.machine.state.watched, *self.points.places()])
-        found = self.calls_of(number) if scope == CALL_SCOPE else variables(self.machine, scope, number, places)
+        if scope == CALL_SCOPE:  # the innermost first
+            source, scout = self.own.of.get(number), self.machine.scout()
+            found = calls(scout, number, source, self.machine.position) if source else ()
+            found = [variable(f"{at}", sentence(scout, number, call, self.own.symbols)) for at, call in enumerate(found, 1)]
+        else:
+            found = variables(self.machine, scope, number, dict.fromkeys([*self.machine.state.watched, *self.points.places()]))
         return {"variables": found[start:start + count] if count else found}
-
-    def calls_of(self, number):
-        """Returns the subroutines that a processor is in, the innermost first."""
-        source, scout = self.own.of.get(number), self.machine.scout()
-        found = calls(scout, number, source, self.machine.position) if source else []
-        return [variable(f"{at}", sentence(scout, number, call, self.own.symbols)) for at, call in enumerate(found, 1)]
 
     def act(self, line):
         """Performs a line, and returns its answer. What was ahead may be lost by it: that is said."""
-        ahead, answer = self.machine.counts.to_redo, self.machine.typed(line)
-        here = self.machine.counts.position
-        if answer == [NO_CHANGE] and Runner(self.machine, self.points).back(is_typed=True):
-            answer = [f"BACK {here - self.machine.counts.position:o} SLOT {self.machine.next_slot:02o}"]
+        machine, counts = self.machine, self.machine.counts
+        ahead, answer = counts.to_redo, machine.typed(line)
+        here = counts.position
+        if answer == [NO_CHANGE] and Runner(machine, self.points).back(is_typed=True):
+            answer = [f"BACK {here - counts.position:o} SLOT {machine.next_slot:02o}"]
         if ahead and answer and answer[0].split()[0] in ("OK", "TURNS"):
             self.wire.say(f"{ahead:o} actions (octal) that were ahead are so no longer")
         return answer
@@ -124,14 +121,12 @@ class Requests:
 
     def do_evaluate(self, expression, frameId=None, context="repl", **_):
         number = self.frame(frameId) if frameId else self.shown
-        text = expression.strip()
-        acts = context in LINE_CONTEXTS
-        if context == "watch" and text.startswith(PREFIX):
-            acts, text = True, text[len(PREFIX):].strip()
+        text, is_line = expression.strip(), context == "watch" and expression.strip().startswith(PREFIX)
+        text = text[len(PREFIX):].strip() if is_line else text
         try:
             return {"result": self.value(text, number), "variablesReference": 0}
         except BadRequest:
-            if not acts:
+            if not is_line and context not in LINE_CONTEXTS:
                 raise
         answers = []
         for line in text.split("\n"):
@@ -156,7 +151,7 @@ class Requests:
             self.machine.look()
         elif kind in MOVES:
             self.look()
-            hit = next((text for text in answer if text.startswith("HIT ")), "")
+            hit = hit_of(answer) or ""
             self.after = lambda: self.stopped("data breakpoint" if hit else MOVES[kind], number, hit)
         return answer
 

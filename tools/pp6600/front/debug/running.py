@@ -3,14 +3,15 @@ part by part; between the parts the requests of the client are taken, which may 
 
 A log point writes as the machine comes to it, forward and back, but not where a run begins."""
 
-import itertools
 import math
+from contextlib import suppress
+from itertools import chain
 
 from ...run.search import spans
 from .breakpoints import DATA, Point
 from .stops import StopSearch
 
-AT_ONCE = 0o200000  # turns between two requests of a client
+AT_ONCE = 0o1000000  # turns between two requests of a client
 NEAR = 200  # actions back that are searched first
 
 
@@ -31,47 +32,42 @@ class Runner:
         self.watched = machine.state.watched  # by the user
         self.end = machine.tape.end  # what the tape has after it is not ahead
 
-    def forward(self, shown, aim=None):
-        """Runs to the next stop, over what is ahead first. The processor that is shown may be at a breakpoint: that is reported.
-        There may be an aim beside the breakpoints. Returns the stop, or None if the client ended it."""
-        return self.run(lambda: self.points.all, shown, aim)
+    # ---- forward
 
-    def step(self, number):
-        """Makes one turn of a processor, and the actions before it. Returns the stop at a change on the way, or None."""
-        return self.run(lambda: self.points.in_a_step, None, last=self.machine.next_turn(number) + 1)
-
-    def to_turn(self, number):
-        """Runs to where the turn of a processor is next. Returns the stop on the way, or None."""
-        return self.run(lambda: self.points.all, number, last=self.machine.next_turn(number))
-
-    def run(self, points, shown, aim=None, last=math.inf):
-        """Runs to the next stop, or to a position. Returns the stop or None."""
-        machine = self.machine
-        try:
-            stop = self.next_stop(points, shown, aim, last)
-        except Ended:
-            stop = None
+    def forward(self, shown, aim=None, last=math.inf, kind="all"):
+        """Runs to the next stop at breakpoints of a kind, or at an aim, or else to a position, over what is ahead first. The processor that
+        is shown has been seen at its breakpoint; any other whose turn is next is reported. Returns the stop; None at the aim, at the position,
+        or if the client ended it."""
+        machine, stop = self.machine, None
+        with suppress(Ended):
+            stop = self.next_stop(lambda: self.search(getattr(self.points, kind), aim), shown, last)
         machine.goto(machine.settled(machine.position))
         end = max(machine.position, self.end)
         machine.withdraw(end)
         machine.cut(end)
-        return stop
+        return None if stop and stop.met == (aim,) else stop
 
-    def next_stop(self, points, shown, aim, last):
+    def step(self, number):
+        """Makes one turn of a processor, and the actions before it. Returns the stop at a change on the way, or None."""
+        return self.forward(None, last=self.machine.next_turn(number) + 1, kind="in_a_step")
+
+    def to_turn(self, number):
+        """Runs to where the turn of a processor is next. Returns the stop on the way, or None."""
+        return self.forward(number, last=self.machine.next_turn(number))
+
+    def next_stop(self, search, shown, last):
+        """Goes to the next stop, or to a position. Returns the stop or None; the function `search` makes a search for it."""
         machine = self.machine
-        if machine.tape.slot(machine.position) != shown:
-            stop = self.first_due(self.search(points(), aim).at(machine.position), quiet)
-            if stop:
-                return stop
-        for first, end in self.parts(machine.position, last):
-            stop = self.first_due(self.search(points(), aim).stops(first, end), self.say)
+        stop = self.first_due([search().at(machine.position)], quiet) if machine.tape.slot(machine.position) != shown else None
+        for first, end in () if stop else self.parts(machine.position, last):
+            stop = self.first_due(search().stops(first, end), self.say)
             machine.goto(stop.position if stop else end)
             if stop:
-                return stop
+                break
             if next(machine.tape.actions(first)).is_watch:
                 machine.look()
                 self.watched = machine.state.watched
-        return None
+        return stop
 
     def search(self, points, aim=None):
         """Returns the search for the stops at breakpoints, and at changes of what the user watches."""
@@ -87,8 +83,9 @@ class Runner:
             first = end
 
     def first_due(self, stops, say):
-        """Returns the first of some stops that ends a run, or None. What log points write up to its position is said."""
-        for _, some in itertools.groupby(stops, key=lambda stop: stop.position):
+        """Returns the first of some stops that ends a run, or None. What log points write up to its position is said. Stops of one position
+        are together."""
+        for some in stops:
             found = [due for stop in some if (due := self.due(stop, say))]
             if found:
                 return found[0]
@@ -99,35 +96,25 @@ class Runner:
     def back(self, is_typed=False):
         """Goes back to the latest stop, or to the beginning, unless the client ends it; if BACK W was typed, to the latest change
         of what the user watches, or nowhere. Returns the stop or None."""
-        try:
-            stop, said = self.latest_stop((lambda: ()) if is_typed else (lambda: self.points.all))
-        except Ended:
-            return None
-        if stop or not is_typed:
-            self.machine.goto(self.goal(stop) if stop else 0)
-            for log in said:
-                self.say(*log)
-        return stop and stop._replace(is_next=True)
-
-    def goal(self, stop):
-        """Returns the position to which one goes back for a stop: before the change, if it is one."""
-        return self.machine.before(stop.position - 1) if stop.place else self.machine.settled(stop.position)
-
-    def latest_stop(self, points):
-        """Returns the latest stop before where the machine is, or None; and what log points write on the way there, the latest first."""
-        here, stop, said = self.machine.position, None, []
-        for first, last in spans(here, span=NEAR):
-            stop, logs = self.last_of(self.search(points()), first, last, here)
-            said += reversed(logs)
-            if stop:
-                break
-        return stop, said
+        machine, here, stop, said = self.machine, self.machine.position, None, []
+        with suppress(Ended):
+            for first, last in spans(here, span=NEAR):
+                stop, logs = self.last_of(self.search(() if is_typed else self.points.all), first, last, here)
+                said += reversed(logs)
+                if stop:
+                    break
+            if stop or not is_typed:
+                position = stop.position if stop else 0
+                machine.goto(machine.before(position - 1) if stop and stop.place else machine.settled(position))
+                for log in said:
+                    self.say(*log)
+            return stop and stop._replace(is_next=True)
 
     def last_of(self, search, first, last, here):
         """Returns the last stop after a position, up to a later one, or None, and what log points write from there on, or else after the
         first position. The beginning belongs to the first part."""
         stop, logs, least = None, [], first + 1 if first else 0
-        for one in self.stops(search, first - 1, last):
+        for one in chain.from_iterable(self.stops(search, first - 1, last)):
             due = self.due(one, lambda *log: logs.append(log))
             is_before = one.position >= least and (one.place or self.machine.settled(one.position) < here)
             if due and is_before and not (one.place and stop and stop.position == one.position):
@@ -136,9 +123,9 @@ class Runner:
         return stop, [log for log in logs if least <= log[0].position < here]
 
     def stops(self, search, first, last):
-        """Yields the stops after a position, up to a later one; after -1 that at the beginning too."""
+        """Yields the stops after a position, up to a later one, those of one position together; after -1 that at the beginning too."""
         if first < 0:
-            yield from search.at(0)
+            yield search.at(0)
         for begin, end in self.parts(max(first, 0), last):
             yield from search.stops(begin, end)
 
@@ -156,7 +143,7 @@ class Runner:
     def hits(self, point, position):
         """Returns how many hits a breakpoint has up to a position."""
         tally = self.machine.tally(point)
-        for stop in self.stops(StopSearch(self.machine, [point], scout="hits"), tally.known, position):
+        for stop in chain.from_iterable(self.stops(StopSearch(self.machine, [point], scout="hits"), tally.known, position)):
             tally.add(stop.position)
         tally.known = max(tally.known, position)
         return tally.number(position)

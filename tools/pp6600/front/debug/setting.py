@@ -13,11 +13,6 @@ from .variables import place_of, scope_and_number, value_of
 class Setting:
     """Those of an `Adapter`, whose machine, listings, sources and points they use."""
 
-    def line(self, line):
-        if not isinstance(line, int) or isinstance(line, bool):
-            raise BadRequest(f"{line} is no line")
-        return line
-
     def terms(self, asked, numbers):
         """Returns the terms that are asked for, of a breakpoint to which some processors may come."""
         terms = Terms.of(asked, numbers, self.own.symbols)
@@ -29,7 +24,10 @@ class Setting:
         return terms
 
     def do_setBreakpoints(self, source, breakpoints=(), **_):
-        asked = [{**one, "line": self.line(one["line"])} for one in breakpoints or ()]
+        asked = breakpoints or []
+        for one in asked:
+            if type(one["line"]) is not int:
+                raise BadRequest(f"{one['line']} is no line")
         number, file = self.listings.number_of(source), self.own.file(source.get("path"))
         if number is not None:
             answers, self.points.lines[number] = self.set_points(asked, lambda one: self.listing_point(number, one))
@@ -38,7 +36,7 @@ class Setting:
             answers = self.set_own(file)
         else:
             text = f"{source.get('name') or source.get('path')} is no source and no listing of this session"
-            return {"breakpoints": [{"verified": False, "line": one["line"], "message": text} for one in asked]}
+            answers = [{"verified": False, "line": one["line"], "message": text} for one in asked]
         return {"breakpoints": answers}
 
     def set_points(self, asked, point_of):
@@ -51,7 +49,7 @@ class Setting:
                 answers.append({"verified": True, **answer})
                 points.append(point)
             except BadRequest as refused:
-                answers.append({"verified": False, "message": str(refused), **({"line": one["line"]} if "line" in one else {})})
+                answers.append({"verified": False, "message": str(refused), **{name: one[name] for name in {"line"} & {*one}}})
         return answers, points
 
     def listing_point(self, number, one):

@@ -13,34 +13,47 @@ ALL_CELLS = frozenset(range(CELLS))
 
 
 class Stepper:
-    """Steps of one processor."""
+    """Steps of one processor. One forward returns the stop of something else on the way, or None."""
 
     def __init__(self, machine, own, runner, number):
         """The sources are the user's `own`."""
         self.machine, self.own, self.runner, self.number = machine, own, runner, number
-        self.source = own.of.get(number)
+        self.source, self.scout = own.of.get(number), machine.scout()
 
-    def line(self):
-        """Returns the line at P; None if there is none."""
-        return self.own.line_at_p(self.number, self.machine.processor(self.number)) if self.source else None
+    @property
+    def processor(self):
+        """The processor as it is now."""
+        return self.machine.processor(self.number)
+
+    def processor_at(self, position):
+        """Returns the processor as it was at a position."""
+        self.scout.goto(position)
+        return self.scout.processor(self.number)
+
+    def latest_turn(self, position):
+        """Returns the position before the processor's latest turn before a position; None if there is none."""
+        return latest_turn(self.machine.tape, self.number, position)
 
     # ---- forward
 
-    def next_line(self, line):
-        """Runs to where the processor comes to another line. Returns the stop of something else on the way, or None."""
-        before, stop = self.machine.processor(self.number), self.runner.step(self.number)
-        while not stop and self.runner.goes_on():
+    def turn(self):
+        """Makes a turn of the processor."""
+        return self.runner.step(self.number)
+
+    def next_line(self):
+        """Runs to where the processor comes to another line; if it is at none, makes a turn."""
+        before = self.processor
+        line, stop = self.own.line_at_p(self.number, before), self.turn()
+        while line and not stop and self.runner.goes_on():
             aim = self.aim(line, before)
             if not aim:
                 return self.runner.to_turn(self.number)  # so that a breakpoint there is not met again
             stop, before = self.runner.forward(self.number, aim), None
-            if stop and not stop.place and not any(point.number for point in stop.met):
-                stop = None
         return stop
 
     def aim(self, line, before):
         """Returns where a step goes on to, or None if it is at its end. Before its first turn the processor was as given."""
-        after, entry = self.machine.processor(self.number), self.entry_called()
+        after, entry = self.processor, self.entry_called()
         if entry is not None:
             return Aim(self.number, entry=entry)
         has_stayed = before is not None and after.p == before.p and not before.goes_on_in
@@ -50,70 +63,51 @@ class Stepper:
 
     def entry_called(self):
         """Returns the address of the entry of the subroutine that the latest turn called; None if it called none."""
-        scout, at = self.scout, latest_turn(self.machine.tape, self.number, self.machine.position)
-        if at is None:
-            return None
-        scout.goto(at)
-        processor = scout.processor(self.number)
-        return processor.operand(self.cell) if processor.name == RJM and not processor.phase else None
+        at = self.latest_turn(self.machine.position)
+        processor = None if at is None else self.processor_at(at)
+        is_call = processor and processor.name == RJM and not processor.phase
+        return processor.operand(lambda address: int(self.scout.cells(self.number, address, address)[0], 8)) if is_call else None
 
     def out(self):
-        """Runs out of a block transfer, or else out of a subroutine, or else makes a turn. Returns the stop of something else on the
-        way, or None."""
+        """Runs out of a block transfer, or else out of a subroutine, or else makes a turn."""
         entry = self.entry_of_call()
-        stop = self.runner.step(self.number) if entry is None else None
-        if not stop and (entry is not None or self.machine.processor(self.number).phase):
+        stop = self.turn() if entry is None else None
+        if not stop and (entry is not None or self.processor.phase):
             stop = self.runner.forward(self.number, Aim(self.number, ALL_CELLS if entry is None else frozenset(), entry))
         return stop
 
     def entry_of_call(self):
         """Returns the address of the entry of the subroutine that the processor is in; None if it was not called, or a block is on."""
-        position, processor = self.machine.position, self.machine.processor(self.number)
+        position, processor = self.machine.position, self.processor
         jump = self.source.subroutine_of(processor.p) if self.source and not processor.phase else None
         call = call_of(self.scout, self.number, jump, position) if jump is not None else None
         return jump + 1 if call and not has_returned(self.scout, self.number, call, position) else None
 
     # ---- back
 
-    def before_line(self):
-        """Returns the position at which the processor came to the line of its latest turn, or of the call of the subroutine that this
-        ended; if it was at no line, the one before that turn; None if it has made none."""
-        at = latest_turn(self.machine.tape, self.number, self.machine.position)
-        if at is None:
-            return None
-        first = at = self.before_call(at)
-        line = None
-        for position, address, is_in_block in self.turns_back(at + 1):
-            if is_in_block:
-                continue
-            if line is None:
-                self.scout.goto(position)
-                line = self.own.line(self.number, address, self.scout.words_at(self.number, address))
-            if line is None or address not in line.addresses:
+    def back(self, is_by_lines):
+        """Goes back to before the latest turn of the processor; by lines to where it came to the line of that turn, if it is at one now. If it
+        has made no turn, that is the beginning."""
+        at = self.latest_turn(self.machine.position)
+        if at is not None and is_by_lines and self.own.line_at_p(self.number, self.processor):
+            at = self.before_line(self.before_call(at))
+        if self.runner.goes_on():
+            self.machine.goto(at or 0)
+
+    def before_line(self, first):
+        """Returns the position at which the processor came to the line of the turn after a position; if it was at no line, that position."""
+        line, end = None, first + 1
+        while (at := self.latest_turn(end)) is not None and self.runner.goes_on():
+            processor = self.processor_at(at)
+            line, end = line or self.own.line_at_p(self.number, processor), at
+            if not processor.phase and not (line and processor.p in line.addresses):
                 break
-            first = position
+            first = first if processor.phase else at
         return first
 
     def before_call(self, at):
         """Returns the position before the call of the subroutine that the turn at a position ended; else that position."""
-        self.scout.goto(at)
-        processor = self.scout.processor(self.number)
+        processor = self.processor_at(at)
         is_return = not processor.phase and processor.p in self.source.entries() and self.source.is_loaded(processor.p, processor.words[0])
         call = call_of(self.scout, self.number, processor.p, at) if is_return else None
         return call.rjm.position - 1 if call else at
-
-    def turns_back(self, end):
-        """Yields the turns of the processor before a position, the latest first: the position, P, and whether a block was on."""
-        while (at := latest_turn(self.machine.tape, self.number, end)) is not None and self.runner.goes_on():
-            self.scout.goto(at)
-            processor = self.scout.processor(self.number)
-            yield at, processor.p, bool(processor.phase)
-            end = at
-
-    @property
-    def scout(self):
-        return self.machine.scout()
-
-    def cell(self, address):
-        """Returns the number in a cell of the processor, as the scout sees it."""
-        return int(self.scout.cells(self.number, address, address)[0], 8)

@@ -9,13 +9,12 @@ is seen by a look after it.
 A condition is judged where the processor has come to the breakpoint, and of a data breakpoint after the change. That a number changes, or
 that a processor waits, is judged after the latest turn."""
 
-from itertools import chain
+from itertools import chain, groupby, repeat
 from typing import FrozenSet, NamedTuple, Optional, Tuple
 
 from ...engine import interface as flat
-from ...engine.interface import place_number
 from ...run.conditions import Changes, Waits
-from ...run.forms import CELLS, PROCESSORS, Place
+from ...run.forms import CELLS, MOST_WATCHES, PROCESSORS, Place
 from ...run.search import Looks
 from .breakpoints import ProcessorCell
 from .debugged import is_turn, latest_turn
@@ -39,40 +38,44 @@ class Stop(NamedTuple):
     number: int
     address: Optional[int] = None  # of the breakpoint
     place: Optional[Place] = None
-    was: str = ""
-    now: str = ""
-    met: Tuple = ()  # the breakpoints, and the aim, that it is for
+    was: int = 0
+    now: int = 0
+    met: Tuple = ()  # the breakpoints, or the aim, that it is for
     is_next: bool = False
 
     @property
     def text(self):
-        form = "{} is {}, and will be {}" if self.is_next else "{} was {} and is {}"
-        return form.format(self.place.text, self.was, self.now)
+        was, now = (f"{number:0{self.place.digits}o}" for number in (self.was, self.now))
+        return f"{self.place.text} is {was}, and will be {now}" if self.is_next else f"{self.place.text} was {was} and is {now}"
 
 
 class StopSearch:
     """A search for the stops at breakpoints, and at the aim of a step."""
 
     def __init__(self, machine, points, aim=None, scout="looks"):
-        self.scout, self.tape, self.points, self.aim = machine.scout(scout), machine.tape, points, aim
+        self.machine, self.scout, self.tape = machine, machine.scout(scout), machine.tape
+        self.points = [*points, *([aim] if aim else [])]
         self.places = list(dict.fromkeys(place for point in points for place in point.places))
-        self.numbers = [place_number(*place) for place in self.places]
+        self.numbers = [place.number for place in self.places]
         self.addresses = {aim.processor: set(aim.addresses)} if aim else {}  # of the breakpoints, by processor
         for number, address in chain.from_iterable(point.cells for point in points):
             self.addresses.setdefault(number, set()).add(address)
-        self.entry = None if aim is None or aim.entry is None else flat.CELLS + CELLS * aim.processor + aim.entry
+        # By processor the cell of an address that is one too.
+        self.entries = {aim.processor: flat.CELLS + CELLS * aim.processor + aim.entry} if aim and aim.entry is not None else {}
         registers = [first + number for number in self.addresses for first in (flat.P, flat.PHASE)]
-        self.looked = list(dict.fromkeys([*self.numbers, *registers, *([] if self.entry is None else [self.entry])]))
+        self.looked = list(dict.fromkeys([*self.numbers, *registers, *self.entries.values()]))
 
     def stops(self, first, last):
-        """Yields the stops after a position, up to a later one, in their order. Turns alone are between, or one other action."""
+        """Yields the stops after a position, up to a later one, in their order, those of one position together. Turns alone are between,
+        or one other action."""
         if self.looked:
-            yield from self.by_turns(first, last) if is_turn(self.tape, first) else self.by_setting(first)
+            can_watch = not self.addresses and len(self.places) <= MOST_WATCHES and last - first > self.scout.history.room
+            by = self.by_setting if not is_turn(self.tape, first) else self.by_watches if can_watch else self.by_turns
+            yield from filter(None, map(self.judged, by(first, last)))
 
     def at(self, position):
-        """Yields the stop of the processor whose turn is next at a position, if it has come to a breakpoint."""
-        number = self.tape.slot(position)
-        yield from self.judged(self.came(number, position) if number in self.addresses else ())
+        """Returns the stop of the processor whose turn is next at a position, if it has come to a breakpoint."""
+        return self.judged(self.came(self.tape.slot(position), position))
 
     def by_turns(self, first, last):
         scout = self.scout
@@ -84,15 +87,27 @@ class StopSearch:
             here = scout.position
             found = sorted([*found, *self.changes(looks, before), *self.arrivals(looks, before)],
                            key=lambda stop: (stop.position, not stop.place))
-            yield from self.judged(stop for stop in found if stop.position <= here)
+            for _, some in groupby([stop for stop in found if stop.position <= here], lambda stop: stop.position):
+                yield some
             found = [stop for stop in found if stop.position > here]
             scout.goto(here)
 
-    def by_setting(self, position):
-        was, now = self.seen(position), self.seen(position + 1)
-        yield from self.judged(self.change(position + 1, *one) for one in zip(self.places, was[1:], now[1:]) if one[1] != one[2])
-        if was[0] != now[0]:
-            yield from self.at(position + 1)
+    def by_watches(self, first, last):
+        """As `by_turns`, of changes alone: a scout watches the places, which is faster."""
+        scout, watched = self.machine.scout("watches"), [place.short for place in self.places]
+        scout.goto(first)
+        if scout.watched != watched:
+            scout.unwatch()
+            scout.watch(watched)
+        while scout.position < last:
+            before = [scout.engine.numbers(place, 1)[0] for place in self.numbers]
+            scout.comes_to(last)
+            yield self.changed(scout.position, before, [scout.engine.numbers(place, 1)[0] for place in self.numbers])
+
+    def by_setting(self, position, _):
+        (was, *before), (now, *after) = self.seen(position), self.seen(position + 1)
+        came = self.came(now[0], position + 1) if was != now else ()
+        yield [*self.changed(position + 1, before, after), *came]
 
     def seen(self, position):
         """Returns the processor whose turn is next at a position with its P and phase, and the numbers at the places."""
@@ -112,37 +127,30 @@ class StopSearch:
 
     def came(self, number, position):
         """Yields the stop before the next turn of a processor, if it came to a breakpoint by its latest turn before a position."""
+        if number not in self.addresses:
+            return
         self.scout.goto(position)
         (p, phase), at = self.where(number), latest_turn(self.tape, number, position)
-        entry = self.number(self.entry) if self.is_to_return(number) else None
-        if phase or not (p in self.addresses[number] or p == entry):
+        if phase or not (p in self.addresses[number] or number in self.entries and p == self.number(self.entries[number])):
             return
         if at is not None:
             self.scout.goto(at)
         if at is None or self.where(number) != (p, phase):
-            yield self.arrival(position + (number - self.tape.slot(position)) % PROCESSORS, number, p, entry)
-
-    def is_to_return(self, number):
-        """Returns whether the processor makes a step that ends at a return."""
-        return self.entry is not None and number == self.aim.processor
+            yield Stop(position + (number - self.tape.slot(position)) % PROCESSORS, number, p)
 
     def arrivals(self, looks, before):
         """Yields the stops before the next turns of processors that come to a breakpoint in some turns. Where they were before is known."""
         for number, addresses in self.addresses.items():
-            p, places = looks.own(number, flat.P + number), (flat.P + number, flat.PHASE + number)
-            if not self.is_to_return(number) and addresses.isdisjoint(p):
+            places = flat.P + number, flat.PHASE + number
+            p, phases = (looks.own(number, place) for place in places)
+            if number not in self.entries and addresses.isdisjoint(p):
                 continue
-            entries = looks.own(number, self.entry) if self.is_to_return(number) else [None] * len(p)
+            entries = looks.own(number, self.entries[number]) if number in self.entries else repeat(None)
             last, first = tuple(map(before.get, places)), looks.first_own(number) + PROCESSORS
-            for at, (*where, entry) in enumerate(zip(p, looks.own(number, places[1]), entries)):
+            for at, (*where, entry) in enumerate(zip(p, phases, entries)):
                 was, last = last, tuple(where)
                 if was != last and not last[1] and (last[0] in addresses or last[0] == entry):
-                    yield self.arrival(looks.position(first + PROCESSORS * at), number, last[0], entry)
-
-    def arrival(self, position, number, address, entry):
-        aim = self.aim
-        is_aim = aim is not None and number == aim.processor and (address in aim.addresses or address == entry)
-        return Stop(position, number, address, met=(aim,) if is_aim else ())
+                    yield Stop(looks.position(first + PROCESSORS * at), number, last[0])
 
     # ---- what changes
 
@@ -154,21 +162,28 @@ class StopSearch:
                 pairs = enumerate(zip(chain((before[number],), values), values), 1)
                 yield from (self.change(looks.position(at), place, was, now) for at, (was, now) in pairs if was != now)
 
+    def changed(self, position, before, after):
+        """Returns the stops at a position after the changes of all places that had other numbers before."""
+        return [self.change(position, *one) for one in zip(self.places, before, after) if one[1] != one[2]]
+
     def change(self, position, place, was, now):
         """Returns the stop at a position after the change of a place."""
-        return Stop(position, self.tape.slot(position - 1), None, place, *(f"{number:0{place.digits}o}" for number in (was, now)))
+        return Stop(position, self.tape.slot(position - 1), None, place, was, now)
 
     # ---- which breakpoints they are for
 
     def judged(self, stops):
-        """Yields those of some stops that are for a breakpoint or the aim."""
-        for stop in stops:
-            met = (*(point for point in self.points if self.is_on(point, stop) and self.holds(point, stop.position)), *stop.met)
-            if met:
-                yield stop._replace(met=met)
+        """Returns those of some stops that are for a breakpoint or the aim."""
+        met = [stop._replace(met=tuple(point for point in self.points if self.is_on(point, stop) and self.holds(point, stop.position)))
+               for stop in stops]
+        return [stop for stop in met if stop.met]
 
     def is_on(self, point, stop):
-        """Returns whether a stop is at a place or a cell of a breakpoint; of a line of a source the cell must have its word."""
+        """Returns whether a stop is at a place or a cell of a breakpoint or aim; of a line of a source the cell must have its word."""
+        if isinstance(point, Aim):
+            self.scout.goto(stop.position)
+            is_end = stop.address in point.addresses or stop.address in map(self.number, self.entries.values())
+            return stop.number == point.processor and not stop.place and is_end
         cell = ProcessorCell(stop.number, stop.address)
         if stop.place or cell not in point.cells:
             return stop.place in point.places

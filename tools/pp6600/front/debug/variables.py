@@ -56,9 +56,8 @@ def register(state, number, name):
 
 
 def devices(state):
-    found = [variable(f"CR {name}", value) for name, value in state.reader._asdict().items()]
-    found += [variable(f"LP {name}", value) for name, value in state.printer._asdict().items() if name != "paper"]
-    return found + [variable("LP paper", "\n".join(state.printer.paper))]
+    return [variable(f"{device} {name}", value if isinstance(value, str) else "\n".join(value))
+            for device, of in (("CR", state.reader), ("LP", state.printer)) for name, value in of._asdict().items()]
 
 
 def value_of(machine, place):

@@ -63,7 +63,7 @@ class Panel:
             if whole and turn is not None:
                 self.go_to_turn(f"{turn:o}")
         except DeviceFailure as failure:
-            self.show_failure(failure)
+            self.take_failure(failure)
         self.see()
 
     def stops(self, done, total):
@@ -135,13 +135,14 @@ class Panel:
             else:
                 self.press_alone(key)
         except Failure as failure:
-            self.show_failure(failure)
+            self.take_failure(failure)
         self.see()
 
-    def show_failure(self, failure):
+    def take_failure(self, failure):
+        """Shows why something can't be done. If a device failed, the machine is where it was."""
+        self.message = str(failure)
         if isinstance(failure, DeviceFailure):
             self.session.look_again()
-        self.message = str(failure)
 
     def press_alone(self, key):
         """Performs a key outside a line and a page."""
@@ -170,12 +171,9 @@ class Panel:
     def add_to_count(self, count, digit):
         """Adds a digit to the count before a key."""
         if digit in "89":
-            self.message = f"{digit} is not octal; the count is forgotten"
-        elif len(count) < MOST_COUNT_DIGITS and (count or digit != "0"):
-            self.count = count + digit
-            self.message = f"count {self.count}"
-        else:
-            self.count, self.message = count, f"count {count}" if count else ""
+            raise Failure(f"{digit} is not octal; the count is forgotten")
+        self.count = f"{count}{digit}".lstrip("0")[:MOST_COUNT_DIGITS]
+        self.message = f"count {self.count}" if self.count else ""
 
     def quit(self, is_asked):
         """Ends the panel, at the second time if something that was sent is in no file."""
@@ -192,9 +190,8 @@ class Panel:
     def toggle_central(self):
         """Shows central memory beside the source, or no longer."""
         if self.needed_source() and self.view.source is None:
-            self.message = "central memory is beside the cells; m shows the source"
-        else:
-            self.view.toggle_central()
+            raise Failure("central memory is beside the cells; m shows the source")
+        self.view.toggle_central()
 
     def show_log(self):
         self.page = TextPage("All lines and answers", log_lines(self.session.log), at_end=True)
@@ -242,22 +239,20 @@ class Panel:
         ahead = self.session.history.to_redo
         if ahead and lines[0].upper().split()[:1] in NEW_ACTIONS and not self.session.would_refuse(lines[0]):
             self.asked = lines
-            self.message = f"{lines[0]} discards the {ahead:o} actions ahead: y sends it, any other key does not"
-        else:
-            self.send_at_once(lines)
-
-    def press_when_asked(self, key):
-        """Performs the key that says whether what is ahead may be discarded."""
-        lines, self.asked = self.asked, []
-        if key == "y":
-            self.send_at_once(lines)
-        else:
-            self.message = f"{lines[0]} was not sent"
+            raise Failure(f"{lines[0]} discards the {ahead:o} actions ahead: y sends it, any other key does not")
+        self.send_at_once(lines)
 
     def send_at_once(self, lines):
         """Sends lines, and shows what is to be said about them."""
         outcome = self.session.perform(lines, self.stops)
         self.message = in_width(remarks(self.session, outcome, self.view.cursor, self.symbols), self.columns)
+
+    def press_when_asked(self, key):
+        """Performs the key that says whether what is ahead may be discarded."""
+        lines, self.asked = self.asked, []
+        if key != "y":
+            raise Failure(f"{lines[0]} was not sent")
+        self.send_at_once(lines)
 
     # ---- a line that is typed
 
@@ -278,7 +273,7 @@ class Panel:
             self.message = f"q quits, ? shows all keys. Card of the console: {card()}."
         elif text:
             self.send([self.symbols.in_digits(text)])
-            if not self.asked and self.session.log and len(self.session.log[-1][1]) > LONG_ANSWER:
+            if self.session.log and len(self.session.log[-1][1]) > LONG_ANSWER:
                 self.show_log()
 
     def go_to(self, text):
