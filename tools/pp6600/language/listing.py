@@ -61,7 +61,7 @@ class Listing:
         """The lines are those of a text. Without columns they are guessed. What is in doubt raises InDoubt, or is kept. Between the rows
         of a dump there may be gaps."""
         self.cells: Dict[int, Tuple[str, Printed]] = {}  # by address: the word and the line
-        self.elsewhere: Dict[int, Tuple[str, Printed]] = {}  # the same by the addresses for which code is assembled, if it is loaded to others
+        self.elsewhere: Dict[int, Tuple[str, Printed]] = {}  # the same of code for other addresses than it is loaded to, by these
         self.names = Names()
         printout = Printout(without_mark(lines), columns, has_gaps)
         self.columns = printout.columns

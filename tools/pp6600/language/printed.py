@@ -329,7 +329,7 @@ def label_of(words: Sequence[str], parts: Parts, operations: Set[int]) -> str:
     is_label = is_before_operation or not is_alone and not words[1][0].isalnum()  # before a comment
     if operations:
         is_in_columns = bool(parts.starts) and parts.starts[0] < FIRST_OF_OPERATIONS
-        is_label = is_in_columns and (is_label or is_alone or parts.starts[1] in operations) and (is_before_operation or not is_operation(label))
-    else:
-        is_label = (is_label or label != words[0] or is_alone and bool(parts.words)) and not is_operation(label)
-    return label if is_label else ""
+        is_label = is_in_columns and (is_label or is_alone or parts.starts[1] in operations)
+        return label if is_label and (is_before_operation or not is_operation(label)) else ""
+    is_label = is_label or label != words[0] or is_alone and bool(parts.words)
+    return label if is_label and not is_operation(label) else ""

@@ -16,9 +16,11 @@ D_BITS = 6  # of d of an instruction
 BASES = {"OCTAL": 8, "DECIMAL": 10, "MIXED": 8}
 # Whether a value is an error of the source.
 ERRORS: Dict[str, Callable[[int], bool]] = {
-    "ERRNZ": bool, "ERRZR": lambda value: value == 0, "ERRPL": lambda value: value >= 0, **dict.fromkeys(("ERRMI", "ERRNG"), lambda value: value < 0)}
+    "ERRNZ": bool, "ERRZR": lambda value: not value, "ERRPL": lambda value: value >= 0,
+    **dict.fromkeys(("ERRMI", "ERRNG"), lambda value: value < 0)}
 IGNORED = ("ABS", "SST", "ENTRY", "TITLE", "TTL", "SPACE", "EJECT", "LIST", "NOREF", "XREF", "COMMENT", "CTEXT", "ENDX", "NOLABEL", "NIL")
 SYMBOLS_OF_MICRO = {"DATE": 10, "JDATE": 10, "TIME": 10, "MODLEVEL": 10, "PCOMMENT": 10}  # that COMPASS defines by the clock or its call
+MICRO = re.compile(r"([^,]*),([^,]*),(?: ([^ ]*)|([^ ])(.*?)\4).*")
 CHOOSE: Dict[str, Callable[[List[int]], int]] = {"MAX": max, "MIN": min}
 LONG_FORMS = {"LDK": ("LDN", "LCN", "LDC"), "ADK": ("ADN", "SBN", "ADC")}  # for a small number, a small one that is minus, and others
 
@@ -197,18 +199,12 @@ def qual(state: Scope, statement: Statement) -> None:
 
 def micro(state: Scope, statement: Statement) -> None:
     """MICRO n,m,*text* names m symbols of a text from the one with number n on; without m all up to its end."""
-    first, count, text = micro_operands(statement)
-    start, size = state.lines_count(first), state.lines_count(count) if count.text else len(text)
-    name_micro(state, statement, text[start - 1:start - 1 + size] if start else "")
-
-
-def micro_operands(statement: Statement) -> Tuple[Field, Field, str]:
-    found = re.fullmatch(r"([^,]*),([^,]*),(.)(.*)", statement.operand.text)
-    text, mark, _ = found[4].partition(found[3]) if found else ("", "", "")
-    if not found or not mark and found[3] != " ":
+    found = MICRO.fullmatch(statement.operand.text)
+    if not found:
         raise Fault(statement.operand.column, "MICRO wants a number, how many symbols, and a text between two equal symbols")
-    column = statement.operand.column
-    return Field(found[1], column), Field(found[2], column + len(found[1]) + 1), text
+    start, size = (state.lines_count(Field(found[at], statement.operand.column + found.start(at))) for at in (1, 2))
+    text = found[3] or found[5] or ""
+    name_micro(state, statement, text[start - 1:start - 1 + (size if found[2] else len(text))] if start else "")
 
 
 def name_micro(state: Scope, statement: Statement, text: str) -> None:

@@ -157,7 +157,7 @@ class Scope:
 
     # -- what is wrong
     def message(self, column: int, text: str) -> Message:
-        """Returns a message about a column of the present line; of one that a macro made, or that is in a common deck, at the call of it."""
+        """Returns a message about a column of the present line; of one that a macro made, or of a common deck, at the call of it."""
         call, number = self.line.call, self.line.number
         if call:
             kind = "common deck" if call.is_deck else "macro"
