@@ -1,6 +1,7 @@
 """What a tool can't do."""
 
-from typing import Iterable
+import contextlib
+from typing import Iterable, Iterator, Type
 
 
 class Failure(Exception):
@@ -13,3 +14,12 @@ class Faults(Failure):
     def __init__(self, lines: Iterable[str]) -> None:
         self.lines = list(lines)
         super().__init__("; ".join(self.lines))
+
+
+@contextlib.contextmanager
+def naming_line(number: int, kind: Type[Failure] = Failure) -> Iterator[None]:
+    """Names a line, counted from 1, in a failure of a kind."""
+    try:
+        yield
+    except kind as failure:
+        raise Failure(f"line {number} (decimal): {failure}") from failure

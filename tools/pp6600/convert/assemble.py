@@ -18,17 +18,14 @@ WRONG = 1
 
 def main() -> int:
     parser = Parser(DESCRIPTION, "[--set N | --listing | --panel | --deck | --words] [--text DIR] [--unit NAME] FILE")
-    forms = parser.add_mutually_exclusive_group()
-    forms.add_argument("--set", metavar="N", type=processor,
-                       help="SET lines for processor N, and SET P if END says where it begins")
-    for name, text in FORMS.items():
-        forms.add_argument(f"--{name}", action="store_true", help=text)
+    group = parser.add_mutually_exclusive_group()
+    group.add_argument("--set", metavar="N", type=processor, help="SET lines for processor N, and SET P if END says where it begins")
+    parser.add_forms(FORMS, group)
     add_texts(parser)
     parser.add_argument("--unit", metavar="NAME", help="the program that an IDENT of the source names; else the first one")
     parser.add_argument("file", nargs="?", metavar="FILE", help="the source; without it, standard input is the source")
     asked = parser.parse()
-    form = "words" if asked.set is None else "set"
-    form = next((name for name in FORMS if getattr(asked, name)), form)
+    form = asked.form or ("words" if asked.set is None else "set")
     made = assembled_lines(bytes_of(asked.file), asked.file, form, asked.set or 0, asked.text, asked.unit)
     if made.complaints:
         print(*made.complaints, sep="\n", file=sys.stderr)

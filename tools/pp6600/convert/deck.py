@@ -2,6 +2,7 @@
 
 from typing import List, Sequence
 
+from ..failure import naming_line
 from ..language.display_code import words_of
 from ..run.forms import COLUMNS_OF_CARD
 from ..shell.command_line import Failure, Parser, read_lines, write_lines
@@ -20,10 +21,8 @@ def cards(lines: Sequence[str]) -> List[str]:
 
 
 def card(number: int, line: str) -> str:
-    try:
+    with naming_line(number):
         words = words_of(line)
-    except Failure as failure:
-        raise Failure(f"line {number} (decimal): {failure}") from failure
     if len(words) > COLUMNS_OF_CARD:
         raise Failure(f"line {number} (decimal) has more than 160 (decimal) symbols")
     return " ".join(words) or "0"

@@ -1,8 +1,9 @@
 """Files of words, as SET lines."""
 
 from argparse import Namespace
-from typing import List, Optional, Sequence, Tuple
+from typing import List, Sequence, Tuple
 
+from ..failure import naming_line
 from ..language.listing import Listing, complain_of, is_listing, without_mark
 from ..language.printed import Columns
 from ..shell.command_line import Failure, Parser, bytes_of, cell, processor, read_lines, words_after, write_lines
@@ -22,10 +23,8 @@ def octal_words(lines: Sequence[str]) -> List[str]:
         raise Failure("the first numbers of the lines are addresses: with --listing, and without A, the words go there")
     words: List[str] = []
     for number, line in enumerate(lines, 1):
-        try:
+        with naming_line(number):
             words += [word_of(text) for text in line.partition("*")[0].split()]
-        except Failure as failure:
-            raise Failure(f"line {number} (decimal): {failure}") from failure
     return words
 
 
@@ -49,37 +48,34 @@ def two_byte_words(data: bytes) -> List[str]:
     return [f"{upper << 8 | lower:04o}" for upper, lower in zip(data[::2], data[1::2])]
 
 
-def words_of(asked: Namespace, path: Optional[str]) -> List[str]:
-    if asked.packed:
-        return packed_words(bytes_of(path))
-    return two_byte_words(bytes_of(path)) if asked.two_bytes else octal_words(without_mark(read_lines(path)))
+BINARY = {"packed": packed_words, "two-bytes": two_byte_words}
 
 
 def lines_of(asked: Namespace) -> Tuple[List[str], str]:
     """Returns the SET lines, and what is said of them."""
-    if (asked.columns or asked.trust) and not asked.listing:
+    is_listing_asked = asked.form == "listing"
+    if (asked.columns or asked.trust) and not is_listing_asked:
         raise Failure(f"--{'columns' if asked.columns else 'trust'} is for --listing")
-    if not asked.words or not asked.listing and len(asked.words) < 2:
+    if not asked.words or not is_listing_asked and len(asked.words) < 2:
         raise Failure("give a processor and a cell, as load 0 100; or load --listing 0")
     number = processor(asked.words[0])
-    if asked.listing:
+    if is_listing_asked:
         (path,) = words_after(asked.words[1:], 1, "--listing takes a processor, one file")
         listing = Listing.of_file(path, asked.columns, asked.trust)
         complain_of(path, listing)
         how = "" if asked.columns or not listing.columns else f", by --columns {listing.columns.shown} as guessed"
         return listing.set_lines(number), f"{listing.counts()}{how}"
     (path,) = words_after(asked.words[2:], 1, "give a processor, a cell, one file")
-    return set_lines(number, cell(asked.words[1]), words_of(asked, path)), ""
+    first = cell(asked.words[1])
+    words = BINARY[asked.form](bytes_of(path)) if asked.form in BINARY else octal_words(without_mark(read_lines(path)))
+    return set_lines(number, first, words), ""
 
 
 def main() -> None:
     parser = Parser(DESCRIPTION, "[--packed | --two-bytes | --listing [--columns A,W,T] [--trust]] N [A] [FILE]")
-    kinds = parser.add_mutually_exclusive_group()
-    kinds.add_argument("--packed", action="store_true",
-                       help="the file is binary: two words in three bytes, the upper bits first")
-    kinds.add_argument("--two-bytes", action="store_true",
-                       help="the file is binary: each word in two bytes, the upper bits first")
-    kinds.add_argument("--listing", action="store_true", help="the file is a listing, with addresses")
+    parser.add_forms({"packed": "the file is binary: two words in three bytes, the upper bits first",
+                      "two-bytes": "the file is binary: each word in two bytes, the upper bits first",
+                      "listing": "the file is a listing, with addresses"})
     parser.add_argument("--columns", metavar="A,W,T", type=Columns.parse,
                         help="the columns of addresses, words and source lines of the listing, decimal, from 1; else guessed")
     parser.add_argument("--trust", action="store_true", help="load what is readable of a listing, and say what is in doubt")

@@ -1,7 +1,6 @@
 """The cells of a processor at the end of a script, in each form that load takes, and as a deck or a panel."""
 
-from argparse import Namespace
-from typing import Iterable, List, Sequence
+from typing import Callable, Dict, Iterable, List, Optional, Sequence
 
 from ..language.symbol_options import add_sources, symbols_of
 from ..run.forms import COLUMNS_OF_CARD, ROW
@@ -29,11 +28,6 @@ def listing(first: int, words: Sequence[str]) -> List[str]:
     return [f"{first + ROW * at:04o} {' '.join(row)}" for at, row in enumerate(in_rows(words))]
 
 
-def deck(words: Sequence[str]) -> Iterable[str]:
-    """Returns cards with as many words as they have columns."""
-    return map(" ".join, in_rows(words, COLUMNS_OF_CARD))
-
-
 def panel(words: List[str]) -> List[str]:
     """Returns the words of a dead start panel, with zeros after them."""
     if len(words) > PANEL_WORDS:
@@ -41,24 +35,22 @@ def panel(words: List[str]) -> List[str]:
     return words + ["0000"] * (PANEL_WORDS - len(words))
 
 
-def written(asked: Namespace, number: int, first: int, words: List[str]) -> Iterable[str]:
-    """Returns the lines of a form that is text."""
-    if asked.set:
-        return set_lines(number, first, words)
-    if asked.listing:
-        return listing(first, words)
-    return deck(words) if asked.as_deck else panel(words) if asked.as_panel else map(" ".join, in_rows(words))
+BINARY: Dict[str, Callable[[Sequence[str]], bytes]] = {"packed": packed, "two-bytes": two_bytes}
+# What the words of processor N from a cell on are in each form that is text.
+LINES: Dict[Optional[str], Callable[[int, int, List[str]], Iterable[str]]] = {
+    None: lambda number, first, words: map(" ".join, in_rows(words)), "listing": lambda number, first, words: listing(first, words),
+    "as-deck": lambda number, first, words: map(" ".join, in_rows(words, COLUMNS_OF_CARD)),
+    "as-panel": lambda number, first, words: panel(words), "set": set_lines}
 
 
 def main() -> int:
     parser = arguments(DESCRIPTION, "[OPTION ..] N A B [SCRIPT]")
-    kinds = parser.add_mutually_exclusive_group()
-    kinds.add_argument("--packed", action="store_true", help="binary: two words in three bytes, the upper bits first")
-    kinds.add_argument("--two-bytes", action="store_true", help="binary: each word in two bytes, the upper bits first")
-    kinds.add_argument("--listing", action="store_true", help="rows that begin with their addresses")
-    kinds.add_argument("--as-deck", action="store_true", help="cards, a word a column, as the simulator's --deck takes them")
-    kinds.add_argument("--as-panel", action="store_true", help="the words of a panel, as the simulator's --panel takes them")
-    kinds.add_argument("--set", action="store_true", help="SET lines for processor N")
+    parser.add_forms({"packed": "binary: two words in three bytes, the upper bits first",
+                      "two-bytes": "binary: each word in two bytes, the upper bits first",
+                      "listing": "rows that begin with their addresses",
+                      "as-deck": "cards, a word a column, as the simulator's --deck takes them",
+                      "as-panel": "the words of a panel, as the simulator's --panel takes them",
+                      "set": "SET lines for processor N"})
     add_sources(parser)
     parser.add_argument("words", nargs="*", metavar="N A B SCRIPT", help="octal; without a script, standard input is it")
     asked = parser.parse()
@@ -72,8 +64,8 @@ def main() -> int:
     run.goto(run.tape.end)
     words = run.cells(number, first, last)
     run.end()
-    if asked.packed or asked.two_bytes:
-        write_bytes(packed(words) if asked.packed else two_bytes(words))
+    if asked.form in BINARY:
+        write_bytes(BINARY[asked.form](words))
     else:
-        write_lines(written(asked, number, first, words))
+        write_lines(LINES[asked.form](number, first, words))
     return script.status()

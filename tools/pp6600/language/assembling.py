@@ -14,7 +14,7 @@ STOPS = (" is not taken by this assembler yet", "more than 100000 (decimal) word
 PLAIN_TEXT = re.compile(rb"[\t\n\r -~]*")  # in other texts a column may be something else
 
 
-class Made(NamedTuple):
+class Assembled(NamedTuple):
     """What is written of a source: what is wrong with it, whether it is not to be used, and its lines."""
 
     complaints: List[str]
@@ -22,7 +22,7 @@ class Made(NamedTuple):
     lines: Callable[[], List[str]]
 
 
-def assembled_lines(source: bytes, path: Optional[str], form: str, processor: int, decks: Optional[str], unit: Optional[str]) -> Made:
+def assembled_lines(source: bytes, path: Optional[str], form: str, processor: int, decks: Optional[str], unit: Optional[str]) -> Assembled:
     """Assembles the source of a file, with the folder of its common decks, if it has some. The lines are those of a form and, if they load
     the program, for a processor; of the unit with a name, if there is one."""
     assembler = assembler_here() if form in ("words", "set", "listing") and decks is None and unit is None else None
@@ -30,7 +30,7 @@ def assembled_lines(source: bytes, path: Optional[str], form: str, processor: in
     return made or in_python(source, path, form, processor, decks, unit)
 
 
-def by_library(assembler: Assembler, source: bytes, path: Optional[str], form: str, processor: int) -> Optional[Made]:
+def by_library(assembler: Assembler, source: bytes, path: Optional[str], form: str, processor: int) -> Optional[Assembled]:
     """Assembles a source by the library; None if it does not take it."""
     text, faults = assembler.text(source, COMPLAINTS)
     complaints = lines_of(text.decode("ascii"))
@@ -42,14 +42,14 @@ def by_library(assembler: Assembler, source: bytes, path: Optional[str], form: s
             return lines_of(assembler.load_lines(source, processor).decode("ascii"))
         found = lines_of(assembler.text(source, LISTING if form == "listing" else WORDS)[0].decode("ascii"))
         return found[:-1] if form == "words" and found and found[-1].startswith("P") else found
-    return Made([shown_text(f"{named(path)}:{complaint}") for complaint in complaints], faults > 0, lines)
+    return Assembled([shown_text(f"{named(path)}:{complaint}") for complaint in complaints], faults > 0, lines)
 
 
-def in_python(source: bytes, path: Optional[str], form: str, processor: int, decks: Optional[str], unit: Optional[str]) -> Made:
+def in_python(source: bytes, path: Optional[str], form: str, processor: int, decks: Optional[str], unit: Optional[str]) -> Assembled:
     """Assembles a source by the assembler in Python."""
     from .source import forms, passes
     from .sources import complaints, texts_in, unit_of
     from .listing import without_mark
     program = passes.assembled(without_mark(lines_in(source, path)), texts_in(decks))
-    return Made(complaints(path, program), bool(program.messages),
-                lambda: list(forms.lines_of(program if unit is None else unit_of(program, unit), form, processor)))
+    return Assembled(complaints(path, program), bool(program.messages),
+                     lambda: list(forms.lines_of(program if unit is None else unit_of(program, unit), form, processor)))

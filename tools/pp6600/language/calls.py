@@ -10,7 +10,7 @@ from ..run.forms import CELLS, PROCESSORS, Place
 from ..run.origin_search import SET, TURN, OriginSearch, Step
 from ..run.search import Made, Search, around, spans
 from ..run.session import Session
-from ..run.tape import Position, Tape
+from ..run.tape import Position
 from ..run.turn import Processor
 from .names import AllSymbols
 
@@ -49,16 +49,17 @@ def arrivals(run: Session, number: int, address: int, first: int, last: int) -> 
         yield from reversed([turn for _, turn in search.found(start, end)])
 
 
-def turn_made(run: Session, turn: int) -> Made:
-    """Returns the turn with a number, from 1."""
-    return around(run, run.tape.before_turn(turn))[1]
+def turn_of(run: Session, number: int, turn: int, name: str) -> Optional[Made]:
+    """Returns a turn, which are counted from 1, if in it a processor began an instruction with this name; else None."""
+    made = around(run, run.tape.before_turn(turn))[1]
+    return made if made.slot == number and made.processor.name == name and not made.processor.phase else None
 
 
 def call_of(run: Session, number: int, jump: int, position: Position) -> Optional[SubroutineCall]:
     """Returns the last call before a position of a subroutine whose jump back is at an address; None if it was not called."""
     for turn in arrivals(run, number, jump + 2, 0, run.tape.turn(position)):
-        made = turn_made(run, turn)
-        if made.slot == number and made.processor.name == RJM and not made.processor.phase:
+        made = turn_of(run, number, turn, RJM)
+        if made:
             rjm = Rjm(Position(made.position + 1), made.processor)
             entry, back = (write_after(run, number, cell, rjm, position) for cell in (jump + 1, jump))
             return SubroutineCall(jump, rjm, entry, back)
@@ -76,17 +77,12 @@ def has_returned(run: Session, number: int, call: SubroutineCall, position: Posi
     tape = run.tape
     last = tape.turn(position)
     for turn in arrivals(run, number, call.jump, tape.turn(call.rjm.position), last):
-        after = turn + PROCESSORS if tape.slot(tape.before_turn(turn)) == number else next_turn(tape, number, turn)
-        if after <= last:
-            made = turn_made(run, after)
-            if made.slot == number and made.processor.p == call.jump and made.processor.name == LJM and not made.processor.phase:
-                return True
+        is_own = tape.slot(tape.before_turn(turn)) == number
+        after = turn + (PROCESSORS if is_own else 1 + (number - tape.slot(tape.after_turn(turn))) % PROCESSORS)  # its next turn
+        made = turn_of(run, number, after, LJM) if after <= last else None
+        if made and made.processor.p == call.jump:
+            return True
     return False
-
-
-def next_turn(tape: Tape, number: int, turn: int) -> int:
-    """Returns the number of the first turn of a processor after another one."""
-    return turn + 1 + (number - tape.slot(tape.after_turn(turn))) % PROCESSORS
 
 
 def address_of(run: Session, number: int, position: Position) -> Optional[int]:

@@ -7,7 +7,7 @@ from .source.directives import MAKERS
 from .source.encoding import operands_of, words_of
 from .source.machine import CODES, form_of
 from .source.messages import Fault, Follows
-from .source.state import State
+from .source.state import Scope
 from .source.statements import Field, Line, Statement, statement_of
 from .source.symbols import Symbol
 
@@ -15,7 +15,7 @@ D = 0o77  # what the operand of an instruction says of its first word
 ONES = -1  # in the place of a field that is not known
 
 
-class Told(State):
+class Told(Scope):
     """What the operands of a listing mean: a name or a literal that is not known raises Follows, a fault is raised."""
 
     def __init__(self, names: Dict[str, Optional[int]], base: int, origin: Optional[int], location: Optional[int]) -> None:

@@ -38,11 +38,14 @@ class InDoubt(Failure):
         self.doubts = doubts
 
 
+def shown_messages(path: Optional[str], messages: Sequence[Message]) -> List[str]:
+    """Returns the lines about what is wrong with a text, as FILE:LINE:COLUMN: and a text."""
+    return [shown_text(f"{named(path)}:{line}:{column}: {text}") for line, column, text in messages]
+
+
 def shown_doubts(path: Optional[str], doubts: Sequence[Message]) -> List[str]:
-    """Returns the lines about what is in doubt, as FILE:LINE:COLUMN: and a text."""
-    lines = [shown_text(f"{named(path)}:{line}:{column}: {text}") for line, column, text in doubts[:MOST_DOUBTS]]
-    more = len(doubts) - len(lines)
-    return [*lines, f"{named(path)}: {more} (decimal) more"] if more else lines
+    more = len(doubts) - MOST_DOUBTS
+    return shown_messages(path, doubts[:MOST_DOUBTS]) + ([f"{named(path)}: {more} (decimal) more"] if more > 0 else [])
 
 
 def complain_of(path: Optional[str], listing: "Listing") -> None:
@@ -58,7 +61,7 @@ class Listing:
         """The lines are those of a text. Without columns they are guessed. What is in doubt raises InDoubt, or is kept. Between the rows
         of a dump there may be gaps."""
         self.cells: Dict[int, Tuple[str, Printed]] = {}  # by address: the word and the line
-        self.elsewhere: Dict[int, Tuple[str, Printed]] = {}  # the same by the addresses for which code is assembled, if it is loaded to others
+        self.elsewhere: Dict[int, Tuple[str, Printed]] = {}  # the same of code for other addresses than it is loaded to, by these
         self.names = Names()
         printout = Printout(without_mark(lines), columns, has_gaps)
         self.columns = printout.columns

@@ -4,7 +4,7 @@ from __future__ import annotations
 
 import bisect
 import re
-from typing import Any, Dict, Iterable, List, Optional, Sequence, Set, Tuple
+from typing import Any, Dict, Iterable, List, Optional, Sequence, Tuple
 
 from ..failure import Failure
 from ..run.forms import CELLS
@@ -39,13 +39,21 @@ class Names:
         """Returns the first name of each address with a label."""
         return {address: names[0] for address, names in self.labels.items()}
 
-    def numbers_of(self, name: str) -> Set[int]:
-        """Returns the numbers that have a name, in letters of either case."""
-        return {number for names in (self.labels, self.equates) for number, own in names.items()
-                if name.upper() in (one.upper() for one in own)}
+    def number(self, name: str) -> Optional[int]:
+        """Returns the number that has a name, in letters of either case; None if none has it."""
+        return the_number(name, [number for names in (self.labels, self.equates) for number, own in names.items()
+                                 if name.upper() in (one.upper() for one in own)])
 
     def __len__(self) -> int:
         return sum(len(own) for names in (self.labels, self.equates) for own in names.values())
+
+
+def the_number(name: str, numbers: Iterable[int]) -> Optional[int]:
+    """Returns the only one of the numbers that have a name; None if there is none."""
+    found = sorted(set(numbers))
+    if len(found) > 1:
+        raise Failure(f"{name} is the name of {' and of '.join(f'{number:04o}' for number in found)}")
+    return found[0] if found else None
 
 
 class AddressNames:
@@ -69,10 +77,7 @@ class AddressNames:
 
     def address(self, name: str) -> Optional[int]:
         """Returns the number that has a name; None if none has it."""
-        numbers = sorted(self.names.numbers_of(name))
-        if len(numbers) > 1:
-            raise Failure(f"{name} is the name of {' and of '.join(f'{number:04o}' for number in numbers)}")
-        return numbers[0] if numbers else None
+        return self.names.number(name)
 
     def entries(self) -> Dict[int, int]:
         """Returns the cells of return addresses of its subroutines, by the addresses of their jumps back: NAME is such a cell if
@@ -122,10 +127,7 @@ class AllSymbols:
 
     def number(self, text: str) -> Optional[int]:
         """Returns the number that a name has, of whichever processor it is; None if there is no such name."""
-        numbers = {number for processor in self.of if (number := self.address(processor, text)) is not None}
-        if len(numbers) > 1:
-            raise Failure(f"{text} is the name of {' and of '.join(f'{number:04o}' for number in sorted(numbers))}")
-        return next(iter(numbers), None)
+        return the_number(text, [number for processor in self.of if (number := self.address(processor, text)) is not None])
 
     def place_in_digits(self, words: Sequence[str]) -> List[str]:
         """Returns the words of a place, M 0 START or H CH, with digits for the names that are known."""
@@ -144,11 +146,10 @@ class AllSymbols:
     def in_digits(self, line: str) -> str:
         """Returns a line of the console that was typed, with digits for the names of its places; any other line as it is."""
         words = line.split()
-        if words[:1] and words[0].upper() in WITH_PLACES and len(words) > 2:
-            changed = [words[0], *self.place_in_digits([words[1].upper(), *words[2:]])]
-            if [word.upper() for word in changed] != [word.upper() for word in words]:
-                return " ".join(changed)
-        return line
+        if len(words) <= 2 or words[0].upper() not in WITH_PLACES:
+            return line
+        changed = [words[0], *self.place_in_digits([words[1].upper(), *words[2:]])]
+        return line if [word.upper() for word in changed] == [word.upper() for word in words] else " ".join(changed)
 
     def sources(self) -> List[Tuple[int, Any]]:
         """Returns the processors with a source, each with it."""

@@ -1,7 +1,6 @@
 """The parts of the lines of a printed listing: error flag, address, words and source line. The columns of these are found from the
 addresses that go on where the words of the line before end; if there are none, the first number of a line is its address."""
 
-import itertools
 import re
 from typing import Iterable, Iterator, List, NamedTuple, Optional, Sequence, Set, Tuple
 
@@ -242,11 +241,11 @@ def parts_of(line: str, columns: Optional[Columns]) -> Parts:
         load, after = tokens[after], after + 1
     words = words_of(tokens[after:], columns)
     rest = tokens[after + len(words):]
-    start = columns.text if columns else rest[0].start if rest else len(line)
+    start = columns.text if columns else len(line)
     start = max([min([start, *(token.start for token in rest[:1])]), *(word.end for word in words)])
-    if columns and start == columns.text - 1:
-        return Parts(flag, address, load, words, line[start:], columns.text, True)
-    return Parts(flag, address, load, words, line[start:], start, columns is not None and start == columns.text)
+    is_before = columns is not None and start == columns.text - 1
+    is_aligned = columns is not None and start in (columns.text - 1, columns.text)
+    return Parts(flag, address, load, words, line[start:], start + is_before, is_aligned)
 
 
 def place_of_address(tokens: Sequence[Token], columns: Optional[Columns]) -> int:
@@ -267,11 +266,10 @@ def is_in_columns(token: Token, columns: Optional[Columns]) -> bool:
 def words_of(tokens: Sequence[Token], columns: Optional[Columns]) -> List[Token]:
     """Returns the first tokens that are numbers, or were: those before the column of source lines, or else up to a label or an
     operation. One that lost a digit moves the source line to the left."""
-    before = list(itertools.takewhile(
-        lambda token: not columns or token.start < columns.text - (not token.text[0].isdigit()), tokens))
     texts = [*(token.text for token in tokens), "", ""]
-    return list(itertools.compress(before, itertools.takewhile(
-        bool, (is_almost_word(texts[at], texts[at + 1], texts[at + 2], columns is not None) for at in range(len(before))))))
+    others = (at for at, token in enumerate(tokens) if columns and token.start >= columns.text - (not token.text[0].isdigit())
+              or not is_almost_word(token.text, texts[at + 1], texts[at + 2], columns is not None))
+    return list(tokens[:next(others, len(tokens))])
 
 
 def is_almost_word(text: str, after: str, second: str, has_columns: bool) -> bool:
@@ -288,21 +286,18 @@ def is_almost_word(text: str, after: str, second: str, has_columns: bool) -> boo
 def operation_columns(all_parts: Iterable[Parts]) -> Set[int]:
     """Returns the columns of operations, if the labels of a listing begin in the column of the source line or the next one, and its
     operations do not; else none. A few lines may be otherwise."""
-    columns: Set[int] = set()
-    others, known = 0, list(known_operations(all_parts))
-    for column, is_usual in known:
-        columns |= {column} if is_usual else set()
-        others += not is_usual
-    return columns if others * MOST_OTHERS <= len(known) else set()
+    known = list(known_operations(all_parts))
+    others = sum(not is_usual for _, is_usual in known)
+    return {column for column, is_usual in known if is_usual} if others * MOST_OTHERS <= len(known) else set()
 
 
-def known_operations(all_parts: Iterable[Parts]) -> Iterator["tuple[int, bool]"]:
+def known_operations(all_parts: Iterable[Parts]) -> Iterator[Tuple[int, bool]]:
     """Yields the column of each operation that is known, and whether the source line begins where that says."""
     for parts in all_parts:
         starts = parts.starts
         at = operation_at(parts.text.split(), starts[0]) if starts else None
         if at is not None:
-            yield starts[at], starts[0] < FIRST_OF_OPERATIONS if at else starts[0] >= FIRST_OF_OPERATIONS
+            yield starts[at], (starts[0] < FIRST_OF_OPERATIONS) == (at > 0)
 
 
 def operation_at(words: Sequence[str], start: int) -> Optional[int]:
@@ -330,13 +325,11 @@ def label_of(words: Sequence[str], parts: Parts, operations: Set[int]) -> str:
     if not words or not NAME.fullmatch(words[0]):
         return ""
     label, is_alone = words[0].rstrip(":"), len(words) == 1
-    is_before_operation = len(words) > 1 and is_operation(words[1])
-    if is_operation(label) and not is_before_operation:
-        return ""
-    if not operations:
-        is_before_comment = len(words) > 1 and not words[1][0].isalnum()
-        is_label = label != words[0] or is_before_operation or is_before_comment or is_alone and bool(parts.words)
-        return label if is_label and not is_operation(label) else ""
-    if not parts.starts or parts.starts[0] >= FIRST_OF_OPERATIONS:
-        return ""
-    return label if is_alone or is_before_operation or parts.starts[1] in operations or not words[1][0].isalnum() else ""
+    is_before_operation = not is_alone and is_operation(words[1])
+    is_label = is_before_operation or not is_alone and not words[1][0].isalnum()  # before a comment
+    if operations:
+        is_in_columns = bool(parts.starts) and parts.starts[0] < FIRST_OF_OPERATIONS
+        is_label = is_in_columns and (is_label or is_alone or parts.starts[1] in operations)
+        return label if is_label and (is_before_operation or not is_operation(label)) else ""
+    is_label = is_label or label != words[0] or is_alone and bool(parts.words)
+    return label if is_label and not is_operation(label) else ""

@@ -25,8 +25,8 @@ WITH_ZEROS = re.compile(f">?0[0-7]{{{FULL - 1}}}[bB]?")
 
 
 class Printed(NamedTuple):
-    """What a line of a listing says: its number, decimal from 1; the source line; the address, which is that of its
-    label, and the one to which its words are loaded; the words, of four digits, or None if one is unreadable; and the names that it defines, with the
+    """What a line of a listing says: its number, decimal from 1; the source line; the address, which is that of its label, and the one
+    to which its words are loaded; the words, of four digits, or None if one is unreadable; and the names that it defines, with the
     numbers of these."""
 
     number: int

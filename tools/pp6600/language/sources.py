@@ -4,22 +4,22 @@ A cell is of the line whose location it is, or else of the line whose origin it 
 program that moved itself by LOC keeps its lines. The second word of an instruction may be another one, for RJM writes it."""
 
 import os
+from itertools import groupby
 from typing import Dict, Iterator, List, NamedTuple, Optional, Sequence, Tuple
 
 from ..failure import Failure, Faults
 from ..run.forms import Place
 from ..run.tape import SourceLine
 from ..run.turn import TWO_WORDS, places_of_setting
-from ..shell.ending import shown_text
 from ..shell.text_files import named, read_lines
-from .listing import Listing, is_printed, without_mark
+from .listed_words import statement_in
+from .listing import Listing, is_printed, shown_messages, without_mark
 from .names import FARTHEST, AddressNames, Names
 from .source.forms import set_lines
 from .source.machine import CELLS, CODES
-from .source.messages import Fault
 from .source.passes import Program, Texts, assembled
 from .source.state import Cell, Row
-from .source.statements import TAB, Line, statement_of
+from .source.statements import TAB, Line
 from .source.symbols import Symbol, Symbols
 
 
@@ -30,7 +30,7 @@ def source_lines(path: Optional[str]) -> List[str]:
 
 def complaints(path: Optional[str], program: Program) -> List[str]:
     """Returns the lines about what is wrong with a source, and what is to be known of it."""
-    return [shown_text(f"{named(path)}:{line}:{column}: {text}") for line, column, text in (*program.messages, *program.warnings)]
+    return shown_messages(path, (*program.messages, *program.warnings))
 
 
 # ---- common decks, and the units of a source
@@ -114,8 +114,9 @@ class Source(AddressNames):
         self.at_origin: Dict[int, Word] = {}
         for word in words_of(program.rows):
             self.at_location.setdefault((word.row.location + word.at) % CELLS, []).append(word)
-            if is_of(program, word):
-                self.at_origin[word.row.origin + word.at] = word
+            cell = word.row.origin + word.at
+            if program.cells.get(cell) == (word.row.words[word.at], word.row.line.number):  # a source with several units has others too
+                self.at_origin[cell] = word
         super().__init__(names_of(program), self.at_location)
         self.jumps = {**super().entries(), **jumps_back(program.rows)}
         self.literals = {address: text for address, text in program.literals.items() if address not in self.labels}
@@ -147,7 +148,8 @@ class Source(AddressNames):
     def place_of(self, place: Place) -> str:
         """Returns the place in the source from which the number at a place of the machine comes."""
         if place.kind == "P":
-            end = next(row for row in reversed(self.program.rows) if is_end(row))
+            end = next(row for row in reversed(self.program.rows)
+                       if (statement := statement_in(row.line.text)) and statement.operation.text == "END")
             return f"{self.path}:{end.line.number}"
         word = self.at_origin[place.numbers[1]]
         return f"{self.path}:{word.row.line.number} WORD {word.number}"
@@ -165,9 +167,8 @@ class Source(AddressNames):
         """Returns the address of the jump back of the subroutine that an address is in; None if it is in none. A subroutine ends
         where the next one begins, or where the source leaves out a cell."""
         first = max((jump for jump in self.jumps if jump <= address), default=None)
-        if first is None or any(cell not in self.at_location for cell in range(first, address + 1)):
-            return None
-        return first
+        is_whole = first is not None and all(cell in self.at_location for cell in range(first, address + 1))
+        return first if is_whole else None
 
     # ---- whose line a cell is
 
@@ -175,14 +176,11 @@ class Source(AddressNames):
         """Returns the line that a cell is of, which has this word, with the cell after it; or else the one that it was of, if the
         source has filled it."""
         origin = self.at_origin.get(address)
-        candidates = [*self.at_location.get(address, ()), *([origin] if origin else ())]
-        found = [one for one in candidates if one.digits == word]
+        found = [one for one in (*self.at_location.get(address, ()), origin) if one and one.digits == word]
+        if not found:
+            return cell_line(origin, False) if origin else None
         whole = next((one for one in found if second is None or one.second in (None, second)), None)
-        if whole:
-            return cell_line(whole, True)
-        if found:
-            return cell_line(found[0], True, second)
-        return cell_line(origin, False) if origin else None
+        return cell_line(whole, True) if whole else cell_line(found[0], True, second)
 
     def text(self, address: int, word: str, second: Optional[str] = None) -> str:
         """Returns the text of the line that begins at a cell, if this word is still there; or nothing."""
@@ -192,11 +190,9 @@ class Source(AddressNames):
     def beside(self, address: int, words: Sequence[str]) -> str:
         """Returns the line whose instruction is in a cell, with its words, or was; with the second word if that has changed."""
         line = self.line_of(address, *words[:2])
-        if not line:
-            return ""
-        if not line.is_there:
-            return f"was {self.path}:{line.number}"
-        return f"{self.path}:{line.number}: {line.text}{line.note}"
+        if line and line.is_there:
+            return f"{self.path}:{line.number}: {line.text}{line.note}"
+        return f"was {self.path}:{line.number}" if line else ""
 
     def texts(self) -> Dict[int, Tuple[int, str]]:
         """Returns the texts of the lines by the addresses at which they begin, each with its first word."""
@@ -220,27 +216,17 @@ def program_of(listing: Listing) -> Program:
     return Program(cells, listing.start, symbols, rows, [])
 
 
-def is_of(program: Program, word: "Word") -> bool:
-    """Returns whether a word is one that the program itself loads: a source with several units has others too."""
-    cell = program.cells.get(word.row.origin + word.at)
-    return cell is not None and (cell.word, cell.line) == (word.row.words[word.at], word.row.line.number)
-
-
 def jumps_back(rows: Sequence[Row]) -> Dict[int, int]:
     """Returns the second words of LJM that an RJM names, by the addresses of the LJM."""
-    named = {row.words[1] for row in rows if row.words[:1] == (CODES["RJM"] << 6,) and len(row.words) == 2}
-    return {row.location: row.location + 1 for row in rows
-            if row.words[:1] == (CODES["LJM"] << 6,) and len(row.words) == 2 and row.location + 1 in named}
+    pairs = [(row.location, *row.words) for row in rows if len(row.words) == 2]
+    named_by_rjm = {m for _, word, m in pairs if word == CODES["RJM"] << 6}
+    return {jump: jump + 1 for jump, word, _ in pairs if word == CODES["LJM"] << 6 and jump + 1 in named_by_rjm}
 
 
 def words_of(rows: Sequence[Row]) -> Iterator[Word]:
-    line, number = None, 0
-    for row in rows:
-        number = number if row.line.number == line else 0
-        line = row.line.number
-        for at in range(len(row.words)):
-            number += 1
-            yield Word(row, at, number)
+    for _, rows_of_line in groupby(rows, key=lambda row: row.line.number):
+        places = ((row, at) for row in rows_of_line for at in range(len(row.words)))
+        yield from (Word(row, at, number) for number, (row, at) in enumerate(places, 1))
 
 
 def names_of(program: Program) -> Names:
@@ -259,11 +245,3 @@ def text_of(row: Row) -> str:
 
 def cell_line(word: Word, is_there: bool, second: Optional[str] = None) -> CellLine:
     return CellLine(word.row.line.number, text_of(word.row), word.at, is_there, second, word.row)
-
-
-def is_end(row: Row) -> bool:
-    try:
-        statement = statement_of(row.line)
-    except Fault:  # of a printed listing
-        return False
-    return statement is not None and statement.operation.text == "END"

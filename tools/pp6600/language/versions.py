@@ -3,7 +3,7 @@
 A cell of one version is the cell of the other with the same label, or as far behind it, up to the next label of either. A number is
 the same in both if its digits are, or if it is the address of the same label."""
 
-from typing import Iterator, List, Sequence, Tuple
+from typing import Iterator, Sequence
 
 from ..run.forms import CELLS
 from ..run.state import Difference, State
@@ -18,21 +18,19 @@ class Versions:
 
     def __init__(self, number: int, names: Sequence[AddressNames]) -> None:
         self.number, self.names = number, names
-        self.cells: List[Tuple[int, int]] = []  # the addresses of each that both have
         one, other = names
         places = {label: address for address, label in reversed(other.labels.items())}
-        for first, label in one.labels.items():
-            if label in places:
-                count = min(cells_of_label(one, first), cells_of_label(other, places[label]))
-                self.cells += [(first + at, places[label] + at) for at in range(count)]
+        pairs = [(first, places[label]) for first, label in one.labels.items() if label in places]
+        self.cells = [(first + at, second + at) for first, second in pairs  # the addresses of each that both have
+                      for at in range(min(cells_of_label(one, first), cells_of_label(other, second)))]
 
     def is_same(self, digits: Sequence[str]) -> bool:
         """Returns whether two numbers are the same one."""
         if digits[0] == digits[1]:
             return True
         numbers = [int(one, 8) for one in digits]
-        called = {address_name(names, number) for names, number in zip(self.names, numbers)} if max(numbers) < CELLS else {""}
-        return len(called) == 1 and "" not in called
+        one, other = (address_name(names, number) for names, number in zip(self.names, numbers)) if max(numbers) < CELLS else ("", "")
+        return one == other != ""
 
     def replaces(self, difference: Difference) -> bool:
         """Returns whether a difference of two states is none here, or is found by the labels."""

@@ -3,7 +3,7 @@
 from __future__ import annotations
 
 import re
-from typing import Dict, List, Sequence
+from typing import Dict, Sequence
 
 from ..run.forms import PROCESSORS
 from .options import OPTIONS
@@ -20,13 +20,10 @@ ROWS = {"bash": ("--{name}) mapfile -t COMPREPLY < <(compgen -W '{values}' -- \"
         "fish": ("complete -c $command -l {name} -x -a '{values}'", "complete -c $command -l {name} -x")}
 
 
-def rows(shell: str) -> List[str]:
-    """Returns the rows of a shell: one for each option whose value is known to be one of some, or a number."""
-    with_values, with_number = ROWS[shell]
-    return [with_values.format(name=name, values=" ".join(values)) for name, values in VALUES.items()] + [
-        with_number.format(name=name) for name in NUMBERS]
-
-
 def filled(shell: str, text: str) -> str:
-    """Returns the completion of a shell, of a text with the mark."""
-    return MARK.sub(lambda mark: "".join(f"{mark[1]}{row}\n" for row in rows(shell)), text)
+    """Returns the completion of a shell, of a text with the mark: a row for each option whose value is known to be one of some, or a
+    number."""
+    with_values, with_number = ROWS[shell]
+    rows = [with_values.format(name=name, values=" ".join(values)) for name, values in VALUES.items()] + [
+        with_number.format(name=name) for name in NUMBERS]
+    return MARK.sub(lambda mark: "".join(f"{mark[1]}{row}\n" for row in rows), text)

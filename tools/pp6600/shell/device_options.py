@@ -8,7 +8,7 @@ from argparse import Namespace
 from typing import Any, List, Sequence, Tuple, Type
 
 from .. import devices
-from ..failure import Failure
+from ..failure import Failure, naming_line
 from ..run.attached import Attached
 from ..run.device import Device, DeviceFailure
 from ..run.forms import CHANNELS
@@ -42,10 +42,8 @@ def script_with(words: Sequence[str], attached: Sequence[Device], script: bytes)
     too, and the lines that were refused."""
     run, refusals = Attached(words, attached), Refusals()
     for number, line in enumerate(lines_of(script.decode("latin-1")), 1):
-        try:
+        with naming_line(number, DeviceFailure):
             refusals.note(number, line, run.act(line))
-        except DeviceFailure as failure:
-            raise Failure(f"line {number} (decimal): {failure}") from failure
     run.end()
     return "".join(f"{line}\n" for line in run.sent).encode("latin-1"), refusals
 
@@ -56,22 +54,21 @@ def device_of(text: str) -> Device:
     if not (named and channel):
         raise Failure(f"--device {text} names no channel: it is {FORM}")
     try:
-        number = up_to(channel, CHANNELS - 1, "channel")
-        return made(named, number)
+        return made(named, up_to(channel, CHANNELS - 1, "channel"))
     except Failure as failure:
         raise Failure(f"--device {text}: {failure}") from failure
 
 
 def made(named: str, channel: int) -> Device:
     """Returns the device of a name with its words, on a channel."""
-    name, *more = named.split(":")
+    name, _, words = named.partition(":")
     if name.endswith(".py"):
-        if not more:
+        of_file, _, words = words.partition(":")
+        if ":" not in named:
             raise Failure(f"{name} needs the name of a class, as {name}:CLASS")
-        kind, more = class_of_file(name, more[0]), more[1:]
+        kind = class_of_file(name, of_file)
     else:
         kind = class_of_package(name)
-    words = ":".join(more)
     try:
         device = kind(*(words.split(",") if words else ()))
         device.channel = channel

@@ -37,10 +37,8 @@ def card() -> str:
 
 def completions() -> List[str]:
     """Returns the file of the console's words: beside the tools in an installation, in share in a checkout."""
-    for path in (os.path.join(ABOVE, "commands"), os.path.join(ABOVE, "share", "commands")):
-        if os.path.exists(path):
-            return ["--file", path]
-    return []
+    found = [path for path in (os.path.join(ABOVE, "commands"), os.path.join(ABOVE, "share", "commands")) if os.path.exists(path)]
+    return ["--file", *found[:1]] if found else []
 
 
 def edit_lines() -> None:

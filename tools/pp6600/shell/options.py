@@ -5,7 +5,7 @@ import os
 import re
 import sys
 from functools import partial
-from typing import Any, List, NamedTuple, NoReturn, Optional, Sequence
+from typing import Any, Dict, List, Mapping, NamedTuple, NoReturn, Optional, Sequence
 
 from ..engine.choice import HOME
 from ..engine.choose import default_engine
@@ -70,6 +70,12 @@ class Parser(argparse.ArgumentParser):
         self.register("action", None, Once)
         self.register("action", "store", Once)
         self.add_argument("--version", action=Version, nargs=0, help="show the version and exit")
+
+    def add_forms(self, forms: Mapping[str, str], group: Any = None) -> None:
+        """Adds options without values to a group, or as one, of which one may be given: its name is then the form that is asked for."""
+        group = group or self.add_mutually_exclusive_group()
+        for name, text in forms.items():
+            group.add_argument(f"--{name}", dest="form", action="store_const", const=name, help=text)
 
     def error(self, message: str) -> NoReturn:
         raise Failure(f"{message}; {self.prog} --help shows what may be given".replace(PLAIN, ""))
@@ -136,11 +142,16 @@ def words_after(words: List[str], most: int, what: str) -> List[Any]:
 
 def simulator(asked: argparse.Namespace) -> List[str]:
     """Returns the words of the simulator: the program and its options."""
-    words: List[str] = [asked.program]
-    for name in OPTIONS:
-        value = getattr(asked, name)
-        words += [] if value is None else [f"--{name}", value]
-    return words
+    return [asked.program, *in_words(given_options(asked))]
+
+
+def given_options(asked: argparse.Namespace) -> Dict[str, str]:
+    """Returns the simulator's options that are given, with their values."""
+    return {name: value for name in OPTIONS if (value := getattr(asked, name)) is not None}
+
+
+def in_words(options: Mapping[str, str]) -> List[str]:
+    return [word for name, value in options.items() for word in (f"--{name}", value)]
 
 
 def arguments(description: str, usage: Optional[str] = None) -> Parser:

@@ -3,7 +3,7 @@
 import sys
 from typing import Iterable, List, Optional
 
-from ..failure import Failure
+from ..failure import naming_line
 from ..run.reasons import reason
 from ..run.session import Session
 from ..run.tape import counted
@@ -23,8 +23,7 @@ def show_answer(run: Session, line: str, lines: List[str]) -> None:
     """Shows the lines of an answer, at a terminal also why the line was refused."""
     for text in lines:
         write(text)
-    is_refused = bool(lines) and lines[0].startswith("ERR ")
-    if is_refused and sys.stdout is not None and sys.stdout.isatty():
+    if lines and lines[0].startswith("ERR ") and sys.stdout is not None and sys.stdout.isatty():
         why = reason(line, lines[0], run.central_size)
         if why:
             write(f"  {shown_text(why)}")
@@ -35,10 +34,8 @@ def show_lines(run: Session, lines: Iterable[str], stop: bool = False) -> int:
     refusals = Refusals()
     for number, line in counted(lines):
         write(f"> {shown(line)}".rstrip(), at_once=True)
-        try:
+        with naming_line(number):
             refused = answer(run, line, number, refusals)
-        except Failure as failure:
-            raise Failure(f"line {number} (decimal): {failure}") from failure
         if stop and refused:
             flush()
             complain(f"stopped at line {number} (decimal), which was refused")

@@ -17,9 +17,10 @@ from ...language.names import AllSymbols
 from ...language.sources import Source, words_of
 from ...language.source.statements import TAB
 from ...run import sentences
+from ...run.forms import MODES
 from ...run.turn import (
     AT_END_OF_BLOCK, AT_END_OF_INPUT, IN_BLOCK, INSTRUCTIONS, NAMES, RELATIVE_JUMPS, STATE_LETTERS, TWO_WORDS, WAITS_FOR)
-from ...shell.options import OPTIONS
+from ...shell.options import given_options, in_words
 from ..keys import for_page
 
 WEB = os.path.join(os.path.dirname(os.path.abspath(__file__)), "web")
@@ -28,7 +29,6 @@ SCRIPTS = {"shared": ("layout", "turns", "library"),
            "engine": ("simulator", "recorder", "conditions", "session", "worker"),
            "view": ("elements", "rows", "places", "engine", "machine", "program", "source", "pictures", "origin",
                     "lanes", "barrel", "exercises", "editing", "console", "assembler", "keys", "controls")}
-MODES = {"reader": ("IDLE", "READING", "STATUS", "SENT"), "printer": ("IDLE", "PRINTING", "STATUS", "SENT")}
 
 
 class Files(NamedTuple):
@@ -61,7 +61,8 @@ def packed(data: bytes) -> str:
 
 def tables() -> Dict[str, Any]:
     """Returns what it has to know of every machine: the one table of instructions, and the sentences about turns."""
-    return {"names": NAMES, "two_words": TWO_WORDS, "relative_jumps": list(RELATIVE_JUMPS), "symbols": SYMBOLS, "modes": MODES,
+    return {"names": NAMES, "two_words": TWO_WORDS, "relative_jumps": list(RELATIVE_JUMPS), "symbols": SYMBOLS,
+            "modes": {"reader": MODES["CR MODE"], "printer": MODES["LP MODE"]},
             "states": [(letter, name) for name, letter in STATE_LETTERS.items()], "waits_for": WAITS_FOR,
             "table": INSTRUCTIONS, "blocks": IN_BLOCK, "ends": {"block": AT_END_OF_BLOCK, "input": AT_END_OF_INPUT},
             "meanings": meanings(), "keys": for_page(),
@@ -88,17 +89,15 @@ def options(asked: Any, devices: Mapping[int, str] = {}) -> Dict[str, Any]:
 
 def run(asked: Any, files: Files) -> Dict[str, Any]:
     """Returns the files of a run with their names, their bytes as characters, and how one performs them with the program."""
-    names, rows, words = {}, [], ["pp6600"]
+    names, rows = {}, []
     for kind, data in zip(Files._fields, files):
         path = getattr(asked, kind)
         name = readable(os.path.basename(path or "")) or kind
         if kind == "script" or path is not None:
             names[kind] = f"{kind}-{name}" if name in names.values() else name
             rows.append({"kind": kind, "name": names[kind], "bytes": data.decode("latin-1")})
-    for option in OPTIONS:
-        value = getattr(asked, option)
-        words += [] if value is None else [f"--{option}", names.get(option, value)]
-    return {"files": rows, "again": " ".join(map(shlex.quote, [*words, names["script"]]))}
+    words = in_words({option: names.get(option, value) for option, value in given_options(asked).items()})
+    return {"files": rows, "again": " ".join(map(shlex.quote, ["pp6600", *words, names["script"]]))}
 
 
 def of_symbols(symbols: AllSymbols) -> Dict[str, Any]:

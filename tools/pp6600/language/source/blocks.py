@@ -1,8 +1,9 @@
 """Statements that other lines belong to: IF and SKIP, DUP and ECHO, MACRO, RMT. The lines end with ENDIF, ENDD, ENDM or RMT, or are
 counted."""
 
+import operator
 import re
-from typing import TYPE_CHECKING, Callable, Dict, List, NamedTuple, Optional, Sequence, Tuple
+from typing import TYPE_CHECKING, Any, Callable, Dict, List, NamedTuple, Optional, Sequence, Tuple
 
 from .macros import arguments_of, define, replaced, short_enough
 from .messages import Fault
@@ -12,21 +13,20 @@ from .texts import CODE_OF
 if TYPE_CHECKING:
     from .passes import Pass
 
-NUMBERS: Dict[str, Callable[[int, int], bool]] = {
-    "EQ": lambda one, other: one == other, "NE": lambda one, other: one != other, "GT": lambda one, other: one > other,
-    "GE": lambda one, other: one >= other, "LT": lambda one, other: one < other, "LE": lambda one, other: one <= other}
+NUMBERS: Dict[str, Callable[[Any, Any], bool]] = {name.upper(): getattr(operator, name) for name in ("eq", "ne", "gt", "ge", "lt", "le")}
 TESTS = tuple(f"IF{name}" for name in NUMBERS)
 SIGNS: Dict[str, Callable[[int], bool]] = {"IFPL": lambda number: number >= 0, "IFMI": lambda number: number < 0}
 FIXED = {"IFPP": True, "IFCP": False, "SKIP": False}  # a program of a peripheral processor, of the central one; never
 CONDITIONS = ("IF", "IFC", *TESTS, *SIGNS, *FIXED)
 ENDS = {**dict.fromkeys(CONDITIONS, "ENDIF"), "DUP": "ENDD", "ECHO": "ENDD", "MACRO": "ENDM", "MACROE": "ENDM", "RMT": "RMT"}
+UP_TO_FIRST = ("MACRO", "MACROE", "RMT")  # in whose lines no other statement has lines
 INSIDE = ("ENDIF", "ELSE", "ENDD", "ENDM", "LOCAL", "IRP", "STOPDUP")  # what is in its place only in such lines
 # How many operands are before the count of lines, of those that may have one.
 BEFORE_COUNT = {**dict.fromkeys(("IF", *TESTS), 2), **dict.fromkeys(SIGNS, 1), **dict.fromkeys(FIXED, 0), "DUP": 1}
-STRINGS = re.compile(r"(-?)([A-Z]{2}),(.)(.*)")
+STRINGS = re.compile(r"(-?)([A-Z]{2}),(.)(.*?)\3(.*?)\3(?:,\s*(\S+))?")  # of IFC: EQ,*A*B*,n
 
 
-class Block(NamedTuple):
+class Body(NamedTuple):
     """The lines of a statement: those up to ELSE, those after it, and how many there are with the last one."""
 
     first: Sequence[Line]
@@ -36,56 +36,62 @@ class Block(NamedTuple):
     is_closed: bool = True
 
 
+def counts_of(statement: Statement) -> Sequence[Field]:
+    """Returns the operand of a statement that counts its lines, if there is one, and those after it."""
+    if statement.operation.text == "IFC":
+        return [strings_of(statement)[3]]
+    operands = parts_of(statement.operand)
+    if statement.operation.text == "ECHO":
+        return operands[:1]
+    return operands[BEFORE_COUNT.get(statement.operation.text, len(operands)):]
+
+
 def count_of(state: "Pass", statement: Statement) -> int:
     """Returns how many lines a statement says that it has; 0 if their end is a line of its own."""
     name = statement.operation.text
     if name == "IFC":
         with state.reporting():
-            return state.lines_count(strings_of(statement)[3])
+            return state.lines_count(counts_of(statement)[0])
         return 0
-    operands = parts_of(statement.operand)
-    if name == "ECHO":
-        return state.lines_count(operands[0]) if operands else 0
-    before = BEFORE_COUNT.get(name)
-    if before is None or len(operands) <= before:
-        return 0
-    if len(operands) > before + 1:
-        raise Fault(operands[before + 1].column, f"{name} takes {before} (decimal) operands and a count of lines")
-    return state.lines_count(operands[before])
+    count, *more = counts_of(statement) or [Field("", 0)]
+    if more:
+        raise Fault(more[0].column, f"{name} takes {BEFORE_COUNT[name]} (decimal) operands and a count of lines")
+    return state.lines_count(count)
 
 
-def block_of(state: "Pass", statement: Statement, lines: Sequence[Line]) -> Block:
+def body_of(state: "Pass", statement: Statement, lines: Sequence[Line]) -> Body:
     """Returns the lines that belong to a statement, of the lines after it."""
     count = count_of(state, statement)
     if count:
         return counted(state, statement, lines, count)
-    if statement.operation.text in ("MACRO", "MACROE", "RMT"):
-        return up_to(state, statement, lines)
-    return nested(state, statement, lines)
+    found = up_to(state, statement, lines) if statement.operation.text in UP_TO_FIRST else nested(state, statement, lines)
+    return found or unclosed(state, statement, lines, f"no {ENDS[statement.operation.text]}")
 
 
-def counted(state: "Pass", statement: Statement, lines: Sequence[Line], count: int) -> Block:
+def unclosed(state: "Pass", statement: Statement, lines: Sequence[Line], lack: str, has_end: bool = True) -> Body:
+    """Returns all lines, for a statement whose lines do not end, which is reported."""
+    state.report(Fault(statement.operation.column, f"{statement.operation.text} has {lack}"))
+    return Body(lines, [], len(lines), has_end, False)
+
+
+def counted(state: "Pass", statement: Statement, lines: Sequence[Line], count: int) -> Body:
     """Returns so many lines; notes are not counted."""
-    at = left = 0
+    left = 0
     for at, line in enumerate(lines, 1):
         is_note = line.text[:1] == "*"
         left += not is_note
         if is_note:
             state.warn("notes", statement.operation.column, "the notes among counted lines are not counted")
         if left == count:
-            return Block(lines[:at], [], at, False)
-    state.report(Fault(statement.operation.column, f"{statement.operation.text} has fewer than {count} (decimal) lines"))
-    return Block(lines, [], len(lines), False, False)
+            return Body(lines[:at], [], at, False)
+    return unclosed(state, statement, lines, f"fewer than {count} (decimal) lines", False)
 
 
-def up_to(state: "Pass", statement: Statement, lines: Sequence[Line]) -> Block:
-    """Returns the lines up to the first ENDM or RMT."""
+def up_to(state: "Pass", statement: Statement, lines: Sequence[Line]) -> Optional[Body]:
+    """Returns the lines up to the first ENDM or RMT; None if there is none."""
     end = ENDS[statement.operation.text]
-    for at, line in enumerate(lines):
-        if word_of(state, line)[0] == end:
-            return Block(lines[:at], [], at + 1)
-    state.report(Fault(statement.operation.column, f"{statement.operation.text} has no {end}"))
-    return Block(lines, [], len(lines), True, False)
+    at = next((at for at, line in enumerate(lines) if word_of(state, line)[0] == end), None)
+    return None if at is None else Body(lines[:at], [], at + 1)
 
 
 def word_of(state: "Pass", line: Line) -> Tuple[str, str, Optional[Statement]]:
@@ -94,11 +100,10 @@ def word_of(state: "Pass", line: Line) -> Tuple[str, str, Optional[Statement]]:
     return (statement.operation.text, statement.location.text, statement) if statement else ("", "", None)
 
 
-def nested(state: "Pass", statement: Statement, lines: Sequence[Line]) -> Block:
-    """Returns the lines up to the end of an IF or DUP. An end with a name is that of the statement with this name, one without that of
-    the last one that is open."""
-    end, middle = ENDS[statement.operation.text], None
-    open_names = [statement.location.text]
+def nested(state: "Pass", statement: Statement, lines: Sequence[Line]) -> Optional[Body]:
+    """Returns the lines up to the end of an IF or DUP; None if there is none. An end with a name is that of the statement with this
+    name, one without that of the last one that is open."""
+    end, middle, open_names = ENDS[statement.operation.text], None, [statement.location.text]
     for at, line in enumerate(lines):
         word, name, inner = word_of(state, line)
         if ENDS.get(word) == end and inner and not has_count(inner):
@@ -108,9 +113,8 @@ def nested(state: "Pass", statement: Statement, lines: Sequence[Line]) -> Block:
         elif word == end:
             del open_names[(open_names.index(name) if name in open_names and name else len(open_names) - 1):]
         if not open_names:
-            return Block(lines[:at if middle is None else middle], [] if middle is None else lines[middle + 1:at], at + 1)
-    state.report(Fault(statement.operation.column, f"{statement.operation.text} has no {end}"))
-    return Block(lines, [], len(lines), True, False)
+            return Body(lines[:at], [], at + 1) if middle is None else Body(lines[:middle], lines[middle + 1:at], at + 1)
+    return None
 
 
 def is_own(open_names: Sequence[str], name: str) -> bool:
@@ -120,53 +124,44 @@ def is_own(open_names: Sequence[str], name: str) -> bool:
 
 def has_count(statement: Statement) -> bool:
     """Returns whether a statement within others counts its lines."""
-    name = statement.operation.text
     try:
-        if name == "IFC":
-            return bool(strings_of(statement)[3].text)
-        operands = parts_of(statement.operand)
+        counts = counts_of(statement)
     except Fault:
         return False
-    if name == "ECHO":
-        return bool(operands and operands[0].text not in ("", "0"))
-    return len(operands) > BEFORE_COUNT.get(name, len(operands)) and operands[-1].text not in ("", "0")
+    return bool(counts and counts[-1].text) and (counts[-1].text != "0" or statement.operation.text == "IFC")
 
 
-def goes_on(state: "Pass", statement: Statement, block: Block) -> bool:
+def goes_on(state: "Pass", statement: Statement, body: Body) -> bool:
     """Returns whether the next line is the first one that a condition counts. These may end with a SKIP of others."""
-    return block.is_closed and not block.has_end and statement.operation.text in CONDITIONS and holds(state, statement)
+    return body.is_closed and not body.has_end and statement.operation.text in CONDITIONS and holds(state, statement)
 
 
-def perform_block(state: "Pass", statement: Statement, block: Block) -> None:
+def perform_body(state: "Pass", statement: Statement, body: Body) -> None:
     """Performs a statement with its lines. Of an IF or DUP without end the lines are performed once."""
     name = statement.operation.text
-    if name in ("MACRO", "MACROE"):
-        if not block.is_closed:
-            state.pass_over(block.first)
-        define(state, statement, block.first)
-        state.show(block.first)
-    elif name == "RMT":
-        state.remote.setdefault(statement.location.text, []).extend(block.first)
-        state.show(block.first)
-    elif not block.is_closed:
-        state.run(block.first)
+    if name == "RMT":
+        state.remote.setdefault(statement.location.text, []).extend(body.first)
+        state.show(body.first)
+    elif name in UP_TO_FIRST:
+        if not body.is_closed:
+            state.pass_over(body.first)
+        define(state, statement, body.first)
+        state.show(body.first)
+    elif not body.is_closed:
+        state.run(body.first)
     elif name == "DUP":
         for _ in range(state.count(parts_of(statement.operand)[0] if statement.operand.text else statement.operand)):
-            state.run(block.first)
+            state.run(body.first)
     elif name == "ECHO":
-        echo(state, statement, block.first)
+        echo(state, statement, body.first)
     else:
-        choose(state, block, holds(state, statement))
+        choose(state, body, holds(state, statement))
 
 
-def choose(state: "Pass", block: Block, is_first: bool) -> None:
+def choose(state: "Pass", body: Body, is_first: bool) -> None:
     """Performs the lines before ELSE or those after it; the listing has the others too."""
-    if is_first:
-        state.run(block.first)
-        state.show(block.second)
-    else:
-        state.show(block.first)
-        state.run(block.second)
+    for lines, perform in ((body.first, is_first), (body.second, not is_first)):
+        (state.run if perform else state.show)(lines)
 
 
 def echo(state: "Pass", statement: Statement, lines: Sequence[Line]) -> None:
@@ -195,13 +190,9 @@ def echoed(state: "Pass", statement: Statement, line: Line, values: Dict[str, st
 def strings_of(statement: Statement) -> Tuple[str, str, str, Field]:
     """Returns the condition of IFC, its two texts, and the field with the count of lines: IFC EQ,*A*B*,n."""
     found = STRINGS.match(statement.operand.text)
-    parts = found[4].split(found[3], 2) if found else []
-    if not found or found[2] not in NUMBERS or len(parts) < 3:
+    if not found or found[2] not in NUMBERS:
         raise Fault(statement.operand.column, "IFC wants EQ, NE, GT, GE, LT or LE, a comma and *one text*other text*")
-    rest = parts[2]
-    column = statement.operand.column + len(statement.operand.text) - len(rest)
-    count = rest[1:].split(None, 1)[:1] if rest[:1] == "," else []
-    return found[1] + found[2], parts[0], parts[1], Field(count[0] if count else "", column + 1)
+    return found[1] + found[2], found[4], found[5], Field(found[6] or "", statement.operand.column + found.end(5) + 2)
 
 
 def holds(state: "Pass", statement: Statement) -> bool:
@@ -214,22 +205,18 @@ def holds(state: "Pass", statement: Statement) -> bool:
     operands, wanted = parts_of(statement.operand), BEFORE_COUNT[name.text]
     if len(operands) < wanted:
         raise Fault(name.column, f"{name.text} wants {('one operand', 'two operands')[wanted - 1]}, and its lines end with ENDIF")
-    if name.text in SIGNS:
-        return SIGNS[name.text](state.value(operands[0], True).number)
-    first, second = operands[:2]
-    if name.text in TESTS:
-        return NUMBERS[name.text[2:]](state.value(first, True).number, state.value(second, True).number)
-    return has_attribute(state, first, second)
+    if name.text == "IF":
+        return has_attribute(state, *operands[:2])
+    test: Callable[..., bool] = SIGNS.get(name.text) or NUMBERS[name.text[2:]]
+    return test(*(state.value(operand, True).number for operand in operands[:wanted]))
 
 
 def compare_texts(test: str, one: str, other: str) -> bool:
     """Compares texts by their display code, the shorter one with zeros at its end."""
     size = max(len(one), len(other))
     codes = [[CODE_OF.get(symbol, 0) for symbol in text] + [0] * (size - len(text)) for text in (one, other)]
-    numbers = [int("".join(f"{code:02o}" for code in part) or "0", 8) for part in codes]
-    if test.lstrip("-") in ("EQ", "NE"):
-        numbers = [0, int(one != other)]
-    return NUMBERS[test.lstrip("-")](*numbers) != test.startswith("-")
+    is_unlike = [[0], [int(one != other)]]
+    return NUMBERS[test.lstrip("-")](*(is_unlike if test.lstrip("-") in ("EQ", "NE") else codes)) != test.startswith("-")
 
 
 def has_attribute(state: "Pass", attribute: Field, operand: Field) -> bool:

@@ -5,7 +5,7 @@ from typing import Callable, Dict, List, Optional, Tuple
 
 from .machine import CELLS, LAST
 from .messages import Fault, Follows
-from .state import NOMINAL, WORD_BITS, State
+from .state import NOMINAL, WORD_BITS, Scope
 from .statements import Field, Statement, parts_of
 from .symbols import SYMBOL
 from .texts import codes_of, words_of
@@ -16,10 +16,11 @@ D_BITS = 6  # of d of an instruction
 BASES = {"OCTAL": 8, "DECIMAL": 10, "MIXED": 8}
 # Whether a value is an error of the source.
 ERRORS: Dict[str, Callable[[int], bool]] = {
-    "ERRNZ": lambda value: value != 0, "ERRZR": lambda value: value == 0, "ERRPL": lambda value: value >= 0,
-    "ERRMI": lambda value: value < 0, "ERRNG": lambda value: value < 0}
+    "ERRNZ": bool, "ERRZR": lambda value: not value, "ERRPL": lambda value: value >= 0,
+    **dict.fromkeys(("ERRMI", "ERRNG"), lambda value: value < 0)}
 IGNORED = ("ABS", "SST", "ENTRY", "TITLE", "TTL", "SPACE", "EJECT", "LIST", "NOREF", "XREF", "COMMENT", "CTEXT", "ENDX", "NOLABEL", "NIL")
 SYMBOLS_OF_MICRO = {"DATE": 10, "JDATE": 10, "TIME": 10, "MODLEVEL": 10, "PCOMMENT": 10}  # that COMPASS defines by the clock or its call
+MICRO = re.compile(r"([^,]*),([^,]*),(?: ([^ ]*)|([^ ])(.*?)\4).*")
 CHOOSE: Dict[str, Callable[[List[int]], int]] = {"MAX": max, "MIN": min}
 LONG_FORMS = {"LDK": ("LDN", "LCN", "LDC"), "ADK": ("ADN", "SBN", "ADC")}  # for a small number, a small one that is minus, and others
 
@@ -41,7 +42,7 @@ def the_only(statement: Statement, otherwise: str = "") -> Field:
 
 # -- those that make words
 
-def data(state: State, statement: Statement) -> List[int]:
+def data(state: Scope, statement: Statement) -> List[int]:
     words = []
     for item in items(statement, True):
         try:
@@ -52,7 +53,7 @@ def data(state: State, statement: Statement) -> List[int]:
     return words
 
 
-def vfd(state: State, statement: Statement) -> List[int]:
+def vfd(state: Scope, statement: Statement) -> List[int]:
     """Returns the words of fields of bits. A VFD without a label goes on in the word that the one before has not filled."""
     number = bits = 0
     for item in items(statement):
@@ -75,7 +76,7 @@ def continues(statement: Statement) -> bool:
     return statement.location.text in ("", "-")
 
 
-def add_to_last(state: State, number: int, bits: int, room: int) -> Tuple[int, int]:
+def add_to_last(state: Scope, number: int, bits: int, room: int) -> Tuple[int, int]:
     """Puts the first bits of a number into the room that is left in the last word. Returns the others, and how many they are; and if
     none are left, how many are still free is kept."""
     taken = min(room, bits)
@@ -98,7 +99,7 @@ def vfd_field(item: Field) -> Tuple[int, Field]:
     return int(size), Field(expression, item.column + len(size) + 1)
 
 
-def dis(state: State, statement: Statement) -> List[int]:
+def dis(state: Scope, statement: Statement) -> List[int]:
     """Returns the words of DIS n,text, n of them, or of DIS ,*text*, which end in a word of zero."""
     count, comma, text = statement.operand.text.partition(",")
     if not comma or not re.fullmatch("[0-9]{0,4}", count) or int(count or "0") > LAST:
@@ -117,7 +118,7 @@ def dis(state: State, statement: Statement) -> List[int]:
         return words_of(kind, [0] * len(text))
 
 
-def literals(state: State, statement: Statement) -> None:
+def literals(state: Scope, statement: Statement) -> None:
     """LIT puts words among the literals; its label is the address of the first one."""
     words = data(state, statement)
     address = state.literals.address(tuple(words), statement.location.text or f"={statement.operand.text}")
@@ -126,34 +127,33 @@ def literals(state: State, statement: Statement) -> None:
     state.row(value=address)
 
 
-def long_form(state: State, statement: Statement) -> Statement:
+def long_form(state: Scope, statement: Statement) -> Statement:
     """Returns the instruction of LDK or ADK: of one word if its operand is known to be small."""
-    small, minus, other = LONG_FORMS[statement.operation.text]
+    name, minus, other = LONG_FORMS[statement.operation.text]
     operand = the_only(statement)
     try:
         number = state.value(operand, True).number
     except (Fault, Follows):
         number = LAST
-    if 0 <= number < 1 << D_BITS:
-        return statement._replace(operation=statement.operation._replace(text=small))
     if -(1 << D_BITS) < number < 0:
-        inverse = Field(f"{-number:o}B", operand.column)
-        return statement._replace(operation=statement.operation._replace(text=minus), operand=inverse)
-    return statement._replace(operation=statement.operation._replace(text=other))
+        name, statement = minus, statement._replace(operand=Field(f"{-number:o}B", operand.column))
+    elif not 0 <= number < 1 << D_BITS:
+        name = other
+    return statement._replace(operation=statement.operation._replace(text=name))
 
 
 # -- the others
 
-def bss(state: State, statement: Statement) -> None:
+def bss(state: Scope, statement: Statement) -> None:
     count = state.count(the_only(statement), -CELLS)
     state.row(has_address=True)
     state.move(state.origin + count, state.location + count)
     if count < 0:
         state.warn("backwards", statement.operand.column, f"BSS goes back by {-count:o} (octal) cells")
-        state.may_be_over()
+        state.over_from = state.origin
 
 
-def equate(state: State, statement: Statement) -> None:
+def equate(state: Scope, statement: Statement) -> None:
     """EQU, =, SET, MAX and MIN name the number of an expression; a name whose expression is wrong has none."""
     name, operation = statement.location, statement.operation
     if not name.text:
@@ -167,63 +167,54 @@ def equate(state: State, statement: Statement) -> None:
     state.row(value=number, is_set=is_set)
 
 
-def org(state: State, statement: Statement) -> None:
+def org(state: Scope, statement: Statement) -> None:
     number = state.count(the_only(statement))
     if state.used[-1] != NOMINAL:
         state.warn("org", statement.operation.column, f"ORG in the block {state.used[-1]} goes on in the nominal block")
         state.use(NOMINAL)
     state.move(number, number)
-    state.may_be_over()
+    state.over_from = state.origin
     state.row(has_address=True)
 
 
-def loc(state: State, statement: Statement) -> None:
+def loc(state: Scope, statement: Statement) -> None:
     state.move(state.origin, state.count(the_only(statement)))
     state.row(has_address=True)
 
 
-def use(state: State, statement: Statement) -> None:
+def use(state: Scope, statement: Statement) -> None:
     """USE goes on with a block: 0 or none is the nominal one, * the one before."""
     name = statement.operand.text
     state.use(NOMINAL if name == "0" else name)
     state.row(has_address=True)
 
 
-def qual(state: State, statement: Statement) -> None:
+def qual(state: Scope, statement: Statement) -> None:
     """QUAL qualifies the symbols that are defined from here on; * goes back, and without a name they have no qualifier."""
     name = statement.operand.text.strip("/")
-    if name == "*":
-        state.qualifiers = state.qualifiers[:-1] or [""]
-    else:
-        state.qualifiers.append(name)
+    state.qualifiers = [*state.qualifiers, name] if name != "*" else state.qualifiers[:-1] or [""]
     state.qualifier = state.qualifiers[-1]
     state.row()
 
 
-def micro(state: State, statement: Statement) -> None:
+def micro(state: Scope, statement: Statement) -> None:
     """MICRO n,m,*text* names m symbols of a text from the one with number n on; without m all up to its end."""
-    first, count, text = micro_operands(statement)
-    start, size = state.lines_count(first), state.lines_count(count) if count.text else len(text)
-    name_micro(state, statement, text[start - 1:start - 1 + size] if start else "")
-
-
-def micro_operands(statement: Statement) -> Tuple[Field, Field, str]:
-    found = re.fullmatch(r"([^,]*),([^,]*),(.)(.*)", statement.operand.text)
-    text, mark, _ = found[4].partition(found[3]) if found else ("", "", "")
-    if not found or not mark and found[3] != " ":
+    found = MICRO.fullmatch(statement.operand.text)
+    if not found:
         raise Fault(statement.operand.column, "MICRO wants a number, how many symbols, and a text between two equal symbols")
-    column = statement.operand.column
-    return Field(found[1], column), Field(found[2], column + len(found[1]) + 1), text
+    start, size = (state.lines_count(Field(found[at], statement.operand.column + found.start(at))) for at in (1, 2))
+    text = found[3] or found[5] or ""
+    name_micro(state, statement, text[start - 1:start - 1 + (size if found[2] else len(text))] if start else "")
 
 
-def name_micro(state: State, statement: Statement, text: str) -> None:
+def name_micro(state: Scope, statement: Statement, text: str) -> None:
     if not SYMBOL.fullmatch(statement.location.text):
         raise Fault(statement.operation.column, f"{statement.operation.text} wants a name before it")
     state.micros[statement.location.text] = text
     state.row()
 
 
-def number_micro(state: State, statement: Statement) -> None:
+def number_micro(state: Scope, statement: Statement) -> None:
     """DECMIC e,n and OCTMIC e,n name the digits of a number, with zeros before them up to n digits."""
     operand, *size = items(statement)
     number, digits = state.value(operand, True).number, state.lines_count(size[0]) if size else 0
@@ -231,7 +222,7 @@ def number_micro(state: State, statement: Statement) -> None:
     name_micro(state, statement, f"{'-' if number < 0 else ''}{abs(number):0{digits}{form}}"[-digits or None:])
 
 
-def micro_count(state: State, statement: Statement) -> None:
+def micro_count(state: Scope, statement: Statement) -> None:
     """MICCNT names how many symbols a micro has."""
     if not statement.location.text:
         raise Fault(statement.operation.column, f"{statement.operation.text} wants a symbol before it")
@@ -239,12 +230,11 @@ def micro_count(state: State, statement: Statement) -> None:
     text = micro_text(state, name)
     if text is None:
         raise Fault(name.column, f"{name.text} is no micro")
-    number = len(text)
-    state.define(statement.location, number, False, True)
-    state.row(value=number, is_set=True)
+    state.define(statement.location, len(text), False, True)
+    state.row(value=len(text), is_set=True)
 
 
-def micro_text(state: State, name: Field) -> Optional[str]:
+def micro_text(state: Scope, name: Field) -> Optional[str]:
     """Returns what a micro stands for; None if it is none. Those that COMPASS defines by the clock are blank."""
     own = {"BASE": {8: "O", 10: "D"}.get(state.base or 10, "D"), "QUAL": state.qualifier, "CODE": "D"}
     if name.text in state.micros:
@@ -255,7 +245,7 @@ def micro_text(state: State, name: Field) -> Optional[str]:
     return own.get(name.text)
 
 
-def base(state: State, statement: Statement) -> None:
+def base(state: Scope, statement: Statement) -> None:
     word = statement.operand.text
     if word == "*" and state.bases:
         state.base = state.bases.pop()
@@ -269,7 +259,7 @@ def base(state: State, statement: Statement) -> None:
     state.row()
 
 
-def end(state: State, statement: Statement) -> None:
+def end(state: Scope, statement: Statement) -> None:
     if statement.operand.text:
         state.start = state.field(statement.operand, WORD_BITS)
     state.end_unit()
@@ -277,16 +267,15 @@ def end(state: State, statement: Statement) -> None:
     state.row()
 
 
-def err(state: State, statement: Statement) -> None:
+def err(state: Scope, statement: Statement) -> None:
     """ERR is an error, ERRNZ and the others if their expression is so."""
-    name, operand, test = statement.operation, statement.operand, ERRORS.get(statement.operation.text)
+    name, test = statement.operation, ERRORS.get(statement.operation.text)
     state.row()
-    if test is None or test(state.value(operand).number):
-        if state.symbols.is_last:
-            raise Fault(name.column, f"{name.text}: the source says that this is an error")
+    if (test is None or test(state.value(statement.operand).number)) and state.symbols.is_last:
+        raise Fault(name.column, f"{name.text}: the source says that this is an error")
 
 
-def ident(state: State, statement: Statement) -> None:
+def ident(state: Scope, statement: Statement) -> None:
     """IDENT names a program. A second one begins another program of the same source, for the same memory."""
     name = statement.operand.text.partition(",")[0]
     if state.has_ident:
@@ -296,20 +285,20 @@ def ident(state: State, statement: Statement) -> None:
     state.row()
 
 
-def periph(state: State, statement: Statement) -> None:
+def periph(state: Scope, statement: Statement) -> None:
     """PERIPH says that a source is a deck for COMPASS, in which numbers are decimal without BASE."""
     state.is_deck = True
     state.row()
 
 
-MAKERS: Dict[str, Callable[[State, Statement], List[int]]] = {
+MAKERS: Dict[str, Callable[[Scope, Statement], List[int]]] = {
     "CON": lambda state, statement: [state.field(item, WORD_BITS) for item in items(statement)], "DATA": data, "VFD": vfd,
     "DIS": dis, "BSSZ": lambda state, statement: [0] * state.count(the_only(statement))}
 NAMERS = ("EQU", "=", "SET", *CHOOSE)  # whose location field is not a label
-COUNTERS: Dict[str, Callable[[State, Statement], None]] = {"ORG": org, "LOC": loc, "USE": use}  # whose label has the address after it
-UNLABELLED: Dict[str, Callable[[State, Statement], None]] = {
+COUNTERS: Dict[str, Callable[[Scope, Statement], None]] = {"ORG": org, "LOC": loc, "USE": use}  # whose label has the address after it
+UNLABELLED: Dict[str, Callable[[Scope, Statement], None]] = {
     **dict.fromkeys(NAMERS, equate), **dict.fromkeys(IGNORED, lambda state, statement: state.row()),
     **dict.fromkeys(("ERR", *ERRORS), err), "IDENT": ident, "BASE": base, "PERIPH": periph, "QUAL": qual, "MICRO": micro,
     "DECMIC": number_micro, "OCTMIC": number_micro, "MICCNT": micro_count, "LIT": literals}
-LABELLED: Dict[str, Callable[[State, Statement], None]] = {"BSS": bss, "END": end}
+LABELLED: Dict[str, Callable[[Scope, Statement], None]] = {"BSS": bss, "END": end}
 DIRECTIVES = (*MAKERS, *COUNTERS, *UNLABELLED, *LABELLED, *LONG_FORMS)

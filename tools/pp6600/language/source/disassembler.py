@@ -1,6 +1,7 @@
 """Cells as a source that assembles to the same words."""
 
 import re
+from itertools import count
 from typing import Dict, Iterable, Iterator, List, Mapping, Sequence
 
 from .flow import CODE_LABEL, Flow
@@ -35,29 +36,25 @@ class Disassembler:
                 continue
             if address != after:
                 yield statement("", "ORG", f"{address:o}")
-            size = self.size(address)
+            size = self.flow.sizes.get(address) or self.size_of_data(address)
             yield from self.row(address, size)
             after = address + size
         yield statement("", "END", self.name(self.entries[0]) if self.entries else "")
 
-    def size(self, address: int) -> int:
-        """Returns how many words are in the row that begins at an address."""
-        return self.flow.sizes.get(address) or self.size_of_data(address)
-
     def row(self, address: int, size: int) -> Iterator[str]:
+        if address in self.flow.exits:
+            if self.cells[address + 1] == address:
+                yield statement(self.entry(address), "SUBR")
+            else:
+                yield statement(self.label(address), *self.instruction(address).split())
+                yield statement(self.entry(address), "EQU", "*-1")
+            return
         label = self.label(address) if address in self.heads else ""
         text = self.instruction(address) if address in self.flow.sizes else ""
-        if address in self.flow.exits and self.cells[address + 1] == address:
-            yield statement(self.entry(address), "SUBR")
-        elif text:
-            yield statement(label or (self.label(address) if address in self.flow.exits else ""), *text.split())
-            if address in self.flow.exits:
-                yield statement(self.entry(address), "EQU", "*-1")
-        else:
-            yield data(label, [self.cells[cell] for cell in range(address, address + size)])
-        if address not in self.flow.exits:
-            yield from (statement(self.named[cell], "EQU", f"*-{address + size - cell:o}")
-                        for cell in range(address + 1, address + size) if cell in self.named)
+        words = [self.cells[cell] for cell in range(address, address + size)]
+        yield statement(label, *text.split()) if text else data(label, words)
+        yield from (statement(self.named[cell], "EQU", f"*-{address + size - cell:o}")
+                    for cell in range(address + 1, address + size) if cell in self.named)
 
     def entry(self, exit_: int) -> str:
         """Returns the name of a subroutine whose exit is here."""
@@ -72,14 +69,14 @@ class Disassembler:
 
     def name(self, address: int) -> str:
         """Returns how an operand names an address: by a label, by one before it, or as a number."""
-        if address not in self.cells or address not in self.flow.labels:
-            return f"{address:o}" if address in self.cells else self.named.get(address, f"{address:o}")
+        if address not in self.cells:
+            return self.named.get(address, f"{address:o}")
         owner = self.flow.owners.get(address, address)
-        if owner in self.flow.exits and address != owner:
-            return self.entry(owner)
-        if address != owner and address in self.named:
-            return self.named[address]
-        return self.label(owner) + (f"+{address - owner:o}" if address != owner else "")
+        if address not in self.flow.labels:
+            return f"{address:o}"
+        if address == owner:
+            return self.label(owner)
+        return self.entry(owner) if owner in self.flow.exits else self.named.get(address, f"{self.label(owner)}+{address - owner:o}")
 
     def instruction(self, address: int) -> str:
         """Returns an instruction; nothing if none is spelled like that."""
@@ -106,21 +103,18 @@ class Disassembler:
         zeros = self.zeros(address, address)
         if zeros >= ZEROS:
             return zeros
-        size = 1
-        while size < WORDS_OF_LINE and self.is_data(address + size, address) and self.zeros(address + size, address) < ZEROS:
-            size += 1
-        return size
+        sizes = (size for size in range(1, WORDS_OF_LINE)
+                 if not self.is_data(address + size, address) or self.zeros(address + size, address) >= ZEROS)
+        return next(sizes, WORDS_OF_LINE)
 
     def zeros(self, cell: int, first: int) -> int:
         """Returns how many zeros of a row follow one another."""
-        count = 0
-        while self.is_data(cell + count, first) and self.cells[cell + count] == 0:
-            count += 1
-        return count
+        others = (other for other in count(cell) if not self.is_data(other, first) or self.cells[other])
+        return next(others) - cell
 
     def is_data(self, cell: int, first: int) -> bool:
         """Returns whether a cell may be in a row of data that begins at the first one."""
-        return cell in self.cells and cell not in self.flow.owners and (cell == first or cell not in self.heads)
+        return self.flow.is_free(cell) and (cell == first or cell not in self.heads)
 
 
 def usable(labels: Mapping[int, Sequence[str]]) -> Dict[int, str]:

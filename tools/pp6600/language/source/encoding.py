@@ -5,7 +5,7 @@ from typing import List
 
 from .machine import CELLS, CODES, LAST, MNEMONICS, NEAR, Form, form_of, size_of
 from .messages import Fault, octal
-from .state import State
+from .state import Scope
 from .statements import Field, Statement, parts_of
 
 OPPOSITE = {"ZJN": "NJN", "NJN": "ZJN", "PJN": "MJN", "MJN": "PJN"}
@@ -16,14 +16,14 @@ OPERANDS = {Form.ALONE: (0, 1), Form.INDEXED: (1, 2), Form.BOTH: (2, 2)}  # the 
 DISTANCE = re.compile("-?[0-7]{1,2}B?")
 
 
-def instruction(state: State, statement: Statement) -> List[int]:
+def instruction(state: Scope, statement: Statement) -> List[int]:
     code = CODES[statement.operation.text]
     with state.reporting():
         return words_of(state, code, operands_of(state, form_of(code), statement))
     return [0] * size_of(code)
 
 
-def operands_of(state: State, form: Form, statement: Statement) -> List[Field]:
+def operands_of(state: Scope, form: Form, statement: Statement) -> List[Field]:
     """Returns the operands, as many as the instruction may have."""
     operands = parts_of(statement.operand, statement.operand.text[:1] == "=")
     least, most = OPERANDS.get(form, (1, 1))
@@ -34,7 +34,7 @@ def operands_of(state: State, form: Form, statement: Statement) -> List[Field]:
     raise Fault(wrong.column, f"{name.text} takes {form.value}{far}")
 
 
-def words_of(state: State, code: int, operands: List[Field]) -> List[int]:
+def words_of(state: Scope, code: int, operands: List[Field]) -> List[int]:
     form, name = form_of(code), MNEMONICS[code]
     if not operands:
         return [code << 6]
@@ -56,7 +56,7 @@ def instead(name: str, text: str) -> str:
     return f"; {wider}{text} would do" if wider and (is_simple or not wider.endswith("-")) else ""
 
 
-def distance(state: State, name: str, operand: Field) -> int:
+def distance(state: Scope, name: str, operand: Field) -> int:
     """Returns d of a relative jump to a target; addresses go round after 7777."""
     number = state.value(operand).number
     if not -CELLS < number < 2 * CELLS:

@@ -51,7 +51,7 @@ def panel(program: Program) -> Iterator[str]:
 
 def deck(program: Program) -> Iterator[str]:
     """Yields cards with the words from the first cell to the last one; those between that the source leaves out are zero."""
-    first, last = min(program.cells), max(program.cells)
+    first, last = min(program.cells, default=0), max(program.cells, default=-1)
     found = [digits(program.cells[at].word if at in program.cells else 0) for at in range(first, last + 1)]
     return (" ".join(found[at:at + COLUMNS_OF_CARD]) for at in range(0, len(found), COLUMNS_OF_CARD))
 
@@ -84,10 +84,8 @@ def shown(words: Words, value: str = "") -> str:
     return f"{value or ' '.join(map(digits, words)):{WIDTH_OF_WORDS}}"
 
 
+FORMS: Dict[str, Callable[[Program], Iterator[str]]] = {"words": words, "listing": listing, "panel": panel, "deck": deck}
+
+
 def lines_of(program: Program, form: str, processor: int) -> Sequence[str]:
-    forms: Dict[str, Callable[[], Iterator[str]]] = {
-        "words": lambda: words(program), "set": lambda: set_lines(program, processor), "listing": lambda: listing(program),
-        "panel": lambda: panel(program), "deck": lambda: deck(program)}
-    if not program.cells and form == "deck":
-        return []
-    return list(forms[form]())
+    return list(set_lines(program, processor) if form == "set" else FORMS[form](program))

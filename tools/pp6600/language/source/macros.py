@@ -1,7 +1,7 @@
 """Macros: their definitions, and the lines that their calls make."""
 
 import re
-from typing import TYPE_CHECKING, Dict, List, NamedTuple, Optional, Sequence
+from typing import TYPE_CHECKING, Dict, List, NamedTuple, Sequence
 
 from .messages import Fault
 from .statements import Call, Field, Line, Statement, statement_of
@@ -36,38 +36,42 @@ def define(state: "Pass", statement: Statement, body: Sequence[Line]) -> None:
         if not names or not names[0].text:
             raise Fault(statement.operation.column, f"{statement.operation.text} wants a name")
         name, label, *names = [*names, Field("", 0)] if len(names) == 1 else names
-    pairs = [(Field(one.text.partition("=")[0] if has_names else one.text, one.column), one.text.partition("=")[2]) for one in names]
-    for one in (name, label, *(one for one, _ in pairs)):
-        if one.text and not SYMBOL.fullmatch(one.text):
-            state.report(Fault(one.column, f"{one.text} is no name"))
-    defaults = {one.text: value if has_names else "" for one, value in pairs}
-    state.macros[name.text] = Macro(label.text, [one.text for one, _ in pairs], defaults, has_names, body)
+    pairs = [(one.text.partition("=")[::2] if has_names else (one.text, ""), one.column) for one in names]
+    for text, column in ((name.text, name.column), (label.text, label.column), *((own, column) for (own, _), column in pairs)):
+        if text and not SYMBOL.fullmatch(text):
+            state.report(Fault(column, f"{text} is no name"))
+    defaults = dict(pair for pair, _ in pairs)
+    state.macros[name.text] = Macro(label.text, [own for (own, _), _ in pairs], defaults, has_names, body)
 
 
 def arguments_of(operand: Field) -> List[Field]:
     """Returns the operands of a macro's call; those in parentheses without them."""
-    text, found, start, depth = operand.text, [], 0, 0
-    for at, symbol in enumerate(text):
+    found: List[Field] = []
+    start = depth = 0
+    for at, symbol in enumerate(f"{operand.text}," if operand.text else ""):
         depth += (symbol == "(") - (symbol == ")")
-        if symbol == "," and depth <= 0:
-            found.append((start, at))
+        if symbol == "," and (depth <= 0 or at == len(operand.text)):
+            found.append(Field(without_parentheses(operand.text[start:at]), operand.column + start))
             start = at + 1
-    parts = [(text[first:last], first) for first, last in [*found, (start, len(text))]] if text else []
-    return [Field(part[1:-1] if part[:1] == "(" and part[-1:] == ")" else part, operand.column + first) for part, first in parts]
+    return found
+
+
+def without_parentheses(text: str) -> str:
+    return text[1:-1] if text[:1] == "(" and text[-1:] == ")" else text
 
 
 def values_of(macro: Macro, name: str, given: Sequence[Field]) -> Dict[str, str]:
     """Returns what the operands of a call give to the names of a macro."""
+    values, most = dict(macro.defaults), len(macro.names)
     if not macro.has_names:
-        if len(given) > len(macro.names):
-            raise Fault(given[len(macro.names)].column, f"{name} takes {len(macro.names)} (decimal) operands, not {len(given)}")
-        return {**macro.defaults, **{one: operand.text for one, operand in zip(macro.names, given)}}
-    values = dict(macro.defaults)
+        if len(given) > most:
+            raise Fault(given[most].column, f"{name} takes {most} (decimal) operands, not {len(given)}")
+        return {**values, **{one: operand.text for one, operand in zip(macro.names, given)}}
     for operand in given:
         one, mark, value = operand.text.partition("=")
         if not mark or one not in values:
             raise Fault(operand.column, f"{name} takes {', '.join(f'{each}=' for each in macro.names)} and nothing else")
-        values[one] = value[1:-1] if value[:1] == "(" and value[-1:] == ")" else value
+        values[one] = without_parentheses(value)
     return values
 
 
@@ -79,11 +83,11 @@ def call(state: "Pass", statement: Statement) -> None:
         raise Fault(name.column, f"{name.text} wants a label")
     if state.depth >= MOST_DEEP:
         raise Fault(name.column, f"macros call one another more than {MOST_DEEP} (decimal) deep")
-    if not macro.label:
-        state.label(statement.location)
-    state.row(has_address=bool(statement.location.text) and not macro.label)
     if macro.label:
         values[macro.label] = statement.location.text
+    else:
+        state.label(statement.location)
+    state.row(has_address=bool(statement.location.text) and not macro.label)
     lines = expanded(state, macro.body, values, name)
     state.depth += 1
     state.run(lines)
@@ -103,8 +107,7 @@ def expanded(state: "Pass", body: Sequence[Line], values: Dict[str, str], name: 
             values.update({each: state.new_local() for each in (words[1].split(",") if words[1:] else [])})
         elif words[:1] == ["IRP"] and words[1:]:
             end = next((end for end in range(at, len(body)) if body[end].capitals.split() == ["IRP"]), len(body))
-            value = values.get(words[1], "")
-            for part in value.split(",") if value else ():
+            for part in values[words[1]].split(",") if values.get(words[1]) else ():
                 made += expanded(state, body[at:end], {**values, words[1]: part}, name)
             at = end + 1
         else:
@@ -114,11 +117,10 @@ def expanded(state: "Pass", body: Sequence[Line], values: Dict[str, str], name: 
 
 def made_line(state: "Pass", one: Line, values: Dict[str, str], name: Field) -> Line:
     """Returns a line that a macro's call makes of one of its lines."""
-    line = state.line
-    column, outer = line.call.column if line.call else name.column, line.call.lines if line.call else ()
+    column, outer = (state.line.call.column, state.line.call.lines) if state.line.call else (name.column, ())
     text = short_enough(replaced_line(state, one, values), name)
     state.count_made()
-    return Line(line.number, text, Call(column, name.text, (*outer, one.number)))
+    return Line(state.line.number, text, Call(column, name.text, (*outer, one.number)))
 
 
 def short_enough(text: str, name: Field) -> str:
@@ -132,12 +134,11 @@ def replaced_line(state: "Pass", line: Line, values: Dict[str, str]) -> str:
     """Returns a line of a macro with what is given for its names, in the usual columns and without its comment."""
     if line.text[:1] == "*":
         return line.text
-    statement: Optional[Statement]
     try:
-        statement = statement_of(line, state.macros)
+        fields = [field.text for field in statement_of(line, state.macros) or ()]
     except Fault:
         return replaced(line.capitals, values)
-    location, operation, operand = (replaced(field.text, values) for field in statement) if statement else ("", "", "")
+    location, operation, operand = (replaced(text, values) for text in fields or ("", "", ""))
     return f" {location:8} {operation:6} {operand}".rstrip()
 
 

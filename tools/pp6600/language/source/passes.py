@@ -4,19 +4,19 @@ what is wrong."""
 import re
 from typing import Callable, Dict, List, Mapping, NamedTuple, Optional, Sequence
 
-from .blocks import ENDS, INSIDE, block_of, goes_on, perform_block
+from .blocks import ENDS, INSIDE, body_of, goes_on, perform_body
 from .directives import COUNTERS, DIRECTIVES, LABELLED, LONG_FORMS, MAKERS, UNLABELLED, long_form, micro_text, the_only
 from .encoding import instruction
 from .machine import CODES
 from .macros import SUBR, Macro, call
 from .messages import REFUSED, Fault, Follows, Message, TooMuch, nearest
-from .state import Cell, Row, State, Unit
+from .state import Cell, Row, Scope, Unit
 from .statements import Call, Field, Line, Statement, joined, statement_of
 from .symbols import Symbols
 
 MOST_STATEMENTS = 100000
 MOST_NESTED = 100  # blocks and calls within one another
-MOST_PASSES = 8  # until each block is where the pass before has put it
+MOST_PASSES = 9  # after the first one, until each name and each block is where the pass before has put it
 MICRO = re.compile('"([^" ]*)"')
 TO_READ = "*CALL "  # a line that the library of a system replaces by a common deck
 Texts = Callable[[str], Optional[Sequence[str]]]  # the lines of a common deck by its name
@@ -36,7 +36,7 @@ class Program(NamedTuple):
     literals: Mapping[int, str] = {}  # of the first unit: what each of their cells is called
 
 
-class Pass(State):
+class Pass(Scope):
     """Performs the statements of lines."""
 
     def __init__(self, texts: Optional[Texts], before: Optional["Pass"] = None):
@@ -138,43 +138,37 @@ class Pass(State):
     def block(self, statement: Statement, lines: Sequence[Line]) -> int:
         """Performs a statement that other lines belong to. Returns how many lines it has after the first one."""
         self.row()
-        block = block_of(self, statement, lines)
+        body = body_of(self, statement, lines)
         try:
-            if goes_on(self, statement, block):
+            if goes_on(self, statement, body):
                 return 0
-            perform_block(self, statement, block)
+            perform_body(self, statement, body)
         except (Fault, Follows) as fault:
-            self.pass_over([*block.first, *block.second])
+            self.pass_over([*body.first, *body.second])
             if isinstance(fault, Fault):
                 self.report(fault)
-        if block.is_closed and block.has_end:
-            self.show(lines[block.size - 1:block.size])
-        return block.size
+        if body.is_closed and body.has_end:
+            self.show(lines[body.size - 1:body.size])
+        return body.size
 
     def one(self, statement: Statement) -> None:
         """Performs an instruction or a directive."""
         name = statement.operation.text
-        if name in OF_LINES:
-            OF_LINES[name](self, statement)
-            return
-        if name in UNLABELLED:
-            UNLABELLED[name](self, statement)
+        unlabelled = OF_LINES.get(name) or UNLABELLED.get(name)
+        if unlabelled:
+            unlabelled(self, statement)
             return
         if name in COUNTERS:
             COUNTERS[name](self, statement)
         self.label(statement.location)
-        if name in CODES:
-            self.put(instruction(self, statement))
-        elif name in LONG_FORMS:
-            self.put(instruction(self, long_form(self, statement)))
-        elif name in MAKERS:
-            self.put(MAKERS[name](self, statement))
+        if name in WITH_WORDS:
+            self.put(WITH_WORDS[name](self, statement))
         elif name in LABELLED:
             LABELLED[name](self, statement)
-        elif name and name not in COUNTERS:
-            raise Fault(statement.operation.column, self.why_not(statement))
         elif not name:
             self.row(has_address=True)
+        elif name not in COUNTERS:
+            raise Fault(statement.operation.column, self.why_not(statement))
 
     def why_not(self, statement: Statement) -> str:
         """Returns what is wrong with an operation that is none."""
@@ -185,11 +179,12 @@ class Pass(State):
             return f"{name} ends nothing here"
         if name in REFUSED:
             return f"{name} is not taken: {REFUSED[name]}"
-        if label in CODES or label in DIRECTIVES:
+        known = (*CODES, *DIRECTIVES)
+        if label in known:
             return f"{name} is no operation; {label} is taken as a label, for it is not in column 3 or later"
-        if statement.operand.text in CODES or statement.operand.text in DIRECTIVES:
+        if statement.operand.text in known:
             return f"{name} is no operation; a label begins in column 1 or 2"
-        return f"{name} is no instruction, directive or macro{nearest(name, [*CODES, *DIRECTIVES, *self.macros, *ENDS])}"
+        return f"{name} is no instruction, directive or macro{nearest(name, [*known, *self.macros, *ENDS])}"
 
     # -- lines from elsewhere
     def read_deck(self, names: Sequence[str], column: int) -> None:
@@ -225,6 +220,11 @@ def up_to_endx(lines: Sequence[str]) -> Sequence[str]:
     first += first and lines[first:first + 1] == ["COMMON"]
     end = next((at for at, line in enumerate(lines) if line.upper().split()[:1] == ["ENDX"]), len(lines))
     return lines[first:end + 1]
+
+
+WITH_WORDS: Dict[str, Callable[[Scope, Statement], List[int]]] = {
+    **dict.fromkeys(CODES, instruction),
+    **dict.fromkeys(LONG_FORMS, lambda state, statement: instruction(state, long_form(state, statement))), **MAKERS}
 
 
 def xtext(state: Pass, statement: Statement) -> None:
@@ -269,22 +269,16 @@ OF_LINES: Dict[str, Callable[[Pass, Statement], None]] = {
 def assembled(text: Sequence[str], texts: Optional[Texts] = None) -> Program:
     """Returns what the lines of a source make. A function may find the lines of its common decks."""
     lines = joined(Line(number, line) for number, line in enumerate(text, 1))
-    found = performed(lines, Pass(texts))
-    last = performed(lines, Pass(texts, found))
+    last = performed(lines, Pass(texts))
     for _ in range(MOST_PASSES):
-        if has_settled(found, last):
+        before, last = last, performed(lines, Pass(texts, last))
+        if last.layouts == before.layouts and last.symbols.seen == before.symbols.seen:
             break
-        found, last = last, performed(lines, Pass(texts, last))
-    if not has_settled(found, last):
+    else:
         last.messages.add(Message(1, 1, "the addresses of blocks are others in each pass, for they depend on one another"))
     unit = last.units[0] if last.units else Unit("", last.cells, last.start, {})
     warnings = sorted(last.warnings.values())
     return Program(unit.cells, unit.start, last.symbols, last.rows, sorted(last.messages), warnings, last.units, unit.literals)
-
-
-def has_settled(found: Pass, last: Pass) -> bool:
-    """Returns whether a pass has the same names and blocks as the one before."""
-    return last.layouts == found.layouts and last.symbols.seen == found.symbols.seen
 
 
 def performed(lines: Sequence[Line], one: Pass) -> Pass:

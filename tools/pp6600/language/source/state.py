@@ -2,7 +2,7 @@
 
 import contextlib
 import re
-from typing import Dict, Iterator, List, NamedTuple, Optional, Set, Tuple
+from typing import Dict, Iterator, List, NamedTuple, Optional, Sequence, Set, Tuple
 
 from .machine import CELLS, LAST
 from .messages import Fault, Follows, Message, TooMuch, octal
@@ -76,10 +76,10 @@ class Literals:
         return self.all[words]
 
 
-class State:
+class Scope:
     """What a pass knows at a line, and what it has made so far."""
 
-    def __init__(self, before: Optional["State"]):
+    def __init__(self, before: Optional["Scope"]):
         self.symbols: Symbols = Symbols(before.symbols if before else None)
         self.is_last = before is not None
         self.line = Line(0, "")
@@ -94,7 +94,7 @@ class State:
         self.made = 0  # words
         self.has_ended = self.has_ident = self.is_deck = False  # a deck for COMPASS: PERIPH
         self.wrong_from: Optional[int] = None  # the cell after words that could not be put; the words there follow from that fault
-        self.over_from: Optional[int] = None  # the cell after words that are over others, because of ORG or BSS
+        self.over_from: Optional[int] = None  # the cell after ORG or BSS, or after words that are over others because of these
         self.units: List[Unit] = []
         self.layouts: List[Dict[str, int]] = []  # of each unit: where its blocks begin
         self.before: List[Dict[str, int]] = before.layouts if before else []
@@ -118,8 +118,8 @@ class State:
         self.leave_block()
         self.put_literals()
         self.warn_of_literals()
-        end = self.blocks[LITERALS].end if LITERALS in self.blocks else self.blocks[NOMINAL].end
         layout = {LITERALS: self.blocks[NOMINAL].end}
+        end = self.blocks.get(LITERALS, self.blocks[NOMINAL]).end
         for name, block in self.blocks.items():
             if name not in (NOMINAL, LITERALS):
                 layout[name] = end
@@ -152,33 +152,28 @@ class State:
 
     def move(self, origin: int, location: int) -> None:
         """Sets the counters."""
-        block = self.blocks[self.used[-1]]
-        block.end = max(block.end, self.origin)
+        self.leave_block()
         self.origin, self.location, self.open_bits = origin, location, None
 
     # -- what is wrong
-    def place_of(self, column: int) -> Tuple[int, int]:
-        """Returns the line and the column, from 1, of a column of the present line."""
-        if self.line.call:
-            return self.line.number, self.line.call.column + 1
-        at, number = max([join for join in self.line.joins if join[0] <= column], default=(-1, self.line.number))
-        return number, column - at + 2 if at >= 0 else column + 1  # its comma is in column 1
-
-    def in_macro(self, text: str) -> str:
-        """Returns a message with the line that a macro made, or that is in a common deck."""
-        call = self.line.call
-        kind = "common deck" if call and call.is_deck else "macro"
-        return f"{text} (in the {kind} {call.name}: {self.line.text.strip()[:MOST_SHOWN]})" if call else text
+    def message(self, column: int, text: str) -> Message:
+        """Returns a message about a column of the present line; of one that a macro made, or of a common deck, at the call of it."""
+        call, number = self.line.call, self.line.number
+        if call:
+            kind = "common deck" if call.is_deck else "macro"
+            return Message(number, call.column + 1, f"{text} (in the {kind} {call.name}: {self.line.text.strip()[:MOST_SHOWN]})")
+        at, number = max([join for join in self.line.joins if join[0] <= column], default=(-1, number))
+        return Message(number, column - at + 2 if at >= 0 else column + 1, text)  # the comma of a line that continues is in column 1
 
     def report(self, fault: Fault) -> None:
-        """Keeps a fault of the present line; in a line that a macro made, at the place of the call. Only the last pass does so."""
+        """Keeps a fault of the present line. Only the last pass does so."""
         if self.is_last:
-            self.messages.add(Message(*self.place_of(fault.column), self.in_macro(fault.text)))
+            self.messages.add(self.message(fault.column, fault.text))
 
     def warn(self, about: str, column: int, text: str) -> None:
         """Keeps a warning, of each kind the first one."""
         if self.is_last and about not in self.warnings:
-            self.warnings[about] = Message(*self.place_of(column), self.in_macro(f"warning: {text}"))
+            self.warnings[about] = self.message(column, f"warning: {text}")
 
     @contextlib.contextmanager
     def reporting(self) -> Iterator[None]:
@@ -245,19 +240,18 @@ class State:
     def literal(self, operand: Field) -> int:
         """Returns the address of the words that a = names."""
         other = OF_ANOTHER_PROGRAM.fullmatch(operand.text)
-        if other and not self.symbols.has(other[1], self.qualifier) and other[1] not in self.symbols.before:
-            raise Fault(operand.column,
-                        f"{operand.text} is a symbol of another program, which is not taken: give it a value by EQU")
         if other:
+            if not self.symbols.has(other[1], self.qualifier) and other[1] not in self.symbols.before:
+                raise Fault(operand.column, f"{operand.text} is a symbol of another program, which is not taken: give it a value by EQU")
             return self.look_up(other[1], operand.column, False).value or 0
         return self.literals.address(tuple(self.data(Field(operand.text[1:], operand.column + 1))), operand.text)
 
     def data(self, item: Field) -> List[int]:
         """Returns the words of a number or a text."""
         found = text_at(item.text, 0, True)
-        if found and found.end != len(item.text):
-            raise Fault(item.column + found.end, f"{item.text[found.end:]} follows the text")
         if found:
+            if found.end != len(item.text):
+                raise Fault(item.column + found.end, f"{item.text[found.end:]} follows the text")
             return words_of(found.kind, codes_of(found.symbols, item.column))
         if not NUMBER_OF_DATA.fullmatch(item.text):
             raise Fault(item.column, f"{item.text or 'nothing'} is no number or text; CON takes expressions")
@@ -268,7 +262,7 @@ class State:
         """Adds the present line to the listing."""
         self.rows.append(Row(self.line, self.origin, self.location, words, has_address, value, is_set))
 
-    def put(self, words: List[int]) -> None:
+    def put(self, words: Sequence[int]) -> None:
         """Puts words into the cells from here on. Of lines that follow one another only the first is reported if they can't be."""
         self.made += len(words)
         if self.made > MOST_WORDS:
@@ -276,13 +270,13 @@ class State:
         self.row(tuple(words), has_address=True)
         for cell, word in enumerate(words, self.origin):
             wrong = self.why_not_into(cell)
-            if wrong and self.wrong_from != cell:
-                self.report(Fault(0, wrong))
-            if wrong:
-                self.wrong_from = cell + 1
-            else:
+            if not wrong:
                 self.cells[cell] = Cell(word, self.line.number)
-        self.skip(len(words))
+                continue
+            if self.wrong_from != cell:
+                self.report(Fault(0, wrong))
+            self.wrong_from = cell + 1
+        self.origin, self.location = self.origin + len(words), self.location + len(words)
 
     def why_not_into(self, cell: int) -> str:
         """Returns why no word can be put into a cell; nothing if one can. Words that begin over others, after ORG or BSS, may be there."""
@@ -297,21 +291,13 @@ class State:
             return ""
         return text
 
-    def may_be_over(self) -> None:
-        """Lets the words from here on be over others."""
-        self.over_from = self.origin
-
-    def skip(self, count: int) -> None:
-        self.origin, self.location = self.origin + count, self.location + count
-
     def put_literals(self) -> None:
         """Puts the literals after the highest address of the nominal block."""
-        if not self.literals.all:
-            return
-        line = self.line
-        self.use(LITERALS)
-        for words in self.literals.all:
+        line, words = self.line, list(self.literals.all)
+        if words:
+            self.use(LITERALS)
             self.line = Line(line.number, LITERAL)
-            self.put(list(words))
-        self.leave_block()
-        self.line = line
+            for each in words:
+                self.put(each)
+            self.leave_block()
+            self.line = line

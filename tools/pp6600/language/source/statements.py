@@ -128,9 +128,9 @@ def end_of_arguments(text: str, at: int) -> int:
 
 def end_of_operand(text: str, start: int, is_data: bool) -> int:
     """Returns where an operand ends: at a blank that is in no text."""
-    at, delimited = start, is_data or text[start] == "="
+    at = start
     while not is_blank(text, at):
-        at = after_text(text, at, start, delimited)
+        at = after_text(text, at, start, is_data or text[start] == "=")
     return at
 
 

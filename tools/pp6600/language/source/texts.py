@@ -32,7 +32,7 @@ def text_at(line: str, at: int, delimited: bool) -> Optional[Text]:
     counted = COUNTED.match(line, at)
     if counted:
         count, start = int(counted[1]), counted.end()
-        end = start + count if count else end_of_word(line, start)
+        end = start + count if count else start + len(re.split("[ \t,]", line[start:], maxsplit=1)[0])
         if end > max(len(line), LONGEST):
             raise Fault(at, f"the line ends before the text has {count} (decimal) symbols")
         return Text(counted[2], line[start:end].ljust(count), min(end, len(line)))  # blanks at the end of a line may be lost
@@ -43,13 +43,6 @@ def text_at(line: str, at: int, delimited: bool) -> Optional[Text]:
     if end < 0:
         raise Fault(at, f"the text has no {between[2]} at its end")
     return Text(between[1], line[between.end():end], end + 1)
-
-
-def end_of_word(line: str, at: int) -> int:
-    """Returns the column of the next comma or blank."""
-    while not is_blank(line, at) and line[at] != ",":
-        at += 1
-    return at
 
 
 def codes_of(symbols: str, column: int) -> List[int]:
@@ -77,7 +70,4 @@ def words_of(kind: str, codes: List[int]) -> List[int]:
 
 def number_of(kind: str, codes: List[int], size: int) -> int:
     """Returns so many symbols as one number."""
-    number = 0
-    for code in filled(kind, codes, size):
-        number = number << 6 | code
-    return number
+    return int("".join(f"{code:02o}" for code in filled(kind, codes, size)) or "0", 8)

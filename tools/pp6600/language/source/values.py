@@ -1,16 +1,18 @@
 """Expressions: terms joined by +, - and ^, elements of a term joined by * and /, from left to right."""
 
 import re
-from typing import NamedTuple, Optional, Protocol
+from typing import TYPE_CHECKING, NamedTuple
 
 from .messages import Fault
-from .symbols import SYMBOL, Symbol
+from .symbols import SYMBOL
 from .texts import codes_of, number_of, text_at
+
+if TYPE_CHECKING:
+    from .state import Scope
 
 NUMBER = re.compile("([0-9]+)([BDO]?)(?:S([0-9]{1,2}))?(?![A-Z0-9.$])")  # with S and a number of bits to which it is shifted
 QUALIFIED = re.compile(f"/[^/\\s,]*/(?:{SYMBOL.pattern})", re.A)
-COUNTER = re.compile(r"\*([LO]?)(?![A-Z0-9.$=])")
-TO_BE_SET = re.compile(r"\*\*(?=[-+/]|$)")  # for what the program itself puts there
+COUNTER = re.compile(r"\*\*(?=[-+/]|$)|\*(?:([LO])(?![A-Z0-9.$=]))?")  # ** is for what the program itself puts there
 MOST_BITS, MOST_DIGITS = 60, 20
 BASES = {"B": 8, "O": 8, "D": 10}
 NOT_TAKEN = {'"': "; no MICRO above has this name",
@@ -24,29 +26,16 @@ class Value(NamedTuple):
     addresses: int = 0
 
 
-class Scope(Protocol):
-    """What an expression means things in."""
-
-    base: Optional[int]
-    origin: int
-    location: int
-    is_deck: bool  # for COMPASS, in which a number without BASE is decimal
-
-    def warn(self, about: str, column: int, text: str) -> None: ...
-
-    def look_up(self, name: str, column: int, from_above: bool) -> Symbol: ...
-
-
 class Expression:
     """Reads an expression from its beginning to its end."""
 
-    def __init__(self, text: str, column: int, scope: Scope, from_above: bool):
+    def __init__(self, text: str, column: int, scope: "Scope", from_above: bool):
         """Names count only from the lines above if that is asked."""
         self.text, self.column, self.scope, self.from_above = text, column, scope, from_above
         self.at = 0
 
-    def fault(self, text: str, at: Optional[int] = None) -> Fault:
-        return Fault(self.column + (self.at if at is None else at), text)
+    def fault(self, text: str, back: int = 0) -> Fault:
+        return Fault(self.column + self.at - back, text)
 
     @property
     def symbol(self) -> str:
@@ -68,24 +57,24 @@ class Expression:
 
     def operator(self) -> str:
         """Returns the operator before a term, and passes over it. Only the first term may have none."""
-        operator = self.symbol
-        if operator and operator in "+-^":
-            self.pass_operator()
-            return operator
-        if self.at:
+        operator = self.one_of("+-^")
+        if self.at and not operator:
             raise self.fault(f"{self.text[self.at:]} is no operator")
-        return "+"
+        return operator or "+"
 
-    def pass_operator(self) -> None:
+    def one_of(self, operators: str) -> str:
+        """Returns the symbol that comes next and passes over it, if it is one of these; else nothing."""
+        operator = self.symbol
+        if not operator or operator not in operators:
+            return ""
         self.at += 1
         if not self.symbol:
-            raise self.fault(f"nothing follows the {self.text[-1]}", self.at - 1)
+            raise self.fault(f"nothing follows the {operator}", back=1)
+        return operator
 
     def term(self) -> Value:
         value = self.element()
-        while self.symbol and self.symbol in "*/":
-            operator = self.symbol
-            self.pass_operator()
+        while operator := self.one_of("*/"):
             other = self.element().number
             value = Value(value.number * other if operator == "*" else quotient(value.number, other))
         return value
@@ -94,26 +83,18 @@ class Expression:
         """Returns the value of a name, a number, a counter or a text."""
         name = SYMBOL.match(self.text, self.at) or QUALIFIED.match(self.text, self.at)
         digits = NUMBER.match(self.text, self.at)
+        found = name or digits or COUNTER.match(self.text, self.at)
+        if not found:
+            return self.text_element()
         if name:
             symbol = self.scope.look_up(name[0], self.column + self.at, self.from_above)
-            self.at = name.end()
-            return Value(symbol.value or 0, int(symbol.is_address))
-        if digits:
+            value = Value(symbol.value or 0, int(symbol.is_address))
+        elif digits:
             value = Value(self.number(digits[1], digits[2]) << int(digits[3] or "0"))
-            self.at = digits.end()
-            return value
-        if self.symbol == "*":
-            return self.counter()
-        return self.text_element()
-
-    def counter(self) -> Value:
-        """Returns the value of a counter; of ** it is 0."""
-        if TO_BE_SET.match(self.text, self.at):
-            self.at += 2
-            return Value(0)
-        found = COUNTER.match(self.text, self.at)
-        self.at = found.end() if found else self.at + 1
-        return Value(self.scope.origin if found and found[1] == "O" else self.scope.location, 1)
+        else:
+            value = Value(0) if found[0] == "**" else Value(self.scope.origin if found[1] == "O" else self.scope.location, 1)
+        self.at = found.end()
+        return value
 
     def number(self, digits: str, letter: str) -> int:
         base = BASES.get(letter, self.scope.base)
