@@ -2,6 +2,7 @@
 
 // What is shown, as the dumps have it.
 const stateOf = (processor, first) => {
+  for (const section of ["frame", "reader", "printer"]) byId(section).hidden = false;
   showCell(processor, first, true);
   const number = (name) => document.querySelector(`button.number[data-place="${name}"]`).textContent;
   const two = (n) => n.toString(8).padStart(2, "0");

@@ -62,11 +62,12 @@ const written = (form) => assembler.calls.written("assemble", byId("assemble-tex
 
 function buildAssembler() {
   fillSelect("assemble-for", range(PROCESSORS).map((n) => `PP ${two(n)}`), range(PROCESSORS));
-  byId("assemble-for").onchange = ({ target }) => showDraft(Number(target.value));
-  byId("edit-source").onclick = () => openAssembler(source.processor);
   document.querySelector("#assembler details").ontoggle = ({ target }) => target.open && !assembler.calls && openAssembler(memory.processor);
-  byId("assemble-text").oninput = ({ target }) => { assembler.drafts.set(assembler.processor, target.value); assembleTyped(); };
-  byId("load-source").onclick = loadTyped;
+}
+
+function typeDraft(text) {
+  assembler.drafts.set(assembler.processor, text);
+  assembleTyped();
 }
 
 async function openAssembler(n) {

@@ -22,7 +22,7 @@ function channelAt(place) {
 
 // On a projector the boxes are no higher than the ring: first come the channels that this turn changed, then those for which one waits.
 function chooseChannels() {
-  const waited = range(PROCESSORS).map((n) => parseInt(nextOf(n).waits, 8)), room = 2 * (RING + CIRCLE) - BOX_APART;
+  const waited = shown.next.map(({ waits }) => parseInt(waits, 8)), room = 2 * (RING + CIRCLE) - BOX_APART;
   const rank = (c) => (hasChanged(c) ? 0 : waited.includes(c) ? 1 : 2);
   let used = 0;
   const first = [...barrel.all].sort((one, other) => rank(one) - rank(other)).filter((c) => (used += heightOfChannel(c)) <= room);
@@ -90,7 +90,7 @@ function showBarrel() {
 
 // A circle names what its processor did in the turn of this moment; else what it does next.
 function circleOf(n, sizes) {
-  const { x, y } = processorAt(n, sizes), acted = hasTurn(n), next = nextOf(n);
+  const { x, y } = processorAt(n, sizes), acted = hasTurn(n), next = shown.next[n];
   const kind = classes({ processor: true, acted, waits: next.waits, quiet: lanes.all[n].quiet });
   const texts = [[two(n), -0.75, ""], [(acted ? turnOf(film.at) : next).name.slice(0, 3), 0.4, "strong"],
     [four(acted ? film.p[film.at] : numberOf("P", n)), 1.5, ""]];
@@ -144,7 +144,7 @@ function linesOfBarrel(sizes) {
     const toMiddle = sizes.cy + (y - sizes.cy) * 0.4;
     return `M ${x} ${y} C ${sizes.cx + (x - sizes.cx) * 0.3} ${toMiddle} ${box.x - 6} ${end} ${box.x} ${end}`;
   };
-  const waits = range(PROCESSORS).map((n) => [n, parseInt(nextOf(n).waits, 8)]).filter(([, c]) => c <= CLOCK);
+  const waits = shown.next.map((next, n) => [n, parseInt(next.waits, 8)]).filter(([, c]) => c <= CLOCK);
   const drawn = waits.map(([n, c]) => make("path", { class: "waits", d: lineTo(n, c), "data-waits": `${n} ${c}` }));
   const moved = wordMoved(film.at);
   if (!moved) return drawn;
@@ -157,7 +157,7 @@ function linesOfBarrel(sizes) {
 
 // The picture in words, for those who do not see it.
 function barrelText() {
-  const waits = range(PROCESSORS).map((n) => nextOf(n).waits && `PP ${two(n)} waits for ${nextOf(n).waits}`), moved = wordMoved(film.at);
+  const waits = shown.next.map((next, n) => next.waits && `PP ${two(n)} waits for ${next.waits}`), moved = wordMoved(film.at);
   const goes = moved && `${four(moved.word)} goes ${moved.isOutput ? "to" : "from"} H ${two(moved.channel)}`;
   const parts = [middleLines(true).join(", "), goes, ...waits, `PP ${two(numberOf("SLOT"))} is next`];
   return `The barrel. ${parts.filter(Boolean).join("; ")}.`;

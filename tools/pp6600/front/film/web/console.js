@@ -1,17 +1,5 @@
 // ---- the console line, the files of the run, and links
 
-function buildConsole() {
-  for (const kind of ["pointerdown", "pointermove", "pointerup", "pointercancel"]) {
-    window.addEventListener(kind, (event) => { engine.isHeld = event.buttons > 0; }, true);
-  }
-  byId("console").onsubmit = (event) => { event.preventDefault(); sendTyped(); };
-  Object.assign(byId("typed"), { onkeydown: recall, onpaste: pasted });
-  const buttons = { "leave-branch": engine.leaveBranch, "save-script": saveScript, "save-film": saveFilm, "copy-link": copyLink };
-  for (const [id, onclick] of Object.entries(buttons)) byId(id).onclick = onclick;
-  document.addEventListener("dragover", (event) => event.preventDefault());
-  document.addEventListener("drop", (event) => { event.preventDefault(); takeFiles([...event.dataTransfer.files]); });
-}
-
 const typed = { lines: [], at: 0 };
 
 async function sendTyped() {
@@ -23,7 +11,7 @@ async function sendTyped() {
 }
 
 // Several lines that are pasted are several lines.
-function pasted(event) {
+function pasted(_, event) {
   const text = event.clipboardData.getData("text");
   if (!/\n./.test(text)) return;
   event.preventDefault();
@@ -31,7 +19,7 @@ function pasted(event) {
 }
 
 // Up and down bring back what was typed before.
-function recall(event) {
+function recall(_, event) {
   const step = { ArrowUp: -1, ArrowDown: 1 }[event.key];
   if (!step) return;
   event.preventDefault();
@@ -57,8 +45,9 @@ async function saveFilm() {
 }
 
 // Files that are dropped take the place of those of the run: rows of octal numbers are a panel if they are twelve, else a deck.
-async function takeFiles(files) {
-  const { script } = await ask("script"), given = { ...engine.given, script };
+async function takeFiles(event) {
+  event.preventDefault();
+  const files = [...event.dataTransfer.files], { script } = await ask("script"), given = { ...engine.given, script };
   for (const file of files) {
     const text = textOfBytes(new Uint8Array(await file.arrayBuffer())), rows = linesOfOctals(text), words = rows.flat();
     const isNumbers = rows.length > 0 && !words.some(Number.isNaN);
@@ -125,9 +114,13 @@ const keptBefore = () => withStorage((storage) => JSON.parse(storage.getItem(key
 
 // Offers what was typed here the last time, if it is something else than what is shown.
 function offerKept() {
-  const kept = keptBefore(), button = byId("restore");
-  button.hidden = !kept || kept.script === engine.given.script;
-  button.onclick = () => { button.hidden = true; beginAnew(kept, "the session of the last time"); };
+  engine.kept = keptBefore();
+  byId("restore").hidden = !engine.kept || engine.kept.script === engine.given.script;
+}
+
+function restoreKept() {
+  byId("restore").hidden = true;
+  beginAnew(engine.kept, "the session of the last time");
 }
 
 async function keepTyped() {

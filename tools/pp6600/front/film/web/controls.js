@@ -4,7 +4,6 @@ function choose(place) {
   Object.assign(shown, { chosen: place, changes: place ? momentsThatChanged(place.places) : [] });
   byId("place").value = place ? place.name : "";
   accept("place", "");
-  byId("chosen").hidden = !place;
   if (place && place.kind === "M") showCell(...place.numbers, false);
   else if (place && place.kind === "C") showCentralWord(place.numbers[0], false);
   setOrigin(null);
@@ -23,6 +22,7 @@ function changesAround() {
 
 function showChosen() {
   const place = shown.chosen;
+  byId("chosen").hidden = !place;
   byId("set").hidden = !canSet(place);
   byId("run-to").hidden = byId("run-back").hidden = !place || place.kind !== "M";
   if (!place) return;
@@ -55,13 +55,20 @@ function findChange(direction) {
 
 // ---- the page as a whole
 
+const waiting = []; // what reads the layout of the page, when all is written
+const laidOut = (act) => waiting.push(act);
+const isOpen = (section) => !byId(section).hidden;
+
+// Shows the moment. Parts that read the layout come last, so that the browser lays the page out once.
 function show() {
-  shown.changed = new Set(changesIn(film.at));
+  Object.assign(shown, { changed: new Set(changesIn(film.at)), next: range(PROCESSORS).map(nextOf) });
   showMemory();
   fillRows("processors", range(PROCESSORS).map(processorRow));
   fillRows("channels", range(CHANNELS + 1).map(channelRow));
   for (const part of [showSource, showPictures, showWords, showReader, showPrinter, showWatches, showScript, showChosen, showOrigin,
-    showPosition, showLanes, showBarrel, showSigns]) part();
+    showPosition, showLanes, showBarrel]) part();
+  for (const act of waiting.splice(0)) act();
+  showSigns();
 }
 
 function showPosition() {
@@ -98,13 +105,12 @@ function setAddress() {
   }, 300);
 }
 
-function followAddress() {
-  const words = new URLSearchParams(location.hash.slice(1)), place = words.get("place");
-  const [moment, turn] = ["moment", "turn"].map((name) => octalIn(words.get(name) || ""));
+async function followAddress() {
+  const words = new URLSearchParams(location.hash.slice(1)), place = words.get("place"), moment = octalIn(words.get("moment") || "");
+  const wrong = moment === null && words.has("turn") ? await goToTyped(words.get("turn")) : "";
   if (moment !== null) goTo(moment);
-  else if (turn !== null) goToTurn(turn);
   choose(place ? placeNamed(place) : shown.chosen);
-  accept("turn", words.has("turn") ? wrongTurn(words.get("turn")) : "");
+  accept("turn", wrong);
   if (place && !shown.chosen) accept("place", "no such place");
 }
 
@@ -137,21 +143,17 @@ function latestChange(names, moment) {
 // The first moment after so many turns, or the last moment.
 function momentOfTurn(turn) { const moment = film.turn.indexOf(turn); return moment >= 0 ? moment : lastMoment(); }
 
-// What is wrong with the number of a turn, or "".
-function wrongTurn(text) {
-  const turn = octalIn(text);
-  if (turn === null) return "not an octal number";
-  if (film.turn.includes(turn)) return "";
-  return turn < film.highestTurn ? `turn ${text} was not recorded` : `no turn ${text}: the highest is ${octal(film.highestTurn)}`;
-}
-
-// Goes to the moment after so many turns. Turns that were skipped are recorded for it.
+// Goes to the moment after so many turns. Turns that were skipped are recorded for it. Returns what is wrong with the number, or "".
 async function goToTurn(turn) {
   const hasIt = (after, at) => film.kinds[at] === SKIP && after > turn && film.turn[at - 1] < turn;
   const skip = film.turn.includes(turn) ? -1 : film.turn.findIndex(hasIt);
   if (skip >= 0) await engine.unskip(skip, turn);
   else moveTo(momentOfTurn(turn));
+  if (film.turn.includes(turn)) return "";
+  return turn < film.highestTurn ? `turn ${octal(turn)} was not recorded` : `no turn ${octal(turn)}: the highest is ${octal(film.highestTurn)}`;
 }
+
+const goToTyped = (text) => (octalIn(text) === null ? "not an octal number" : goToTurn(octalIn(text)));
 
 // Says beside a field what is wrong with its text, and marks it; "" if it is right.
 function accept(name, wrong) { fill(byId(`no-${name}`), wrong); byId(name).setAttribute("aria-invalid", wrong !== ""); }
@@ -216,22 +218,14 @@ function placeSections() {
   byId("watches").after(...others);
 }
 
-// Lets a function act on the text of a form's field. If it returns what is wrong with it, this is said beside the field, which else is left.
-function onSubmit(form, field, act) {
-  byId(form).onsubmit = async (event) => {
-    event.preventDefault();
-    play(false);
-    const wrong = await act(byId(field).value.trim());
-    if (wrong !== undefined) accept(field, wrong);
-    if (wrong === "") byId(field).blur();
-    setAddress();
-  };
-}
-
-async function goToTyped(text) {
-  if (octalIn(text) !== null) await goToTurn(octalIn(text));
-  return wrongTurn(text);
-}
+// What is done by the text of a form's field. If this returns what is wrong with the text, it is said beside the field, which else is left.
+const ofField = (field, act) => async () => {
+  play(false);
+  const wrong = await act(byId(field).value.trim());
+  if (wrong !== undefined) accept(field, wrong);
+  if (wrong === "") byId(field).blur();
+  setAddress();
+};
 
 function chooseTyped(text) {
   const place = placeNamed(text);
@@ -241,38 +235,56 @@ function chooseTyped(text) {
 
 const fillSelect = (id, texts, values) => fill(byId(id), texts.map((text, at) => make("option", { value: values[at] }, text)));
 
-function buildControls() {
-  fillSelect("memory-of", ["", ...range(PROCESSORS).map((n) => `PP ${two(n)}`)], ["", ...range(PROCESSORS)]);
-  byId("rate").onchange = () => changeRate(0);
-  byId("slider").oninput = byHand(() => moveTo(Number(byId("slider").value)));
-  byId("memory-of").onchange = ({ target: { value } }) => (value ? chooseMemory(Number(value)) : followTurns());
-  for (const part of ["from", "as"]) byId(`memory-${part}`).onchange = ({ target }) => showMemoryAs({ [part]: target.value });
-  onSubmit("memory-form", "memory-at", (text) => showCell(memory.processor, (octalIn(text) ?? memory.first) % CELLS, true));
-  onSubmit("central-form", "central-at", (text) => showCentralWord(octalIn(text) ?? central.first, true));
-  onSubmit("go-turn", "turn", goToTyped);
-  onSubmit("go-place", "place", chooseTyped);
-  onSubmit("set-form", "set-to", setChosen);
-  byId("set-to").onblur = endEditing;
-  document.addEventListener("dblclick", (event) => event.target.closest("button.number") && edit());
-  document.addEventListener("click", (event) => {
-    const button = event.target.closest("button.number");
-    if (button) choose(button.place);
-    setAddress();
-  });
-}
+// What controls do beside those that have the action of a key: by the event and the id, a function of the control's value and the event.
+const HANDLERS = {
+  onclick: {
+    stop: () => engine.worker.postMessage({ request: "stop" }), fold: () => { lanes.folded = !lanes.folded; show(); },
+    "previous-time": () => moveToTime(source.of.get(source.processor), -1), "next-time": () => moveToTime(source.of.get(source.processor), 1),
+    "leave-branch": engine.leaveBranch, "save-script": saveScript, "save-film": saveFilm, "copy-link": copyLink, restore: restoreKept,
+    check: checkExercise, "edit-source": () => openAssembler(source.processor), "load-source": loadTyped,
+  },
+  onchange: {
+    rate: () => changeRate(0), zoom: show, "memory-of": (value) => (value ? chooseMemory(Number(value)) : followTurns()),
+    "memory-from": (from) => showMemoryAs({ from }), "memory-as": (as) => showMemoryAs({ as }),
+    "source-of": (value) => chooseMemory(Number(value)), "exercise-of": (name) => showTask(exerciseNamed(name)),
+    "assemble-for": (value) => showDraft(Number(value)),
+  },
+  oninput: { slider: byHand(() => moveTo(Number(byId("slider").value))), "assemble-text": typeDraft },
+  onsubmit: {
+    console: sendTyped, exercise: beginExercise, "go-turn": ofField("turn", goToTyped), "go-place": ofField("place", chooseTyped),
+    "memory-form": ofField("memory-at", (text) => showCell(memory.processor, (octalIn(text) ?? memory.first) % CELLS, true)),
+    "central-form": ofField("central-at", (text) => showCentralWord(octalIn(text) ?? central.first, true)),
+    "set-form": ofField("set-to", setChosen),
+  },
+  onkeydown: { typed: recall }, onpaste: { typed: pasted }, onblur: { "set-to": endEditing },
+  onpointerdown: { picture: drag }, onpointermove: { picture: drag },
+};
+
+// The same of the page as a whole.
+const LISTENERS = {
+  resize: show, beforeprint: show, afterprint: show, hashchange: followAddress, keydown: pressed,
+  dragover: (event) => event.preventDefault(), drop: takeFiles,
+  dblclick: ({ target }) => target.closest("button.number") && edit(),
+  click: ({ target }) => { const button = target.closest("button.number"); if (button) choose(button.place); setAddress(); },
+};
 
 function build() {
-  for (const part of [buildControls, buildKeys, buildSource, buildPictures, buildLanes, buildExercises, buildMeanings, buildConsole,
-    buildAssembler]) part();
-  showFiles();
-  placeSections();
+  for (const [kind, all] of Object.entries(HANDLERS)) {
+    for (const [id, act] of Object.entries(all)) {
+      byId(id)[kind] = (event) => { if (kind === "onsubmit") event.preventDefault(); return act(byId(id).value, event); };
+    }
+  }
+  for (const [kind, act] of Object.entries(LISTENERS)) window.addEventListener(kind, act);
+  for (const kind of ["pointerdown", "pointermove", "pointerup", "pointercancel"]) {
+    window.addEventListener(kind, (event) => { engine.isHeld = event.buttons > 0; }, true);
+  }
+  fillSelect("memory-of", ["", ...range(PROCESSORS).map((n) => `PP ${two(n)}`)], ["", ...range(PROCESSORS)]);
+  for (const part of [buildKeys, buildSource, buildPictures, buildExercises, buildMeanings, buildAssembler, showFiles, placeSections]) part();
   for (const box of document.querySelectorAll(".wide")) {
     box.insertAdjacentHTML("beforebegin", '<p class="sign"></p>');
-    box.addEventListener("scroll", () => showSign(box));
+    box.addEventListener("scroll", () => showSigns([box]));
   }
   matchMedia(NARROW).addEventListener("change", placeSections);
-  for (const kind of ["resize", "beforeprint", "afterprint"]) window.addEventListener(kind, show);
-  window.addEventListener("hashchange", followAddress);
 }
 
 // Takes in what has come to the film after so many moments; with 0 it is another one.
@@ -294,7 +306,7 @@ async function openFilm() {
   grew(0);
   const { moment, name } = opening();
   goTo(moment);
-  if (location.hash.length > 1) followAddress();
+  if (location.hash.length > 1) await followAddress();
   else choose(placeNamed(name));
   if (location.hash.length < 2 && film.opens !== null) await goToTurn(film.opens);
   say(reply.said || "", reply.isWrong);

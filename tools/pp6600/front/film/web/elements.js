@@ -19,10 +19,23 @@ function fill(element, ...parts) {
     if (part.kind) update(node, part);
     else if (node.data !== String(part)) node.data = part;
   }
-  for (const node of [...element.childNodes].slice(all.length)) node.remove();
+  for (let { length } = element.childNodes; length > all.length; length--) element.lastChild.remove();
 }
 
 const newNode = (parent, { kind }) => (kind ? document.createElementNS(kind === "svg" ? SVG : parent.namespaceURI, kind) : new Text());
+
+// Sees that an element has a part for each of some rows, which become more at their end alone. Only new ones are described, and those that
+// are marked or were.
+function fillGrowing(element, rows, marked, describe) {
+  const isOther = element.rows !== rows, before = isOther ? [] : element.marked;
+  if (isOther) fill(element);
+  const { children } = element, added = range(rows.length - children.length).map((more) => children.length + more);
+  Object.assign(element, { rows, marked: [...marked].filter((at) => at in rows) });
+  for (const at of new Set([...added, ...before, ...element.marked])) {
+    const part = describe(rows[at], at);
+    update(children[at] ?? element.appendChild(newNode(element, part)), part);
+  }
+}
 
 // Changes an element to what is described. One whose description is the very same object stays as it is.
 function update(element, description) {

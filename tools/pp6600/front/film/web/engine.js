@@ -32,7 +32,6 @@ function startWorker(module) {
   engine.worker = new Worker(address);
   engine.module = module;
   engine.worker.onmessage = ({ data }) => received(data);
-  byId("stop").onclick = () => engine.worker.postMessage({ request: "stop" });
   engine.worker.onerror = (event) => failed(`the simulator has stopped: ${event.message}`);
 }
 
@@ -79,8 +78,7 @@ function openAnew({ options, deck, panel }) {
   engine.opening = null;
   openRows({ ...engine.about, ...options, deck: linesOfOctals(deck), panel: linesOfOctals(panel).flat() });
   if (!engine.isBuilt) return;
-  Object.assign(shown, { chosen: null, changes: [], origin: null, originLines: new Set(), columns: [] });
-  byId("chosen").hidden = true;
+  Object.assign(shown, NOTHING_CHOSEN);
   showFiles();
 }
 

@@ -6,9 +6,6 @@ function buildExercises() {
   exercises.all = film.exercises || [];
   byId("exercise").hidden = !exercises.all.length;
   fillSelect("exercise-of", exercises.all.map(({ name }, at) => `${at + 1}. ${name}`), exercises.all.map(({ name }) => name));
-  byId("exercise").onsubmit = (event) => { event.preventDefault(); beginExercise(); };
-  byId("exercise-of").onchange = () => showTask(exerciseNamed(byId("exercise-of").value));
-  byId("check").onclick = checkExercise;
   showTask(exercises.all[0]);
   showExercise();
 }

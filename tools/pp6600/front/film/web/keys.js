@@ -127,5 +127,4 @@ function buildKeys() {
     button.title = `${button.title} (${keyOf(button.dataset.action)})`.trim();
   }
   fill(byId("keys"), film.keys.help.map(([names, text]) => row("", names.join(" "), text)));
-  document.addEventListener("keydown", pressed);
 }

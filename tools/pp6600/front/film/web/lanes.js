@@ -10,7 +10,7 @@ const lanes = { all: [], processors: [], channels: [], firstTurn: -1, from: 0, t
 // The lanes of no moments. Of those of processors the active moments are turns that do not pass; settings are lines that set a processor.
 function newLanes() {
   const laneOf = (kind) => (n) => ({ name: `${kind} ${two(n)}`, begins: [0], kinds: [IDLE], seen: new Set(), active: [] });
-  return { processors: range(PROCESSORS).map(laneOf("PP")), channels: range(CHANNELS).map(laneOf("H")), firstTurn: -1, settings: [] };
+  return { processors: range(PROCESSORS).map(laneOf("PP")), channels: range(CHANNELS).map(laneOf("H")), firstTurn: -1, settings: [], ticks: {} };
 }
 
 // Notes what the moments from a first one on are: a lane has the stretches of moments that are of one kind.
@@ -54,14 +54,6 @@ function chooseLanes() {
   zoom.value = value;
 }
 
-function buildLanes() {
-  byId("fold").onclick = () => { lanes.folded = !lanes.folded; show(); };
-  byId("zoom").onchange = show;
-  const picture = byId("picture");
-  picture.onpointerdown = (event) => { picture.setPointerCapture(event.pointerId); moveToPixel(event); };
-  picture.onpointermove = (event) => picture.hasPointerCapture(event.pointerId) && moveToPixel(event);
-}
-
 // Chooses the part of the run that the lanes show, so that the present moment is in it. The whole run has some room at its end, so that
 // the scale stays the same for a while as it grows.
 function setView() {
@@ -73,12 +65,14 @@ function setView() {
   }
 }
 
-const pictureWidth = () => Math.max(100, byId("picture").clientWidth - LABEL);
+const pictureWidth = () => lanes.width;
 const pixelOf = (moment) => ((moment - lanes.from) / (lanes.to - lanes.from)) * pictureWidth();
 
-function moveToPixel(event) {
-  const x = event.clientX - byId("picture").getBoundingClientRect().left - LABEL;
-  moveTo(Math.min(lastMoment(), lanes.from + Math.floor((x / pictureWidth()) * (lanes.to - lanes.from))));
+// Goes to where the pointer is, as long as it is down.
+function drag(_, { type, pointerId, clientX }) {
+  const picture = byId("picture"), x = clientX - picture.getBoundingClientRect().left - LABEL;
+  if (type === "pointerdown") picture.setPointerCapture(pointerId);
+  if (picture.hasPointerCapture(pointerId)) moveTo(Math.min(lastMoment(), lanes.from + Math.floor((x / pictureWidth()) * (lanes.to - lanes.from))));
 }
 
 // On a projector the lanes of the processor that is shown and of the one whose turn it was come first, if they are too many.
@@ -117,17 +111,19 @@ function markPath(kind, x, y, width) {
   return [box(1), box(6) + box(4, 1), box(8), box(LANE)][kind];
 }
 
-// For each column of pixels the tallest of what it has. What was worked out for this part of the run is kept: only stretches that have
-// come since are looked at.
-function tallest(lane, width) {
-  const key = `${lanes.from} ${lanes.to} ${width}`, scale = width / (lanes.to - lanes.from);
-  if (lane.key !== key) Object.assign(lane, { key, columns: new Uint8Array(width), looked: 0 });
+// For each column of pixels the tallest of what it has, in the picture with this key. What was worked out for it is kept: only stretches that
+// have come since are looked at.
+function tallest(lane, key, width) {
+  const scale = width / (lanes.to - lanes.from);
+  if (lane.key !== key) Object.assign(lane, { key, columns: new Uint8Array(width), looked: 0, marks: null });
   const { begins, kinds, columns } = lane;
   for (let at = lane.looked; at < begins.length; at++) {
     const begin = begins[at], end = at + 1 < begins.length ? begins[at + 1] : film.count;
     if (end <= lanes.from || begin >= lanes.to) continue;
     const [from, to] = [begin, end].map((moment) => Math.min(width, Math.max(0, Math.floor((moment - lanes.from) * scale))));
-    for (let x = from; x < Math.max(from + 1, to); x++) if (kinds[at] > columns[x]) columns[x] = kinds[at];
+    for (let x = from; x < Math.max(from + 1, to); x++) {
+      if (kinds[at] > columns[x]) [columns[x], lane.marks] = [kinds[at], null];
+    }
   }
   lane.looked = begins.length - 1;
   return columns;
@@ -149,6 +145,7 @@ function showLanes() {
   setView();
   const drawn = lanesShown(), names = ["lines", ...drawn.map(({ name }) => name), ...(shown.chosen ? ["chosen"] : [])];
   sizeLanes(names.length);
+  lanes.width = Math.max(100, byId("picture").clientWidth - LABEL);
   const picture = byId("lanes-picture"), own = shown.chosen ? ticksOfChanges(yOf(names.length - 1)) : [];
   const height = Math.max(yOf(names.length) - GAP, isProjected() ? LETTERS : 0) + GAP, { ticks, jumps, signs } = ticksOfLines(height);
   picture.style.cssText = `height: ${height}px; font-size: ${LETTERS}px`;
@@ -162,28 +159,37 @@ function showLanes() {
   byId("head").style.left = `${LABEL + pixelOf(film.at + 0.5)}px`;
 }
 
-// The marks of a lane: those of the tallest kind, and the others.
+// What the picture of a part of the run depends on, for what is at a height.
+const keyOfPicture = (y) => [lanes.from, lanes.to, pictureWidth(), LABEL, LANE, y].join(" ");
+
+// The marks of a lane: those of the tallest kind, and the others. They are kept as long as they stay the same.
 function marksOf(lane, y) {
-  const columns = tallest(lane, Math.floor(pictureWidth())), tall = [], half = [];
+  const columns = tallest(lane, keyOfPicture(y), Math.floor(pictureWidth())), tall = [], half = [];
+  if (lane.marks) return lane.marks;
   for (let x = 0, end; x < columns.length; x = end) {
     for (end = x + 1; end < columns.length && columns[end] === columns[x];) end++;
     (columns[x] === BLOCK ? tall : half).push(markPath(columns[x], LABEL + x, y, end - x));
   }
-  return [path("tall", tall), path("half", half)];
+  lane.marks = [path("tall", tall), path("half", half)];
+  return lane.marks;
 }
 
 const tick = (x, y, height, width = 1) => `M${x} ${y}h${width}v${height}h${-width}z`;
 
-// A tick where each line of the script begins, taller and with < or > where the run goes back or forward again.
+// A tick where each line of the script begins, taller and with < or > where the run goes back or forward again. They are kept too.
 function ticksOfLines(height) {
-  const made = { ticks: [], jumps: [], signs: [] }, right = LABEL + pictureWidth();
-  let free = 0; // from where on there is room for a sign
-  for (const { first } of film.lines.filter((line) => line.acts && line.first >= lanes.from && line.first < lanes.to)) {
-    const x = LABEL + Math.floor(pixelOf(first)), left = x + SIGN < right ? x + 2 : x - SIGN, isJump = film.kinds[first] === JUMP;
-    if (isJump) made.jumps.push(tick(x, GAP, height - GAP));
-    else made.ticks.push(tick(x, GAP + LANE - 6, 6));
-    if (isJump && left >= free) made.signs.push(textOfLanes(left, GAP + LANE / 2, film.jumps.get(first)[0] < first ? "<" : ">"));
-    if (isJump) free = Math.max(left, x) + SIGN;
+  const key = keyOfPicture(height), right = LABEL + pictureWidth();
+  if (lanes.ticks.key !== key) lanes.ticks = { key, looked: 0, ticks: "", jumps: "", signs: [], free: 0 }; // free: where there is room for a sign
+  const made = lanes.ticks;
+  for (; made.looked < film.lines.length; made.looked++) {
+    const { acts, first } = film.lines[made.looked], isJump = film.kinds[first] === JUMP;
+    if (!acts || first < lanes.from || first >= lanes.to) continue;
+    const x = LABEL + Math.floor(pixelOf(first)), left = x + SIGN < right ? x + 2 : x - SIGN;
+    if (!isJump) made.ticks += tick(x, GAP + LANE - 6, 6);
+    if (!isJump) continue;
+    made.jumps += tick(x, GAP, height - GAP);
+    if (left >= made.free) made.signs.push(textOfLanes(left, GAP + LANE / 2, film.jumps.get(first)[0] < first ? "<" : ">"));
+    made.free = Math.max(left, x) + SIGN;
   }
   return made;
 }

@@ -15,6 +15,7 @@ function setLayout(size) {
   const high = layout.central + size, deck = high + FRAME_WORDS + size;
   Object.assign(layout, { size, high, deck });
   KINDS.C.sizes = [size];
+  placesKnown.clear();
   return deck;
 }
 
@@ -70,9 +71,12 @@ function nameOf(place) {
 
 // A number of the machine by its kind and its indices: its name, and its places, of 60 bits that of the upper half first.
 function placeWith(kind, ...numbers) {
-  const at = placeOf(kind, ...numbers);
-  return { kind, numbers, name: nameWith(kind, numbers), places: isWord(at) ? [upperOf(at), at] : [at] };
+  const at = placeOf(kind, ...numbers), places = isWord(at) ? [upperOf(at), at] : [at];
+  if (!placesKnown.has(at)) placesKnown.set(at, { kind, numbers, name: nameWith(kind, numbers), places });
+  return placesKnown.get(at);
 }
+
+const placesKnown = new Map(); // by the places of their numbers
 
 // The number with a name, as answers have it; null if there is none. A label of the processor may be in the place of an address.
 function placeIn(text, labels) {

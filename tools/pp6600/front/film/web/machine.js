@@ -2,9 +2,11 @@
 
 // A number as a button, which chooses it.
 function number(place, more = "") {
-  const isChanged = place.places.some((at) => shown.changed.has(at)), isChosen = shown.chosen !== null && shown.chosen.name === place.name;
-  const className = classes({ number: true, changed: isChanged, [more]: more });
-  return makeButton(className, textAt(place), null, { title: place.name, place, "data-place": place.name, "aria-pressed": isChosen });
+  const text = textAt(place), isChanged = place.places.some((at) => shown.changed.has(at)), isChosen = shown.chosen === place;
+  const className = classes({ number: true, changed: isChanged, [more]: more }), key = `${text} ${className} ${isChosen}`;
+  const about = { title: place.name, place, "data-place": place.name, "aria-pressed": isChosen };
+  if (place.key !== key) Object.assign(place, { key, button: makeButton(className, text, null, about) });
+  return place.button;
 }
 
 const numberWith = (kind, ...indices) => number(placeWith(kind, ...indices));
@@ -19,7 +21,7 @@ const heading = (text, more = {}) => cell("name", text, more);
 // ---- processors and channels
 
 function processorRow(n) {
-  const p = numberOf("P", n), next = nextOf(n), is = { next: numberOf("SLOT") === n, acted: hasTurn(n), chosen: n === memory.processor };
+  const p = numberOf("P", n), next = shown.next[n], is = { next: numberOf("SLOT") === n, acted: hasTurn(n), chosen: n === memory.processor };
   const words = (next.second ? [p, (p + 1) % CELLS] : [p]).map((at) => numberWith("M", n, at));
   const name = instructionCell(next.block ? `${next.name} in its block` : next.name);
   return row(classes(is), is.next ? ">" : "", heading(`PP ${two(n)}`, { onclick: () => chooseMemory(n) }), numberWith("P", n), words, name,
@@ -90,7 +92,7 @@ function showCells(n, marked) {
 
 // Memory as instructions.
 function showProgram(n, p, marked) {
-  const { address, back } = nextOf(n).block || { address: p, back: null }, isText = memory.as === "text";
+  const { address, back } = shown.next[n].block || { address: p, back: null }, isText = memory.as === "text";
   const rows = programWindow(n, memory.top, memory.from === "P" ? address ?? p : memory.at, MEMORY_ROWS, [p, address, back]);
   memory.top = rows[0].address;
   fill(document.querySelector("#program th:last-child"), isText ? "display code" : "");
@@ -111,18 +113,20 @@ function showCentralWord(address, always) {
   show();
 }
 
+// Shows the parts that are seen.
 function showWords() {
   const words = range(CENTRAL_ROWS).map((at) => central.first + at), half = FRAME_WORDS / 2;
   setField("central-at", octal(central.first, 6));
-  fillRows("central", words.map((at) => row("", heading(octal(at, 6)), numberWith("C", at))));
+  if (isOpen("central")) fillRows("central", words.map((at) => row("", heading(octal(at, 6)), numberWith("C", at))));
   const frameRow = (at) => row("", ...[at, at + half].flatMap((word) => [heading(two(word)), numberWith("XP", word)]));
-  fillRows("frame", range(half).map(frameRow));
+  if (isOpen("frame")) fillRows("frame", range(half).map(frameRow));
 }
 
 // Shows the parts of the machine that the moments from a first one on use, of those that not every run uses; with 0 the film is another one.
 function showParts(first) {
-  const { frame, reader, printer, slot, high } = layout, places = film.places.subarray(film.starts[first]);
-  const all = { frame: [frame, reader], reader: [reader, printer], printer: [printer, slot], central: [layout.central, high] };
+  const { frame, reader, printer, slot, watches, high } = layout, places = film.places.subarray(film.starts[first]);
+  const all = { frame: [frame, reader], reader: [reader, printer], printer: [printer, slot], watches: [watches, layout.central],
+    central: [layout.central, high] };
   for (const [name, [from, end]] of Object.entries(all)) {
     const section = byId(name), place = places.find((one) => one >= from && one < end);
     if (!first) section.hidden = name !== "reader" || !film.deck.length;
@@ -140,15 +144,13 @@ function showReader() {
   const [line, cards, columns] = document.querySelectorAll("#reader h2 ~ :not(.sign)");
   fill(line, withNumbers(`H ${two(film.reader)} CARD @CARD OF ${four(film.deck.length)} COLUMN @CARD-COLUMN MODE @CARD-MODE`));
   film.cards ??= film.deck.map((all, at) => `${four(at)} ${all.map(displayCode).join("").trimEnd()}`);
-  fill(cards, film.cards.map((title, at) => {
-    const isPresent = at === card;
-    return make("div", { title, className: classes({ present: isPresent }) }, `${isPresent ? ">" : " "} ${title}`);
-  }));
+  fillGrowing(cards, film.cards, [card], (title, at) =>
+    make("div", { title, className: classes({ present: at === card }) }, `${at === card ? ">" : " "} ${title}`));
   fill(columns, range(film.deck.length ? COLUMNS : 0).map((at) => {
     const is = { "next-column": words && at === column, "past-column": at < column, origin: isOriginColumn(card, at) };
     return [make("span", { className: classes(is) }, words ? four(words[at] || 0) : ""), " "];
   }));
-  if (film.cardSeen !== card && words) cards.scrollTop = cards.children[card].offsetTop - cards.offsetTop - 20;
+  if (film.cardSeen !== card && words) laidOut(() => { cards.scrollTop = cards.children[card].offsetTop - cards.offsetTop - 20; });
   film.cardSeen = card;
 }
 
@@ -158,31 +160,27 @@ function showPrinter() {
   fill(document.querySelector("#printer .device"), withNumbers(line));
   if (paper.textContent === text) return;
   fill(paper, text);
-  paper.scrollTop = paper.scrollHeight;
+  laidOut(() => { paper.scrollTop = paper.scrollHeight; });
 }
 
 function showWatches() {
   const names = watched(), lines = names.map((name) => make("div", {}, `${name}  `, number(placeNamed(name))));
-  byId("watches").hidden = !names.length && !film.lines.some((line) => /^\s*watch\b/i.test(line.text));
   fill(document.querySelector("#watches .list"), names.length ? lines : "NONE");
 }
 
 // ---- the script and the other files of the run
 
-// Shows the lines with their answers. The description of a line is kept until it is the present one, or one from which a number came.
+// Shows the lines with their answers, and marks the present one and those from which a number came.
 function showScript() {
   const list = document.querySelector("#script ol"), at = film.lineAt[film.at];
-  fill(list, film.lines.map((line, index) => {
-    const isPresent = index === at, isOrigin = shown.originLines.has(index), key = `${isPresent} ${isOrigin}`;
-    if (line.key !== key) Object.assign(line, { key, row: scriptRow(line, isPresent, isOrigin) });
-    return line.row;
-  }));
-  if (film.lineSeen !== at && at >= 0) list.scrollTop = list.children[at].offsetTop - list.clientHeight / 3;
+  fillGrowing(list, film.lines, [at, ...shown.originLines], scriptRow);
+  if (film.lineSeen !== at && at >= 0) laidOut(() => { list.scrollTop = list.children[at].offsetTop - list.clientHeight / 3; });
   film.lineSeen = at;
 }
 
-function scriptRow(line, isPresent, isOrigin) {
-  const isNote = line.text.trim().startsWith("*"), className = classes({ note: isNote, acts: line.acts && !isNote, origin: isOrigin });
+function scriptRow(line, at) {
+  const isNote = line.text.trim().startsWith("*"), isOrigin = shown.originLines.has(at);
+  const className = classes({ note: isNote, acts: line.acts && !isNote, origin: isOrigin }), isPresent = at === film.lineAt[film.at];
   return make("li", { className, "aria-current": isPresent || null }, makeButton("line", line.text || " ", () => moveTo(line.moment)),
     line.answer.length ? make("pre", {}, line.answer.join("\n")) : null);
 }
@@ -212,11 +210,9 @@ function moveLine(direction) {
 
 // ---- what is cut
 
-// Above each part that may be wider or higher than its room a line says on which sides there is more.
-function showSign(box) {
-  const arrows = classes({ "←": box.scrollLeft > 1, "→": box.scrollLeft + box.clientWidth < box.scrollWidth - 1,
-    "↑": box.scrollTop > 1, "↓": box.scrollTop + box.clientHeight < box.scrollHeight - 1 });
-  fill(box.previousElementSibling, arrows && `more ${arrows}`);
+// Above each part that may be wider or higher than its room a line says on which sides there is more. All are looked at before one is changed.
+function showSigns(boxes = [...document.querySelectorAll(".wide")]) {
+  const arrows = boxes.map((box) => classes({ "←": box.scrollLeft > 1, "→": box.scrollLeft + box.clientWidth < box.scrollWidth - 1,
+    "↑": box.scrollTop > 1, "↓": box.scrollTop + box.clientHeight < box.scrollHeight - 1 }));
+  boxes.forEach((box, at) => fill(box.previousElementSibling, arrows[at] && `more ${arrows[at]}`));
 }
-
-const showSigns = () => document.querySelectorAll(".wide").forEach(showSign);

@@ -3,7 +3,8 @@
 // delivers the moments; they come at the end.
 
 let film; // what the page is made of; see openRows
-const shown = { chosen: null, changes: [], changed: new Set(), origin: null, originLines: new Set(), columns: [], playing: null };
+const NOTHING_CHOSEN = { chosen: null, changes: [], origin: null, originLines: new Set(), columns: [] };
+const shown = { ...NOTHING_CHOSEN, changed: new Set(), next: [], playing: null }; // next: what each processor does next
 const isTurn = (moment) => film.kinds[moment] < LINE;
 const lastMoment = () => film.count - 1;
 

@@ -60,11 +60,10 @@ class Session {
     this.recorder = new Recorder(this.simulator, about);
     this.tape = new Tape();
     this.position = 0;
-    this.lines = [];
+    this.typed = []; // the lines, with the turns that they have made
     this.saved = []; // lines that give the session again in the program too, which goes back over what it keeps alone
     this.jumps = new Map();
-    this.skips = [];
-    this.sent = 0;
+    this.news = { lines: [], jumps: [], skips: [] };
   }
 
   close() { this.simulator.session.close(); }
@@ -80,7 +79,8 @@ class Session {
     const kept = left <= 1 ? answer : [...answer.slice(0, LONGEST_ANSWER), `.. ${octal(left)} lines more`];
     const performed = turns && answer[1] === "stopped" ? `STEP ${answer[0].split(" ")[1]}` : text;
     const moment = this.recorder.count - 1, acts = moment >= first;
-    this.lines.push({ text, answer: kept, acts, first: acts ? first : moment, moment, performed });
+    this.typed.push(performed);
+    this.news.lines.push({ text, answer: kept, acts, first: acts ? first : moment, moment });
     if (answer[1] === "replayed") this.saved = this.linesUpTo(this.position);
     else this.saved.push(performed);
     return answer;
@@ -152,7 +152,7 @@ class Session {
     }
     const recorded = made < count || isWatched ? Math.min(made, AFTER_LONG, session.counts().kept) : 0, skipped = made - recorded;
     session.back(recorded);
-    this.skips.push([this.recorder.count, skipped]);
+    this.news.skips.push([this.recorder.count, skipped]);
     this.tape.add(skipped, this.recorder.count);
     this.recorder.readAll(SKIP);
     this.position += skipped;
@@ -193,7 +193,9 @@ class Session {
   }
 
   moved(position) {
-    this.jumps.set(this.recorder.count, [this.tape.momentAt(position), this.tape.turnsAt(position)]);
+    const to = [this.tape.momentAt(position), this.tape.turnsAt(position)];
+    this.jumps.set(this.recorder.count, to);
+    this.news.jumps.push([this.recorder.count, to]);
     this.recorder.readAll(JUMP);
     this.position = position;
   }
@@ -236,16 +238,16 @@ class Session {
   // ---- what the page gets
 
   // The lines of the session, in the program or as they were typed.
-  script() { return { script: ofLines(this.saved), typed: ofLines(this.lines.map(({ performed }) => performed)) }; }
+  script() { return { script: ofLines(this.saved), typed: ofLines(this.typed) }; }
 
   // The lines that lead to a position without a step back.
   linesUpTo(position) { return [...this.tape.between(0, position)].flatMap(({ text, count }) => (text === null ? stepsOf(count) : [text])); }
 
   // What has come since the last delivery.
   take() {
-    const lines = this.lines.slice(this.sent);
-    this.sent = this.lines.length;
-    return { rows: this.recorder.take(), lines, jumps: [...this.jumps], skips: this.skips.splice(0) };
+    const { news } = this;
+    this.news = { lines: [], jumps: [], skips: [] };
+    return { rows: this.recorder.take(), ...news };
   }
 }
 

@@ -13,11 +13,7 @@ class Simulator {
   }
 
   // Performs lines, and returns the lines of their answers. The numbers here stay as they were.
-  ask(text) {
-    const lines = this.session.answer(`${text}\n`).text.split("\n");
-    lines.pop();
-    return lines;
-  }
+  ask(text) { return linesIn(this.session.answer(`${text}\n`).text); }
 
   // Performs a line, and tells the observer, if there is one.
   perform(text, observer) {
@@ -25,10 +21,13 @@ class Simulator {
     if (observer) this.readAfter(wordsIn(text), observer);
   }
 
-  // Makes turns, at most `most`. Each is told to the observer: begin(processor), then tell(place, was, now), then end(processor). Returns
-  // how many, and whether a watch ended them.
+  // Makes turns, at most `most`. Each is told to the observer: begin(processor), then tell(place, was, now), then end(processor). Without
+  // one they are made by one line. Returns how many, and whether a watch ended them.
   turns(most, observer) {
-    if (!observer) return this.turnsUntold(Math.min(most, MOST_AT_ONCE));
+    if (!observer) {
+      const [made, ...hits] = this.ask(`STEP ${octal(Math.min(most, MOST_AT_ONCE))}`);
+      return { count: parseInt(made.split(" ")[1], 8), isWatched: hits.length > 0 };
+    }
     const { status, made, olds } = this.session.turns(Math.min(most, MOST_RECORDED), MOST_RECORDED, OLD_NUMBERS);
     const old = new Uint32Array(olds.buffer, olds.byteOffset, 2 * olds.length), now = this.newNumbers(made, old);
     for (let at = 0, pair = 0; at < made.length; at += 2) {
@@ -37,12 +36,6 @@ class Simulator {
       observer.end(made[at]);
     }
     return { count: made.length / 2, isWatched: status === STATUS.WATCHED };
-  }
-
-  // Makes turns by one line, of which nobody is told.
-  turnsUntold(most) {
-    const [made, ...hits] = this.ask(`STEP ${octal(most)}`);
-    return { count: parseInt(made.split(" ")[1], 8), isWatched: hits.length > 0 };
   }
 
   // Tells the observer what a line has changed that is an action but no turn, whose processor is NO_TURN: besides the places that it

@@ -19,9 +19,6 @@ function buildSource() {
   source.processor = source.of.keys().next().value;
   fillSelect("source-of", [...source.of.keys()].map((n) => `PP ${two(n)}`), [...source.of.keys()]);
   byId("source-of").hidden = source.of.size < 2;
-  byId("source-of").onchange = () => chooseMemory(Number(byId("source-of").value));
-  byId("previous-time").onclick = () => moveToTime(source.of.get(source.processor), -1);
-  byId("next-time").onclick = () => moveToTime(source.of.get(source.processor), 1);
 }
 
 // Shows the source that a processor has now.
@@ -94,9 +91,11 @@ function markOfWord(one, word) {
   const at = (address) => cellOf(one.processor, address);
   let mark = ["now", (word.origin + (at(word.origin) === word.word ? 1 : 0)) % CELLS];
   for (const address of new Set([word.location, word.origin])) {
-    const isFirst = at(address) === word.word, second = (address + 1) % CELLS, found = wordIn(one, address, at);
-    if (isFirst && (word.second === null || word.second === at(second))) return null;
-    if (isFirst && found.line === word.line && found.at === word.at) mark = ["m is", second];
+    const second = (address + 1) % CELLS;
+    if (at(address) !== word.word) continue;
+    if (word.second === null || word.second === at(second)) return null;
+    const found = wordIn(one, address, at);
+    if (found.line === word.line && found.at === word.at) mark = ["m is", second];
   }
   return mark;
 }
@@ -154,8 +153,9 @@ function showSource() {
   fillRows("source", one.lines.map((line) => sourceRow(one, line, line.number === here.number ? here : null, line.number === performed)));
   byId("source").classList.toggle("marked", one.lines.some(({ mark }) => mark));
   showTimes(one);
-  if (source.scrolled !== `${n} ${film.at}`) keepInView(table.rows[(film.at === one.led ? one.line : here.number) - 1], !source.scrolled);
-  source.scrolled = `${n} ${film.at}`;
+  const scrolled = `${n} ${film.at}`, isAnew = !source.scrolled, seen = table.rows[(film.at === one.led ? one.line : here.number) - 1];
+  if (source.scrolled !== scrolled) laidOut(() => keepInView(seen, isAnew));
+  source.scrolled = scrolled;
 }
 
 // The row of a line. Its description is kept as long as it stays the same, if no number is in it.

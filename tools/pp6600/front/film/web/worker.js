@@ -4,7 +4,7 @@ const AT_ONCE = 50; // milliseconds between two deliveries, and after which mess
 const MOST_SECONDS = 20, MOST_SEARCHED = 10; // seconds of a script that is opened, and of a search
 const MOST_WANTED = 0o2000; // turns that are recorded where some were skipped
 
-const worker = { session: null, calls: null, about: null, given: null, stop: false, until: Infinity, paused: 0,
+const worker = { session: null, calls: null, about: null, given: null, wanted: [], stop: false, until: Infinity, paused: 0,
   doing: Promise.resolve() };
 
 const control = {
