@@ -1,5 +1,6 @@
 pub mod Cells
 pub mod Instructions
+pub mod Listing
 pub mod Places
 pub mod Rows
 pub mod SourceText

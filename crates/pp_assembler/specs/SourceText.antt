@@ -2,7 +2,7 @@
 use Rattle.std.specs.Prelude.{ℕ, ◌+◌, ◌/◌, ◌%◌, ◌==◌, if◌then◌else◌, Option, Some, None, List, [], ◌∷◌, ◌++◌, codes, slice_index, slice_index_or}
 use Rattle.std.specs.List.{flat_map}
 use Rattle.pp_arith.specs.Octal.{octal_text}
-use Rattle.pp_assembler.specs.Texts.{ended, in_columns}
+use Rattle.pp_assembler.specs.Texts.{ended, in_columns, optional}
 use Rattle.pp_assembler.specs.declared.instructions.TheConstants.{NAMES}
 use Rattle.pp_assembler.specs.declared.statement.Kind.{Kind}
 use Rattle.pp_assembler.specs.declared.statement.Kind.TheVariants.{Code, Subroutine as Entry, Data, Exit}
@@ -29,11 +29,6 @@ operand_text (Number n) = octal_text n 1
 operand_text (Minus n) = codes "-" ++ octal_text n 1
 operand_text Here = codes "*"
 operand_text (Named name more) = name_text name ++ (if more == 0 then [] else codes "+" ++ octal_text more 1)
-
--- The text of what there is, or none.
-abbrev pub optional : {X : Type 0} → (X → List ℕ) → Option X → List ℕ
-optional text None = []
-optional text (Some one) = text one
 
 -- The operands of an instruction.
 abbrev pub operands : Option Operand → Option ℕ → List ℕ

@@ -15,6 +15,11 @@ use Rattle.pp_assembler.specs.declared.symbols.Symbol.{Symbol}
 abbrev pub in_columns : ℕ → List ℕ → List ℕ
 in_columns width text = text ++ replicate (width - length text) 32
 
+-- The text of what there is, or none.
+abbrev pub optional : {X : Type 0} → (X → List ℕ) → Option X → List ℕ
+optional text None = []
+optional text (Some one) = text one
+
 -- A line without the blanks at its end.
 unfoldable pub ended : List ℕ → List ℕ
 ended line = take (length line - suffix_len is_ascii_whitespace line) line ++ 10 ∷ []

@@ -2,6 +2,7 @@
 ghost use Rattle.std.specs.Prelude.{◌≡◌, ◌++◌, IfOk, OnOk, codes, slice_get};
 ghost use Rattle.std.specs.List.{flat_map};
 ghost use Rattle.pp_arith.specs.Octal.{octal_text};
+ghost use Rattle.pp_assembler.specs.Listing.{listed_row};
 ghost use Rattle.pp_assembler.specs.Texts.{addresses, cell_lines, complaint_line, complaint_lines, name_line, numbers_line, row_line, row_words, start_line, unqualified, value_line};
 
 use crate::columns::put_number;
@@ -82,10 +83,12 @@ pub fn words_text(alloc: Global, made: &Assembly) -> Result<Vec<u8>, AllocError>
 ///
 /// # Errors
 /// Memory ran out.
-pub fn listing_text(alloc: Global, made: &Assembly) -> Result<Vec<u8>, AllocError> {
+pub fn listing_text(alloc: Global, made: &Assembly) -> Result<Vec<u8>, AllocError>
+    ensures { IfOk result (λ text. text.items ≡ flat_map (listed_row made.now) made.now.rows.items) }
+{
     let mut out = Vec::new(alloc);
     for row in &made.rows {
-        put_row(&mut out, made, row)?;
+        put_row(alloc, &mut out, made, row)?;
     }
     Ok(out)
 }

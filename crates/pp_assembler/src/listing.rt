@@ -1,135 +1,226 @@
 //! The listing: for each line its address, its words and its text.
+ghost use Rattle.std.specs.Prelude.{◌≡◌, ◌<◌, ◌+◌, ◌%◌, ◌==◌, ◌++◌, OnOk, bit_and, drop, length, if◌then◌else◌, slice_get};
+ghost use Rattle.pp_assembler.specs.Listing.{address, address_fields, listed_row, load_address, named, next_address, text_of, two_on};
+ghost use Rattle.pp_assembler.specs.Listing.{value_field, without_tabs, words_field};
+ghost use Rattle.pp_assembler.specs.Texts.{ended, in_columns, optional, signed_octal};
+
+use crate::columns::{put_field, put_line, put_number};
 use crate::digits::put_octal;
-use crate::fields::length_without_blanks;
+use crate::forms::{line_of, words_of};
 use crate::pass::{CELLS, Row};
 use crate::program::Assembly;
-use std::alloc::AllocError;
+use std::alloc::{AllocError, Global};
 
 /// How many words a line of the listing has.
 const WORDS_OF_LINE: usize = 2;
+
 /// The columns of an address, of the address to which a word is loaded, and of the words.
-const ADDRESS: u8 = 4;
+const ADDRESS: usize = 4;
 
 const LOAD: usize = 5;
 
 const WORDS: usize = 11;
 
 const TAB: usize = 8;
+
 /// What is instead of a line of the source.
 const LITERAL: &[u8; 17] = b"*         LITERAL";
 
 /// Writes the lines of the listing for a row. If code is assembled for another place, its address there comes first, and then > with that
 /// to which it is loaded.
-pub fn put_row(out: &mut Vec<u8>, assembly: &Assembly, row: &Row) -> Result<(), AllocError> {
-    let start = out.len();
-    let words = assembly.words.get(row.first..row.end).unwrap_or(&[]);
-    put_address(out, row, 0)?;
-    put_value_or_words(out, row, words)?;
-    let text = match assembly.lines.all.get(row.statement) {
-        Some(line) => assembly.lines.text_of(*line),
-        None => LITERAL,
-    };
-    put_text(out, text)?;
-    end_line(out, start)?;
-    for part in 1..words.len().div_ceil(WORDS_OF_LINE) {
-        let first = part.saturating_mul(WORDS_OF_LINE);
-        let start = out.len();
-        put_address(out, row, first)?;
-        put_words(out, words.get(first..).unwrap_or(&[]))?;
-        end_line(out, start)?;
+pub fn put_row(
+    alloc: Global,
+    out: &mut Vec<u8>,
+    made: &Assembly,
+    row: &Row,
+) -> Result<(), AllocError>
+    ensures { OnOk result (out.new.items ≡ out.old.items ++ listed_row made.now row.now) }
+{
+    let mut words = words_of(made, row);
+    put_first(alloc, out, row, words, text_of(made, row))?;
+    let mut next = *row;
+    while words.len() > WORDS_OF_LINE {
+        words = others(words);
+        next = two_on(next);
+        put_further(alloc, out, &next, words)?;
     }
     Ok(())
 }
 
+/// Returns the words after those of a line.
+fn others(words: &[u16]) -> &[u16]
+    requires { 2 < length words.now }
+    ensures { result.now ≡ drop 2 words.now }
+{
+    &words[WORDS_OF_LINE..]
+}
+
+/// Returns the text of the line of a row.
+fn text_of<'a>(made: &'a Assembly, row: &Row) -> &'a [u8]
+    ensures { result.now ≡ text_of made.now (slice_get made.now.lines.all.items row.now.statement) }
+{
+    match line_of(made, row) {
+        Some(line) => line.text.of(&made.lines.text),
+        None => LITERAL,
+    }
+}
+
+/// Returns a row two words on.
+fn two_on(row: Row) -> Row
+    ensures { result ≡ two_on row }
+{
+    Row {
+        location: next_address(row.location),
+        origin: next_address(row.origin),
+        ..row
+    }
+}
+
+/// Returns the address two words on.
+fn next_address(address: i64) -> i64
+    ensures { result ≡ next_address address }
+{
+    address.wrapping_add(2)
+}
+
+/// Writes the first line of a row.
+fn put_first(
+    alloc: Global,
+    out: &mut Vec<u8>,
+    row: &Row,
+    words: &[u16],
+    text: &[u8],
+) -> Result<(), AllocError>
+    ensures { OnOk result (out.new.items ≡ out.old.items ++ ended (address_fields row.now ++ value_field row.now words.now row.now.value ++ without_tabs 0 text.now)) }
+{
+    let mut line = Vec::new(alloc);
+    put_addresses(alloc, &mut line, row)?;
+    put_value(alloc, &mut line, row, words)?;
+    put_text(&mut line, text)?;
+    put_line(out, &line)
+}
+
+/// Writes a further line of a row.
+fn put_further(alloc: Global, out: &mut Vec<u8>, row: &Row, words: &[u16]) -> Result<(), AllocError>
+    ensures { OnOk result (out.new.items ≡ out.old.items ++ ended (address_fields row.now ++ words_field words.now)) }
+{
+    let mut line = Vec::new(alloc);
+    put_addresses(alloc, &mut line, row)?;
+    put_words(alloc, &mut line, words)?;
+    put_line(out, &line)
+}
+
 /// Returns the address that a row names.
-fn named(row: &Row) -> Option<i64> {
+fn named(row: &Row) -> Option<i64>
+    ensures { result ≡ named row.now.is_set row.now.value }
+{
     match row.value {
         Some(value) if !row.is_set && value >= 0 && value < CELLS as i64 => Some(value),
         _ => None,
     }
 }
 
-/// Writes the address of a word of a row, or the address that the row names.
-fn put_address(out: &mut Vec<u8>, row: &Row, word: usize) -> Result<(), AllocError> {
-    let index = i64::try_from(word).unwrap_or(0);
-    let address = if row.has_address {
-        Some(row.location.wrapping_add(index))
+/// Returns the address of a row, or the one that it names.
+fn address(row: &Row) -> Option<i64>
+    ensures { result ≡ address row.now }
+{
+    if row.has_address {
+        Some(row.location)
     } else {
         named(row)
-    };
-    let start = out.len();
-    if let Some(address) = address {
-        put_octal(out, address, ADDRESS)?;
     }
-    fill(out, start, usize::from(ADDRESS))?;
-    out.push(b' ')?;
-    let start = out.len();
+}
+
+/// Returns the address to which a row is loaded, if that is another one.
+fn load_address(row: &Row) -> Option<i64>
+    ensures { result ≡ load_address row.now }
+{
     if row.has_address && row.origin != row.location {
-        out.push(b'>')?;
-        put_octal(out, row.origin.wrapping_add(index), ADDRESS)?;
+        Some(row.origin)
+    } else {
+        None
     }
-    fill(out, start, LOAD)?;
+}
+
+/// Writes an address after a mark, if there is one.
+fn put_marked(out: &mut Vec<u8>, mark: &[u8], number: Option<i64>) -> Result<(), AllocError>
+    ensures { OnOk result (out.new.items ≡ out.old.items ++ optional (λ number. mark.now ++ signed_octal number 4) number) }
+{
+    match number {
+        Some(number) => {
+            out.extend_from_slice(mark)?;
+            put_octal(out, number, 4)
+        }
+        None => Ok(()),
+    }
+}
+
+/// Writes the fields of the addresses of a row.
+fn put_addresses(alloc: Global, out: &mut Vec<u8>, row: &Row) -> Result<(), AllocError>
+    ensures { OnOk result (out.new.items ≡ out.old.items ++ address_fields row.now) }
+{
+    let mut text = Vec::new(alloc);
+    put_marked(&mut text, b"", address(row))?;
+    put_field(out, &text, ADDRESS)?;
     out.push(b' ')?;
-    Ok(())
+    let mut text = Vec::new(alloc);
+    put_marked(&mut text, b">", load_address(row))?;
+    put_field(out, &text, LOAD)?;
+    Ok(out.push(b' ')?)
 }
 
 /// Writes the number that a row names, if it is no address, or else the first words.
-fn put_value_or_words(out: &mut Vec<u8>, row: &Row, words: &[u16]) -> Result<(), AllocError> {
+fn put_value(alloc: Global, out: &mut Vec<u8>, row: &Row, words: &[u16]) -> Result<(), AllocError>
+    ensures { OnOk result (out.new.items ≡ out.old.items ++ value_field row.now words.now row.now.value) }
+{
     match row.value {
         Some(value) if !row.has_address && named(row).is_none() => {
-            let start = out.len();
-            put_octal(out, value, 1)?;
-            fill(out, start, WORDS)
+            let mut text = Vec::new(alloc);
+            put_octal(&mut text, value, 1)?;
+            put_field(out, &text, WORDS)
         }
-        _ => put_words(out, words),
+        _ => put_words(alloc, out, words),
     }
 }
 
 /// Writes the first words of some, as many as a line has.
-fn put_words(out: &mut Vec<u8>, words: &[u16]) -> Result<(), AllocError> {
-    let start = out.len();
-    for word in words.get(..WORDS_OF_LINE).unwrap_or(words) {
-        put_octal(out, i64::from(*word), 4)?;
-        out.push(b' ')?;
+fn put_words(alloc: Global, out: &mut Vec<u8>, words: &[u16]) -> Result<(), AllocError>
+    ensures { OnOk result (out.new.items ≡ out.old.items ++ words_field words.now) }
+{
+    let mut text = Vec::new(alloc);
+    for word in &words[..words.len().min(WORDS_OF_LINE)] {
+        put_number(&mut text, u64::from(*word), 4)?;
+        text.push(b' ')?;
     }
-    fill(out, start, WORDS)
+    put_field(out, &text, WORDS)
 }
 
 /// Writes the text of a line, with tabs as blanks.
-fn put_text(out: &mut Vec<u8>, text: &[u8]) -> Result<(), AllocError> {
-    let mut column: usize = 0;
-    for symbol in text {
-        if *symbol != b'\t' {
-            out.push(*symbol)?;
-            column = column.saturating_add(if is_first_byte(*symbol) { 1 } else { 0 });
-            continue;
+fn put_text(out: &mut Vec<u8>, text: &[u8]) -> Result<(), AllocError>
+    ensures { OnOk result (out.new.items ≡ out.old.items ++ without_tabs 0 text.now) }
+{
+    let mut column = 0;
+    for byte in text {
+        if *byte == b'\t' {
+            put_field(out, b"", TAB - column)?;
+            column = 0;
+        } else {
+            out.push(*byte)?;
+            column = next_column(column, *byte);
         }
-        let next = (column / TAB).saturating_add(1).saturating_mul(TAB);
-        for _ in column..next {
-            out.push(b' ')?;
-        }
-        column = next;
     }
     Ok(())
 }
 
-/// Returns whether a byte begins a character of UTF-8.
-fn is_first_byte(byte: u8) -> bool {
-    byte & 0o300 != 0o200
-}
-
-/// Writes blanks up to a column of the line that begins at a place.
-fn fill(out: &mut Vec<u8>, start: usize, column: usize) -> Result<(), AllocError> {
-    for _ in out.len()..start.saturating_add(column) {
-        out.push(b' ')?;
+/// Returns the column after a byte, modulo 8. A byte that goes on with a character of UTF-8 has none of its own.
+fn next_column(column: usize, byte: u8) -> usize
+    requires { column < 8 }
+    ensures below { result < 8 }
+    ensures next { result ≡ (if bit_and byte 0o300 == 0o200 then column else (column + 1) % 8) }
+{
+    if byte & 0o300 == 0o200 {
+        column
+    } else {
+        (column + 1) % TAB
     }
-    Ok(())
-}
-
-/// Ends the line that begins at a place, without blanks at its end.
-fn end_line(out: &mut Vec<u8>, start: usize) -> Result<(), AllocError> {
-    let length = length_without_blanks(out.get(start..).unwrap_or(b""));
-    out.truncate(start.saturating_add(length));
-    out.push(b'\n')?;
-    Ok(())
 }

@@ -1,8 +1,9 @@
 //! Writes statements as the lines of a source.
 ghost use Rattle.std.specs.Prelude.{◌≡◌, ◌∷◌, ◌++◌, IfOk, OnOk};
 ghost use Rattle.pp_arith.specs.Octal.{octal_text};
-ghost use Rattle.pp_assembler.specs.SourceText.{name_text, numbers, operand_text, operands, operation_name, optional};
+ghost use Rattle.pp_assembler.specs.SourceText.{name_text, numbers, operand_text, operands, operation_name};
 ghost use Rattle.pp_assembler.specs.SourceText.{source_line, source_text, symbols, variable};
+ghost use Rattle.pp_assembler.specs.Texts.{optional};
 
 use crate::columns::{put_field, put_line, put_number};
 use crate::instructions::NAMES;
