@@ -20,16 +20,6 @@ pub struct Statement {
     pub operand: Field,
 }
 
-impl Statement {
-    fn new(location: Field, operation: Field, operand: Field) -> Self {
-        Statement {
-            location,
-            operation,
-            operand,
-        }
-    }
-}
-
 /// How lines are cut.
 #[derive(Clone, Copy)]
 pub enum Origin {
@@ -182,13 +172,18 @@ pub fn statement_of(
     }
     let location = location_of(line);
     let first = after_blanks(line, location.end);
-    if first >= line.len() {
-        let none = Field::new(location.end, location.end);
-        return Ok(Some(Statement::new(location, none, none)));
-    }
-    let operation = Field::new(first, end_of_word(line, first));
-    let operand = operand_of(line, operation, origin, vocabulary)?;
-    Ok(Some(Statement::new(location, operation, operand)))
+    let none = Field::new(location.end, location.end);
+    let (operation, operand) = if first < line.len() {
+        let operation = Field::new(first, end_of_word(line, first));
+        (operation, operand_of(line, operation, origin, vocabulary)?)
+    } else {
+        (none, none)
+    };
+    Ok(Some(Statement {
+        location,
+        operation,
+        operand,
+    }))
 }
 
 /// The parts of an operand between commas that are in no text.

@@ -82,17 +82,6 @@ pub struct Line {
     pub call: Option<Call>,
 }
 
-impl Line {
-    /// Returns the line with another text, which is read as the listing has it.
-    fn with_text(self, text: Span) -> Self {
-        Line {
-            text,
-            read: text,
-            ..self
-        }
-    }
-}
-
 /// The lines of a source, with their text and the same in capitals.
 #[derive(Drop)]
 pub struct Lines {
@@ -137,7 +126,6 @@ impl Lines {
         part.of(self.capitals_of(line))
     }
 
-    /// Adds bytes to the text.
     fn add_text(&mut self, bytes: &[u8]) -> Result<(), AllocError> {
         self.text.extend_from_slice(bytes)?;
         for byte in bytes {
@@ -147,11 +135,12 @@ impl Lines {
     }
 
     /// Adds a line with another text, and returns its index.
-    pub fn add(&mut self, line: Line, bytes: &[u8]) -> Result<usize, AllocError> {
+    pub fn add(&mut self, mut line: Line, bytes: &[u8]) -> Result<usize, AllocError> {
         let first = self.text.len();
         self.add_text(bytes)?;
-        let text = Span::new(first, self.text.len());
-        self.all.push(line.with_text(text))?;
+        line.text = Span::new(first, self.text.len());
+        line.read = line.text;
+        self.all.push(line)?;
         Ok(self.all.len().wrapping_sub(1))
     }
 
@@ -164,14 +153,10 @@ impl Lines {
         Ok(index)
     }
 
-    /// Adds a line of the source.
     fn add_line(&mut self, number: u32, bytes: &[u8]) -> Result<(), AllocError> {
-        let joins = Span::new(self.joins.len(), self.joins.len());
-        let line = Line {
-            number,
-            joins,
-            ..Line::default()
-        };
+        let mut line = Line::default();
+        line.number = number;
+        line.joins = Span::new(self.joins.len(), self.joins.len());
         self.add(line, bytes)?;
         Ok(())
     }
@@ -213,15 +198,14 @@ impl Lines {
             number,
             first,
         })?;
-        let joins = Span::new(last.joins.first, self.joins.len());
-        let text = Span::new(last.text.first, self.text.len());
         if let Some(line) = self.all.last_mut() {
-            *line = Line { joins, ..last }.with_text(text);
+            line.joins.end = self.joins.len();
+            line.text.end = self.text.len();
+            line.read = line.text;
         }
         Ok(())
     }
 
-    /// Adds the lines of a source.
     fn add_source(&mut self, source: &[u8], spans: &[Span]) -> Result<(), AllocError> {
         let mut number: u32 = 0;
         for span in spans {
@@ -239,7 +223,6 @@ impl Lines {
     }
 }
 
-/// Returns a line without the carriage returns at its end.
 fn without_returns(line: &[u8]) -> &[u8] {
     match line.iter().rposition(|byte| *byte != b'\r') {
         Some(last) => line.get(..=last).unwrap_or(line),

@@ -3,7 +3,7 @@ use crate::encoding::{bits_of, index_of};
 use crate::fields::Statement;
 use crate::message::{Fault, Field, Outcome, Stop};
 use crate::pass::{Here, OpenWord, Pass};
-use crate::texts::{Text, are_in_code, before_mark, code_of, digits_of, tail, text_at};
+use crate::texts::{Text, are_in_code, before_mark, code_of, digits_of, no_code, tail, text_at};
 
 const WORD_BITS: u32 = 12;
 
@@ -82,7 +82,7 @@ impl Pass {
         let is_blank = |symbol: &u8| digits > 0 && *symbol == b'\t';
         let is_wrong = |symbol: &&u8| code_of(**symbol).is_none() && !is_blank(*symbol);
         if let Some(symbol) = text.symbols.iter().find(is_wrong) {
-            self.report(here, column, Fault::no_display_code(*symbol))?;
+            self.report(here, column, no_code(*symbol))?;
             return Ok(vec![in self.alloc; 0; text.size_in_words() / 2]?);
         }
         let mut words = Vec::new(self.alloc);

@@ -97,16 +97,6 @@ impl Fault {
     pub fn count(self, count: usize) -> Self {
         self.decimal(u32::try_from(count).unwrap_or(u32::MAX))
     }
-
-    /// Returns that a text has no such symbol at its end.
-    pub fn no_text_end(symbol: u8) -> Self {
-        Fault::new("the text has no {} at its end").symbol(symbol)
-    }
-
-    /// Returns that a symbol has no display code.
-    pub fn no_display_code(symbol: u8) -> Self {
-        Fault::new("display code has no '{}'").symbol(symbol)
-    }
 }
 
 /// Why a statement, or a part of it, has no value.

@@ -114,16 +114,13 @@ fn equal_characters<'a>(one: &'a [u8], other: &'a [u8]) -> usize {
         let (length, first, other_first) = longest_run(one, other);
         if length > 0 {
             equal = equal.wrapping_add(length);
-            let _ = parts.try_push((head(one, first), head(other, other_first)));
+            let (before, other_before) = (one.get(..first), other.get(..other_first));
+            let _ = parts.try_push((before.unwrap_or(b""), other_before.unwrap_or(b"")));
             let (end, other_end) = (first.wrapping_add(length), other_first.wrapping_add(length));
             let _ = parts.try_push((tail(one, end), tail(other, other_end)));
         }
     }
     equal
-}
-
-fn head(text: &[u8], end: usize) -> &[u8] {
-    text.get(..end).unwrap_or(b"")
 }
 
 /// Returns the length of the longest run of equal characters in two names, the first one of several, and where it begins in each.

@@ -431,10 +431,6 @@ fn text_field(operand: Field, text: Text, bits: u32) -> Outcome<u64> {
         return Err(fault.part(operand).decimal(bits).at(operand.first));
     }
     are_in_code(text.symbols, operand.first)?;
-    let number = text.number(size);
-    Ok(
-        number
-            .and_then(|number| u64::try_from(number).ok())
-            .unwrap_or(0),
-    )
+    let number = text.number(size).unwrap_or(0);
+    Ok(u64::try_from(number).unwrap_or(0))
 }

@@ -181,7 +181,13 @@ impl Symbols {
     pub fn define(&mut self, line: &[u8], field: Field, definition: Definition) -> Outcome<()> {
         let name = field.of(line);
         if end_of_name(name, 0) != Some(name.len()) {
-            return Err(Stop::of(why_no_symbol(name), field));
+            let text = match name.first() {
+                Some(b'$' | b'=' | b'0'..=b'9') => {
+                    "{} is no symbol: a symbol begins with no digit, $ or ="
+                }
+                _ => "{} is no symbol: a symbol has none of + - * / , ^ ( ) _ \"",
+            };
+            return Err(Stop::of(text, field));
         }
         if name.len() > LONGEST {
             return Err(Stop::of("the symbol {} is longer than 8 characters", field));
@@ -249,15 +255,5 @@ impl Symbol {
     /// Returns whether this pass or the one before has met the name.
     pub fn is_known(&self) -> bool {
         self.seen.is_some() || self.before.is_some()
-    }
-}
-
-/// Returns why a text is no symbol.
-fn why_no_symbol(text: &[u8]) -> &'static str {
-    match text.first() {
-        Some(b'$' | b'=' | b'0'..=b'9') => {
-            "{} is no symbol: a symbol begins with no digit, $ or ="
-        }
-        _ => "{} is no symbol: a symbol has none of + - * / , ^ ( ) _ \"",
     }
 }

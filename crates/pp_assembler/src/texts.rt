@@ -162,7 +162,8 @@ fn counted(line: &[u8], at: usize, kind: u8, first: usize, count: u32) -> Outcom
 
 /// Returns the symbols before a mark. Without it, a column has a fault.
 pub fn before_mark(text: &[u8], mark: u8, column: usize) -> Outcome<&[u8]> {
-    let end = find(text, 0, mark).ok_or(Fault::no_text_end(mark).at(column))?;
+    let fault = Fault::new("the text has no {} at its end").symbol(mark);
+    let end = find(text, 0, mark).ok_or(fault.at(column))?;
     Ok(text.get(..end).unwrap_or(b""))
 }
 
@@ -172,10 +173,15 @@ pub fn code_of(symbol: u8) -> Option<u8> {
     u8::try_from(code).ok()
 }
 
+/// Returns that a symbol has no display code.
+pub fn no_code(symbol: u8) -> Fault {
+    Fault::new("display code has no '{}'").symbol(symbol)
+}
+
 /// Returns that a column has a fault if a symbol of a text has no display code.
 pub fn are_in_code(symbols: &[u8], column: usize) -> Outcome<()> {
     match symbols.iter().find(|symbol| code_of(**symbol).is_none()) {
-        Some(symbol) => Err(Fault::no_display_code(*symbol).at(column)),
+        Some(symbol) => Err(no_code(*symbol).at(column)),
         None => Ok(()),
     }
 }

@@ -190,8 +190,7 @@ impl<'a> Expression<'a> {
     fn counter(&mut self, after: &'a [u8]) -> Value {
         let (letter, rest) = match after {
             [b'*'] | [b'*', b'-' | b'+' | b'/', ..] => (b'*', tail(after, 1)),
-            [letter @ (b'L' | b'O'), rest @ ..] if !goes_on(rest) && rest.first() != Some(&b'=') =>
-                { (*letter, rest) }
+            [letter @ (b'L' | b'O'), rest @ ..] if !goes_on(rest, b".$=") => (*letter, rest),
             _ => (b'L', after),
         };
         self.rest = rest;
@@ -260,11 +259,7 @@ fn size_of_name(text: &[u8]) -> Option<usize> {
     if text.first() != Some(&b'/') {
         return end_of_name(text, 0);
     }
-    let end = next_where(
-        text,
-        1,
-        |symbol| matches!(symbol, b'/' | b',' | b' ' | 0x09..=0x0d),
-    );
+    let end = next_where(text, 1, |symbol| b"/, \t\n\x0b\x0c\r".contains(symbol));
     if text.get(end) != Some(&b'/') {
         return None;
     }
@@ -280,10 +275,10 @@ struct Number<'a> {
     rest: &'a [u8],
 }
 
-/// Returns whether a number or a name goes on with a text.
-fn goes_on(text: &[u8]) -> bool {
+/// Returns whether a number or a counter goes on with a text: with a letter, a digit or one of other symbols.
+fn goes_on(text: &[u8], others: &[u8]) -> bool {
     match text {
-        [symbol, ..] => is_alphanumeric(*symbol) || b".$".contains(symbol),
+        [symbol, ..] => is_alphanumeric(*symbol) || others.contains(symbol),
         [] => false,
     }
 }
@@ -305,7 +300,7 @@ fn number_of(text: &[u8]) -> Option<Number<'_>> {
     } else {
         rest
     };
-    if digits.is_empty() || goes_on(rest) {
+    if digits.is_empty() || goes_on(rest, b".$") {
         return None;
     }
     Some(Number {
