@@ -34,7 +34,7 @@ impl Order {
         }
     }
 
-    fn holds(self, one: i64, other: i64) -> bool {
+    pub fn holds(self, one: i64, other: i64) -> bool {
         match self {
             Order::Equal => one == other,
             Order::NotEqual => one != other,

@@ -1,6 +1,6 @@
 //! A line cut into the fields of a statement: location, operation and operand. The comment is left out.
-use crate::message::{Fault, Field, Stop};
-use crate::texts::{after_blanks, end_of_word, is_blank, text_at};
+use crate::message::{Fault, Field, Outcome, Stop};
+use crate::texts::{after_blanks, end_of_word, find, is_blank, next_where, text_at};
 use crate::vocabulary::Vocabulary;
 
 const TAB: usize = 8;
@@ -10,7 +10,7 @@ const NOTHING_BEFORE: &str =
 /// The column, from 0, from which on no operand begins.
 const FIRST_OF_COMMENTS: usize = 29;
 /// The column after the last one of a statement; what is there is a sequence number.
-pub const LAST_COLUMN: usize = 72;
+const LAST_COLUMN: usize = 72;
 
 /// The fields of a statement. The column of one that is missing is that of the field before it.
 #[derive(Clone, Copy)]
@@ -32,38 +32,31 @@ pub enum Origin {
 }
 
 /// Returns whether a symbol is a blank, as at the end of a line.
-pub fn is_space(symbol: u8) -> bool {
+fn is_space(symbol: u8) -> bool {
     matches!(symbol, b' ' | 0x09..=0x0d | 0x1c..=0x1f)
 }
 
 /// Returns whether a text has nothing but blanks.
 pub fn is_empty(text: &[u8]) -> bool {
-    for symbol in text {
-        if !is_space(*symbol) {
-            return false;
-        }
-    }
-    true
+    text.iter().all(|symbol| is_space(*symbol))
 }
 
 /// Returns the length of a text without the blanks at its end.
 pub fn length_without_blanks(text: &[u8]) -> usize {
-    let mut length: usize = 0;
-    for at in 0..text.len() {
-        if let Some(symbol) = text.get(at) {
-            if !is_space(*symbol) {
-                length = at.saturating_add(1);
-            }
-        }
-    }
-    length
+    let last = text.iter().rposition(|symbol| !is_space(*symbol));
+    last.map_or(0, |last| last.saturating_add(1))
+}
+
+/// Returns the columns of a line that a statement has.
+pub fn in_columns(line: &[u8]) -> &[u8] {
+    line.get(..LAST_COLUMN).unwrap_or(line)
 }
 
 /// Returns the column on paper, with tabs.
 fn column_on_paper(line: &[u8], to: usize) -> usize {
     let mut column: usize = 0;
-    for at in 0..to {
-        column = if line.get(at) == Some(&b'\t') {
+    for symbol in line.iter().take(to) {
+        column = if *symbol == b'\t' {
             (column / TAB).saturating_add(1).saturating_mul(TAB)
         } else {
             column.saturating_add(1)
@@ -74,12 +67,11 @@ fn column_on_paper(line: &[u8], to: usize) -> usize {
 
 /// Returns the label, which begins in the first or the second column.
 fn location_of(line: &[u8]) -> Field {
-    let first = if line.first() == Some(&b' ') && !is_blank(line, 1) {
-        1
-    } else {
-        0
+    let first = match line {
+        [b' ', symbol, ..] if !is_blank(*symbol) => 1,
+        _ => 0,
     };
-    Field::new(first, end_of_word(line, first).max(first))
+    Field::new(first, end_of_word(line, first))
 }
 
 /// Returns whether the operand of an operation has texts with blanks.
@@ -89,44 +81,32 @@ fn is_of_text(operation: &[u8]) -> bool {
 
 /// Returns a line up to its last column. An operand that goes on there is whole, but not one with texts.
 fn without_sequence(line: &[u8], is_text: bool) -> &[u8] {
-    if line.len() <= LAST_COLUMN || crate::texts::find(line, 0, b'\t').is_some() {
-        return line;
-    }
-    let is_going_on = line.get(LAST_COLUMN - 1) != Some(&b' ')
-        && line.get(LAST_COLUMN) != Some(&b' ');
-    if is_going_on && !is_text {
+    let ends = line.get(LAST_COLUMN - 1..=LAST_COLUMN).unwrap_or(b"");
+    let is_going_on = !is_text && !ends.contains(&b' ');
+    if is_going_on || find(line, 0, b'\t').is_some() {
         line
     } else {
-        line.get(..LAST_COLUMN).unwrap_or(line)
-    }
-}
-
-fn is_before_text(symbol: Option<&u8>) -> bool {
-    match symbol {
-        Some(symbol) => matches!(*symbol, b'=' | b',' | b'+' | b'-' | b'*' | b'/'),
-        None => false,
+        in_columns(line)
     }
 }
 
 /// Returns the column after a text that begins at a column, or else the next one.
-fn after_text(line: &[u8], at: usize, start: usize, is_delimited: bool) -> Result<usize, Stop> {
+fn after_text(line: &[u8], at: usize, start: usize, is_delimited: bool) -> Outcome<usize> {
     let next = at.saturating_add(1);
-    if at != start && !is_before_text(line.get(at.wrapping_sub(1))) {
+    let before = line.get(at.wrapping_sub(1)).copied().unwrap_or(b' ');
+    if at != start && !b"=,+-*/".contains(&before) {
         return Ok(next);
     }
-    match text_at(line, at, is_delimited)? {
-        Some(text) => Ok(text.end.max(next)),
-        None => Ok(next),
-    }
+    let found = text_at(line, at, is_delimited)?;
+    Ok(found.map_or(next, |text| text.end.max(next)))
 }
 
-/// Returns where an operand ends: at a blank that is in no text.
-fn end_of_operand(line: &[u8], start: usize, is_data: bool) -> Result<usize, Stop> {
-    let is_delimited = is_data || line.get(start) == Some(&b'=');
+/// Returns the first column from a start on that has one of some symbols and is in no text, or the length of the line.
+fn end_outside_texts(line: &[u8], start: usize, ends: &[u8], is_delimited: bool) -> Outcome<usize> {
     let mut next = start;
-    for at in start..line.len() {
+    for (at, symbol) in line.iter().enumerate() {
         if at == next {
-            if is_blank(line, at) {
+            if ends.contains(symbol) {
                 return Ok(at);
             }
             next = after_text(line, at, start, is_delimited)?;
@@ -138,17 +118,14 @@ fn end_of_operand(line: &[u8], start: usize, is_data: bool) -> Result<usize, Sto
 /// Returns where the operands of a macro's call end: at a blank that is in no parentheses.
 fn end_of_arguments(line: &[u8], start: usize) -> usize {
     let mut depth: u32 = 0;
-    for at in start..line.len() {
-        if depth == 0 && is_blank(line, at) {
-            return at;
-        }
-        match line.get(at) {
-            Some(b'(') => depth = depth.saturating_add(1),
-            Some(b')') => depth = depth.saturating_sub(1),
+    next_where(line, start, |symbol| {
+        match symbol {
+            b'(' => depth = depth.saturating_add(1),
+            b')' => depth = depth.saturating_sub(1),
             _ => {}
         }
-    }
-    line.len()
+        depth == 0 && is_blank(*symbol)
+    })
 }
 
 /// Returns the operand: what comes next, if it begins before the column of comments, or one blank after the operation.
@@ -157,7 +134,7 @@ fn operand_of(
     operation: Field,
     origin: Origin,
     vocabulary: &Vocabulary,
-) -> Result<Field, Stop> {
+) -> Outcome<Field> {
     let name = operation.of(whole);
     let line = if matches!(origin, Origin::Source) {
         without_sequence(whole, is_of_text(name))
@@ -175,7 +152,8 @@ fn operand_of(
     } else if vocabulary.macro_of(name).is_some() {
         end_of_arguments(line, start)
     } else {
-        end_of_operand(line, start, matches!(name, b"DATA"))?
+        let is_delimited = matches!(name, b"DATA") || line.get(start) == Some(&b'=');
+        end_outside_texts(line, start, b" \t", is_delimited)?
     };
     Ok(Field::new(start, end))
 }
@@ -185,25 +163,22 @@ pub fn statement_of(
     line: &[u8],
     origin: Origin,
     vocabulary: &Vocabulary,
-) -> Result<Option<Statement>, Stop> {
-    if is_empty(line) || line.first() == Some(&b'*') {
-        return Ok(None);
-    }
-    if line.first() == Some(&b',') {
-        return Err(Stop::At(0, Fault::new(NOTHING_BEFORE)));
+) -> Outcome<Option<Statement>> {
+    match line {
+        [b'*', ..] => return Ok(None),
+        [b',', ..] => return Err(Fault::new(NOTHING_BEFORE).at(0)),
+        _ if is_empty(line) => return Ok(None),
+        _ => {}
     }
     let location = location_of(line);
     let first = after_blanks(line, location.end);
-    if first >= line.len() {
-        let none = Field::new(location.end, location.end);
-        return Ok(Some(Statement {
-            location,
-            operation: none,
-            operand: none,
-        }));
-    }
-    let operation = Field::new(first, end_of_word(line, first));
-    let operand = operand_of(line, operation, origin, vocabulary)?;
+    let none = Field::new(location.end, location.end);
+    let (operation, operand) = if first < line.len() {
+        let operation = Field::new(first, end_of_word(line, first));
+        (operation, operand_of(line, operation, origin, vocabulary)?)
+    } else {
+        (none, none)
+    };
     Ok(Some(Statement {
         location,
         operation,
@@ -225,47 +200,24 @@ impl Parts {
     pub fn new(operand: Field, is_delimited: bool) -> Self {
         Parts {
             operand,
-            next: if operand.is_empty() { None } else { Some(0) },
+            next: (!operand.is_empty()).then_some(0),
             is_delimited,
         }
     }
 
     /// Returns the next part, or `None` after the last one.
-    pub fn next(&mut self, line: &[u8]) -> Result<Option<Field>, Stop> {
+    pub fn next(&mut self, line: &[u8]) -> Outcome<Option<Field>> {
         let Some(start) = self.next else {
             return Ok(None);
         };
         let text = self.operand.of(line);
-        let end = match end_of_part(text, start, self.is_delimited) {
+        let end = match end_outside_texts(text, start, b",", self.is_delimited) {
             Ok(end) => end,
-            Err(Stop::At(column, fault)) => return Err(Stop::At(
-                self.operand.first.saturating_add(column),
-                fault,
-            )),
-            Err(stop) => return Err(stop),
+            Err(stop) => return Err(stop.moved(self.operand.first)),
         };
-        self.next = if end < text.len() {
-            Some(end.saturating_add(1))
-        } else {
-            None
-        };
-        let first = self.operand.first;
-        Ok(Some(Field::new(first.saturating_add(start), first.saturating_add(end))))
+        self.next = (end < text.len()).then_some(end.saturating_add(1));
+        Ok(Some(self.operand.part(start, end)))
     }
-}
-
-/// Returns where a part of an operand ends.
-fn end_of_part(text: &[u8], start: usize, is_delimited: bool) -> Result<usize, Stop> {
-    let mut next = start;
-    for at in start..text.len() {
-        if at == next {
-            if text.get(at) == Some(&b',') {
-                return Ok(at);
-            }
-            next = after_text(text, at, start, is_delimited)?;
-        }
-    }
-    Ok(text.len())
 }
 
 /// The first parts of an operand, and how many it has.
@@ -276,21 +228,20 @@ pub struct FirstParts {
 }
 
 /// Returns the first parts of an operand, all of which can be read.
-pub fn first_parts(line: &[u8], operand: Field, is_delimited: bool) -> Result<FirstParts, Stop> {
+pub fn first_parts(line: &[u8], operand: Field, is_delimited: bool) -> Outcome<FirstParts> {
     let mut parts = Parts::new(operand, is_delimited);
     let mut found = FirstParts {
         count: 0,
         parts: [operand; 3],
     };
-    for _ in 0..line.len().saturating_add(1) {
+    for count in 0..=line.len() {
         let Some(part) = parts.next(line)? else {
             break;
         };
-        let count = found.count;
         if let Some(place) = found.parts.get_mut(count) {
             *place = part;
         }
-        found.count = found.count.saturating_add(1);
+        found.count = count.saturating_add(1);
     }
     Ok(found)
 }

@@ -3,8 +3,8 @@ ghost use Rattle.std.specs.Prelude.{◌≡◌, IfOk, map};
 ghost use Rattle.pp_assembler.specs.Places.{length_of, line_lengths};
 ghost use Rattle.pp_assembler.specs.Texts.{between};
 
-use crate::fields::{LAST_COLUMN, is_empty, length_without_blanks};
-use crate::message::Field;
+use crate::fields::{in_columns, is_empty, length_without_blanks};
+use crate::texts::tail;
 use std::alloc::{AllocError, Global};
 
 /// How many lines continue one.
@@ -21,8 +21,8 @@ static SUBR: [&[u8]; SUBR_LINES] = [
 /// How many lines it has.
 pub const SUBR_LINES: usize = 4;
 
-/// The bytes of a line of the source.
-#[derive(Clone, Copy)]
+/// Bytes of a text, as of a source, of all lines or of a line: the first one, from 0, and the one after the last.
+#[derive(Clone, Copy, Default)]
 pub struct Span {
     pub first: usize,
     pub end: usize,
@@ -33,9 +33,9 @@ impl Span {
         Span { first, end }
     }
 
-    /// Returns a text without bytes.
+    /// Returns the span without bytes.
     pub fn none() -> Self {
-        Span::new(0, 0)
+        Span::default()
     }
 
     pub fn is_empty(self) -> bool {
@@ -47,6 +47,12 @@ impl Span {
         ensures { result.now ≡ between all.now self.first self.end }
     {
         all.get(self.first..self.end).unwrap_or(b"")
+    }
+
+    /// Returns a part of it, from a byte to before another one.
+    pub fn part(self, first: usize, end: usize) -> Self {
+        let place = |at: usize| self.first.saturating_add(at);
+        Span::new(place(first), place(end))
     }
 }
 
@@ -66,7 +72,7 @@ pub struct Call {
 }
 
 /// A line with those that continue it, or a line that another one made.
-#[derive(Clone, Copy)]
+#[derive(Clone, Copy, Default)]
 pub struct Line {
     /// The number of its first line, from 1.
     pub number: u32,
@@ -113,20 +119,16 @@ impl Lines {
 
     /// Returns the joins of a line.
     pub fn joins_of(&self, line: Line) -> &[Join] {
-        self.joins
-            .get(line.joins.first..line.joins.end)
-            .unwrap_or(&[])
+        let Span { first, end } = line.joins;
+        self.joins.get(first..end).unwrap_or(&[])
     }
 
     /// Returns a part of the line with an index, in capitals.
-    pub fn part_of(&self, index: usize, part: Field) -> &[u8] {
-        match self.all.get(index) {
-            Some(line) => part.of(self.capitals_of(*line)),
-            None => b"",
-        }
+    pub fn part_of(&self, index: usize, part: Span) -> &[u8] {
+        let line = self.all.get(index).copied().unwrap_or_default();
+        part.of(self.capitals_of(line))
     }
 
-    /// Adds bytes to the text.
     fn add_text(&mut self, bytes: &[u8]) -> Result<(), AllocError> {
         self.text.extend_from_slice(bytes)?;
         for byte in bytes {
@@ -136,15 +138,12 @@ impl Lines {
     }
 
     /// Adds a line with another text, and returns its index.
-    pub fn add(&mut self, line: Line, bytes: &[u8]) -> Result<usize, AllocError> {
+    pub fn add(&mut self, mut line: Line, bytes: &[u8]) -> Result<usize, AllocError> {
         let first = self.text.len();
         self.add_text(bytes)?;
-        let text = Span::new(first, self.text.len());
-        self.all.push(Line {
-            text,
-            read: text,
-            ..line
-        })?;
+        line.text = Span::new(first, self.text.len());
+        line.read = line.text;
+        self.all.push(line)?;
         Ok(self.all.len().wrapping_sub(1))
     }
 
@@ -157,20 +156,11 @@ impl Lines {
         Ok(index)
     }
 
-    /// Adds a line of the source.
     fn add_line(&mut self, number: u32, bytes: &[u8]) -> Result<(), AllocError> {
-        let joins = self.joins.len();
-        let nothing = Span::none();
-        self.add(
-            Line {
-                number,
-                text: nothing,
-                read: nothing,
-                joins: Span::new(joins, joins),
-                call: None,
-            },
-            bytes,
-        )?;
+        let mut line = Line::default();
+        line.number = number;
+        line.joins = Span::new(self.joins.len(), self.joins.len());
+        self.add(line, bytes)?;
         Ok(())
     }
 
@@ -186,54 +176,39 @@ impl Lines {
 
     /// Returns the last line, if another one may continue it.
     fn continued(&self) -> Option<Line> {
-        let line = self.all.last().copied()?;
+        let line = *self.all.last()?;
         let text = self.text_of(line);
         let is_note = line.number == 0 || text.first() == Some(&b'*') || is_empty(text);
-        let joins = line.joins.end.wrapping_sub(line.joins.first);
-        if is_note || joins >= MOST_JOINS {
-            None
-        } else {
-            Some(line)
-        }
+        (!is_note && self.joins_of(line).len() < MOST_JOINS).then_some(line)
     }
 
     /// Adds a line that continues the last one, which goes on after its last symbol.
     fn join(&mut self, number: u32, last: Line, bytes: &[u8]) -> Result<(), AllocError> {
         let text = self.text_of(last);
-        let is_first = last.joins.first == last.joins.end;
-        let kept = text.get(..LAST_COLUMN).unwrap_or(text);
-        let length = if is_first {
-            length_without_blanks(kept)
+        let column = if last.joins.is_empty() {
+            length_without_blanks(in_columns(text))
         } else {
             text.len()
         };
-        let first = last.text.first;
-        self.text.truncate(first.saturating_add(length));
-        self.capitals.truncate(first.saturating_add(length));
-        let more = bytes
-            .get(..LAST_COLUMN)
-            .unwrap_or(bytes)
-            .get(1..)
-            .unwrap_or(b"");
-        self.add_text(more.get(..length_without_blanks(more)).unwrap_or(b""))?;
+        let end = last.text.first.saturating_add(column);
+        self.text.truncate(end);
+        self.capitals.truncate(end);
+        let more = tail(in_columns(bytes), 1);
+        self.add_text(Span::new(0, length_without_blanks(more)).of(more))?;
+        let first = 2; // its comma is in column 1
         self.joins.push(Join {
-            column: length,
+            column,
             number,
-            first: 2, // its comma is in column 1
+            first,
         })?;
-        let text = Span::new(first, self.text.len());
-        let line = Line {
-            text,
-            read: text,
-            joins: Span::new(last.joins.first, self.joins.len()),
-            ..last
-        };
-        let _ = self.all.pop();
-        self.all.push(line)?;
+        if let Some(line) = self.all.last_mut() {
+            line.joins.end = self.joins.len();
+            line.text.end = self.text.len();
+            line.read = line.text;
+        }
         Ok(())
     }
 
-    /// Adds the lines of a source.
     fn add_source(&mut self, source: &[u8], spans: &[Span]) -> Result<(), AllocError> {
         let mut number: u32 = 0;
         for span in spans {
@@ -251,15 +226,11 @@ impl Lines {
     }
 }
 
-/// Returns a line without the carriage returns at its end.
 fn without_returns(line: &[u8]) -> &[u8] {
-    let mut length: usize = 0;
-    for at in 0..line.len() {
-        if line.get(at) != Some(&b'\r') {
-            length = at.saturating_add(1);
-        }
+    match line.iter().rposition(|byte| *byte != b'\r') {
+        Some(last) => line.get(..=last).unwrap_or(line),
+        None => b"",
     }
-    line.get(..length).unwrap_or(line)
 }
 
 /// Returns where the lines of a source are, each without its line feed.

@@ -1,35 +1,6 @@
 //! What is wrong in a source.
-use crate::lines::Span;
+pub use crate::lines::Span as Field;
 use std::alloc::{AllocError, AllocFailed};
-
-/// A part of a line: its first column, from 0, and the column after its last one.
-#[derive(Clone, Copy)]
-pub struct Field {
-    pub first: usize,
-    pub end: usize,
-}
-
-impl Field {
-    /// Returns the part that begins at a column, from 0, and ends before another one.
-    pub fn new(first: usize, end: usize) -> Self {
-        Field { first, end }
-    }
-
-    /// Returns a part without symbols.
-    pub fn none() -> Self {
-        Field::new(0, 0)
-    }
-
-    /// Returns whether the part has no symbol.
-    pub fn is_empty(self) -> bool {
-        self.end <= self.first
-    }
-
-    /// Returns the text of the part, of the text of its line.
-    pub fn of(self, line: &[u8]) -> &[u8] {
-        line.get(self.first..self.end).unwrap_or(b"")
-    }
-}
 
 /// What stands in the text of a fault in place of a `{}`.
 #[derive(Clone, Copy)]
@@ -52,11 +23,11 @@ pub enum Argument {
     /// The instruction that takes a greater operand than that with this code, if there is one.
     Wider(Field, u8),
     /// A name that the symbols keep.
-    Kept(Span),
+    Kept(Field),
     /// What reaches the target of the relative jump with this code.
     Reaching(Field, u8),
     /// The names of a macro's operands.
-    Names(Span),
+    Names(Field),
 }
 
 /// What is wrong: a text, and what stands in it in place of each `{}`.
@@ -82,15 +53,19 @@ impl Fault {
     }
 
     /// Returns the fault with one more argument, after those that it has.
-    pub fn with(self, argument: Argument) -> Self {
-        let mut fault = self;
+    pub fn with(mut self, argument: Argument) -> Self {
         match (self.first, self.second, self.third) {
-            (Argument::Nothing, ..) => fault.first = argument,
-            (_, Argument::Nothing, _) => fault.second = argument,
-            (_, _, Argument::Nothing) => fault.third = argument,
-            _ => fault.fourth = argument,
+            (Argument::Nothing, ..) => self.first = argument,
+            (_, Argument::Nothing, _) => self.second = argument,
+            (_, _, Argument::Nothing) => self.third = argument,
+            _ => self.fourth = argument,
         }
-        fault
+        self
+    }
+
+    /// Returns that it is at a column, from 0.
+    pub fn at(self, column: usize) -> Stop {
+        Stop::At(column, self)
     }
 
     pub fn part(self, part: Field) -> Self {
@@ -122,16 +97,6 @@ impl Fault {
     pub fn count(self, count: usize) -> Self {
         self.decimal(u32::try_from(count).unwrap_or(u32::MAX))
     }
-
-    /// Returns that a text has no such symbol at its end.
-    pub fn no_text_end(symbol: u8) -> Self {
-        Fault::new("the text has no {} at its end").symbol(symbol)
-    }
-
-    /// Returns that a symbol has no display code.
-    pub fn no_display_code(symbol: u8) -> Self {
-        Fault::new("display code has no '{}'").symbol(symbol)
-    }
 }
 
 /// Why a statement, or a part of it, has no value.
@@ -149,10 +114,21 @@ pub enum Stop {
     NoMemory,
 }
 
+/// What a statement, or a part of it, stands for, or why there is nothing.
+pub type Outcome<T> = Result<T, Stop>;
+
 impl Stop {
     /// Returns a fault at the first column of a part, which is its argument.
     pub fn of(text: &'static str, part: Field) -> Self {
-        Stop::At(part.first, Fault::new(text).part(part))
+        Fault::new(text).part(part).at(part.first)
+    }
+
+    /// Returns a fault of a part as that of a line, in which the part begins at a column.
+    pub fn moved(self, first: usize) -> Self {
+        match self {
+            Stop::At(column, fault) => Stop::At(first.saturating_add(column), fault),
+            stop => stop,
+        }
     }
 
     pub fn too_much(text: &'static str) -> Self {
@@ -161,10 +137,8 @@ impl Stop {
 
     /// Returns that this assembler does not know a part of the line yet.
     pub fn not_yet(part: Field) -> Self {
-        Stop::Ends(
-            part.first,
-            Fault::new("{} is not taken by this assembler yet").part(part),
-        )
+        let fault = Fault::new("{} is not taken by this assembler yet");
+        Stop::Ends(part.first, fault.part(part))
     }
 }
 
@@ -200,4 +174,16 @@ pub struct Message {
     /// The index of the statement that has the parts.
     pub statement: usize,
     pub fault: Fault,
+}
+
+impl Message {
+    pub fn new(line: u32, column: usize, statement: usize, fault: Fault) -> Self {
+        let column = u32::try_from(column).unwrap_or(u32::MAX);
+        Message {
+            line,
+            column,
+            statement,
+            fault,
+        }
+    }
 }

@@ -5,7 +5,7 @@ use crate::fields::{Statement, first_parts};
 use crate::lines::{Line, Lines, Span};
 use crate::message::{Fault, Field, Stop};
 use crate::pass::{Here, Pass};
-use crate::symbols::end_of_name;
+use crate::symbols::{Definition, end_of_name};
 use crate::texts::find;
 use crate::values::Base;
 use crate::vocabulary::Meaning;
@@ -168,7 +168,12 @@ impl Pass {
             return Err(Stop::of("{} is no micro", name));
         };
         let count = i64::try_from(text.end.saturating_sub(text.first)).unwrap_or(0);
-        self.define(here, statement.location, Some(count), false, true)?;
+        let meaning = Definition {
+            value: Some(count),
+            is_set: true,
+            ..Definition::default()
+        };
+        self.define(here, statement.location, meaning)?;
         self.value_row(here, Some(count), true)
     }
 }

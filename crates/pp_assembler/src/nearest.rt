@@ -1,5 +1,7 @@
 //! The name that may be meant by one that is not known.
+use crate::texts::{find, tail};
 use arrayvec::ArrayVec;
+use std::mem;
 
 /// How many names are looked at for the nearest.
 const MOST_NEAR: usize = 9;
@@ -63,37 +65,25 @@ impl<'a> Nearest<'a> {
         let mut last = near;
         for kept in &mut self.near {
             if last.is_before(kept) {
-                let other = *kept;
-                *kept = last;
-                last = other;
+                mem::swap(kept, &mut last);
             }
         }
         let _ = self.near.try_push(last);
     }
 
-    /// Returns the name that may be meant: of the nearest ones, that which begins alike.
+    /// Returns the name that may be meant: of the nearest ones, the first that begins alike the longest.
     pub fn found(&self) -> Option<&'a [u8]> {
-        let mut best = None;
-        let mut most: usize = 0;
-        for near in &self.near {
-            let count = equal_at_beginning(near.name, self.name);
-            if best.is_none() || count > most {
-                best = Some(near.name);
-                most = count;
-            }
-        }
-        best
+        let alike = |near: &&Near| equal_at_beginning(near.name, self.name);
+        let best = self.near.iter().rev().max_by_key(alike)?;
+        Some(best.name)
     }
 }
 
 /// Returns how many characters are equal at the beginning of two names.
 fn equal_at_beginning(one: &[u8], other: &[u8]) -> usize {
-    for at in 0..one.len() {
-        if one.get(at) != other.get(at) {
-            return at;
-        }
-    }
-    one.len()
+    let mut pairs = one.iter().zip(other);
+    let end = one.len().min(other.len());
+    pairs.position(|(one, other)| one != other).unwrap_or(end)
 }
 
 /// Returns whether names have about the same length, and one has more than half of the characters of the other.
@@ -103,15 +93,10 @@ fn are_alike(one: &[u8], name: &[u8]) -> bool {
     }
     let mut all: usize = 0;
     let mut common: usize = 0;
-    for at in 0..name.len() {
-        let Some(symbol) = name.get(at) else {
-            break;
-        };
-        if !name.get(..at).unwrap_or(b"").contains(symbol) {
+    for (at, symbol) in name.iter().enumerate() {
+        if find(name, 0, *symbol) == Some(at) {
             all = all.wrapping_add(1);
-            if one.contains(symbol) {
-                common = common.wrapping_add(1);
-            }
+            common = common.wrapping_add(usize::from(one.contains(symbol)));
         }
     }
     common.wrapping_mul(2) > all
@@ -122,66 +107,43 @@ fn equal_characters<'a>(one: &'a [u8], other: &'a [u8]) -> usize {
     let mut parts: ArrayVec<(&'a [u8], &'a [u8]), MOST_PARTS> = ArrayVec::new();
     let _ = parts.try_push((one, other));
     let mut equal: usize = 0;
-    for _ in 0..one.len().saturating_mul(2).saturating_add(1) {
+    for _ in 0..=one.len().saturating_mul(2) {
         let Some((one, other)) = parts.pop() else {
             break;
         };
-        let Run {
-            first,
-            other_first,
-            length,
-        } = longest_run(one, other);
+        let (length, first, other_first) = longest_run(one, other);
         if length > 0 {
             equal = equal.wrapping_add(length);
-            let (end, other_end) = (
-                first.saturating_add(length),
-                other_first.saturating_add(length),
-            );
-            let before = (one.get(..first), other.get(..other_first));
-            let after = (one.get(end..), other.get(other_end..));
-            for part in [before, after] {
-                if let (Some(one), Some(other)) = part {
-                    let _ = parts.try_push((one, other));
-                }
-            }
+            let (before, other_before) = (one.get(..first), other.get(..other_first));
+            let _ = parts.try_push((before.unwrap_or(b""), other_before.unwrap_or(b"")));
+            let (end, other_end) = (first.wrapping_add(length), other_first.wrapping_add(length));
+            let _ = parts.try_push((tail(one, end), tail(other, other_end)));
         }
     }
     equal
 }
 
-/// Equal characters of two names: where they begin in each, and how many they are.
-#[derive(Clone, Copy)]
-struct Run {
-    first: usize,
-    other_first: usize,
-    length: usize,
-}
-
-/// Returns the longest run of equal characters in two names, the first one of several.
-fn longest_run(one: &[u8], other: &[u8]) -> Run {
-    let mut best = Run {
-        first: 0,
-        other_first: 0,
-        length: 0,
-    };
+/// Returns the length of the longest run of equal characters in two names, the first one of several, and where it begins in each.
+fn longest_run(one: &[u8], other: &[u8]) -> (usize, usize, usize) {
+    let mut best = (0, 0, 0);
     for first in 0..one.len() {
-        best = longest_run_at(one, other, first, best);
+        best = longest_run_at(tail(one, first), first, other, best);
     }
     best
 }
 
-/// Returns the longest run of equal characters that begins at a character of the first name, or the best one before it if none is longer.
-fn longest_run_at(one: &[u8], other: &[u8], first: usize, best: Run) -> Run {
+/// Returns the longest run that begins with the rest of a name from a character on, or the best one before it if none is longer.
+fn longest_run_at(
+    rest: &[u8],
+    first: usize,
+    other: &[u8],
+    best: (usize, usize, usize),
+) -> (usize, usize, usize) {
     let mut best = best;
-    let rest = one.get(first..).unwrap_or(b"");
     for other_first in 0..other.len() {
-        let length = equal_at_beginning(rest, other.get(other_first..).unwrap_or(b""));
-        if length > best.length {
-            best = Run {
-                first,
-                other_first,
-                length,
-            };
+        let length = equal_at_beginning(rest, tail(other, other_first));
+        if length > best.0 {
+            best = (length, first, other_first);
         }
     }
     best

@@ -28,7 +28,8 @@ pub enum Operation {
     Set,
     Greatest,
     Least,
-    Error(Test),
+    /// ERR, or one of those that are errors if their operand has an order to zero.
+    Error(Option<Order>),
     Name,
     Base,
     Deck,
@@ -61,16 +62,6 @@ pub enum Elsewhere {
     Purge,
 }
 
-/// Which values are errors of the source.
-#[derive(Clone, Copy)]
-pub enum Test {
-    Always,
-    NotZero,
-    Zero,
-    Plus,
-    Minus,
-}
-
 const NO_SUCH_INSTRUCTION: &str = "the 6600 has no such instruction";
 
 /// The operations that are no instructions, each with its names.
@@ -87,11 +78,11 @@ pub static OPERATIONS: [(&str, Operation); 61] = [
     ("SET", Set),
     ("MAX", Greatest),
     ("MIN", Least),
-    ("ERR", Error(Test::Always)),
-    ("ERRNZ", Error(Test::NotZero)),
-    ("ERRZR", Error(Test::Zero)),
-    ("ERRPL", Error(Test::Plus)),
-    ("ERRMI ERRNG", Error(Test::Minus)),
+    ("ERR", Error(None)),
+    ("ERRNZ", Error(Some(Order::NotEqual))),
+    ("ERRZR", Error(Some(Order::Equal))),
+    ("ERRPL", Error(Some(Order::NotLess))),
+    ("ERRMI ERRNG", Error(Some(Order::Less))),
     ("IDENT", Operation::Name),
     ("BASE", Base),
     ("PERIPH", Deck),
@@ -152,22 +143,9 @@ pub fn operation_of(name: &[u8]) -> Operation {
     if let Some(code) = code_of(name) {
         return Operation::Instruction(code);
     }
-    for (names, operation) in &OPERATIONS {
-        if has_word(names, name) {
-            return *operation;
-        }
-    }
-    Operation::Unknown
-}
-
-/// Returns whether a name is one of several with blanks between them.
-fn has_word(names: &str, name: &[u8]) -> bool {
-    for one in names.split_whitespace() {
-        if one.as_bytes() == name {
-            return true;
-        }
-    }
-    false
+    let is_it = |names: &str| names.split_whitespace().any(|one| one.as_bytes() == name);
+    let found = OPERATIONS.iter().find(|(names, _)| is_it(names));
+    found.map_or(Operation::Unknown, |(_, operation)| *operation)
 }
 
 /// Returns whether a name is that of an instruction or a directive.

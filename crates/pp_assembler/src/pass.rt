@@ -2,12 +2,12 @@
 use crate::fields::Statement;
 use crate::lines::{Join, Line, Lines, Span};
 use crate::macros::Repetition;
-use crate::message::{Argument, Fault, Field, Message, Stop};
+use crate::message::{Argument, Fault, Field, Message, Outcome, Stop};
 use crate::running::{Job, Run};
 use crate::symbols::{Definition, Symbols};
-use crate::texts::{Filling, Text, text_at, without_code};
+use crate::texts::{Text, are_in_code, text_at};
 use crate::units::{Blocks, Literals, Unit};
-use crate::values::{Base, Expression, Scope, Value, number_of};
+use crate::values::{Base, Expression, Value};
 use crate::vocabulary::Vocabulary;
 use std::alloc::{AllocError, Global};
 
@@ -34,14 +34,7 @@ pub struct Here<'a> {
 impl<'a> Here<'a> {
     /// Returns a line with an index.
     pub fn new(lines: &'a Lines, index: usize) -> Self {
-        let nothing = Span::none();
-        let line = lines.all.get(index).copied().unwrap_or(Line {
-            number: 0,
-            text: nothing,
-            read: nothing,
-            joins: nothing,
-            call: None,
-        });
+        let line = lines.all.get(index).copied().unwrap_or_default();
         Here {
             index,
             line,
@@ -52,56 +45,35 @@ impl<'a> Here<'a> {
 
     /// Returns where a part of the line is in the capitals of all lines.
     pub fn span_of(&self, part: Field) -> Span {
-        let before = self.line.read.first;
-        Span::new(
-            before.saturating_add(part.first),
-            before.saturating_add(part.end),
-        )
+        self.line.read.part(part.first, part.end)
     }
 
     /// Returns the line and the column, from 1, of a column of the line, from 0.
     pub fn place_of(&self, column: usize) -> (u32, usize) {
-        if let Some(call) = self.line.call {
-            return (self.line.number, call.column.saturating_add(1));
-        }
-        let mut place = (self.line.number, column.saturating_add(1));
-        for join in self.joins {
-            if join.column <= column {
-                place = (
-                    join.number,
-                    column
-                        .saturating_sub(join.column)
-                        .saturating_add(join.first),
-                );
-            }
-        }
-        place
+        let (number, before, first) = match self.line.call {
+            Some(call) => (self.line.number, column, call.column.saturating_add(1)),
+            None => match self.joins.iter().rev().find(|join| join.column <= column) {
+                Some(join) => (join.number, join.column, join.first),
+                None => (self.line.number, 0, 1),
+            },
+        };
+        (number, column.saturating_sub(before).saturating_add(first))
     }
 
     /// Returns a message about a column of the line.
     pub fn message(&self, column: usize, fault: Fault) -> Message {
         let (line, column) = self.place_of(column);
-        Message {
-            line,
-            column: u32::try_from(column).unwrap_or(u32::MAX),
-            statement: self.index,
-            fault,
-        }
+        Message::new(line, column, self.index, fault)
     }
 
     /// Returns a message of the line that is the last one.
     pub fn last_message(&self, fault: Fault) -> Message {
-        Message {
-            line: self.line.number,
-            column: 1,
-            statement: usize::MAX,
-            fault,
-        }
+        Message::new(self.line.number, 1, usize::MAX, fault)
     }
 }
 
 /// What the source puts into a cell; the line, from 1, is 0 if there is nothing.
-#[derive(Clone, Copy)]
+#[derive(Clone, Copy, Default)]
 pub struct Slot {
     pub word: u16,
     pub line: u32,
@@ -188,7 +160,7 @@ impl Pass {
         blocks: Blocks,
         is_last: bool,
     ) -> Result<Self, AllocError> {
-        let cells = vec![in alloc; Slot { word: 0, line: 0 }; CELLS]?;
+        let cells = vec![in alloc; Slot::default(); CELLS]?;
         let mut pass = Pass {
             is_last,
             symbols,
@@ -234,25 +206,17 @@ impl Pass {
     }
 
     /// Counts one more statement.
-    pub fn count_statement(&mut self) -> Result<(), Stop> {
-        self.performed = self.performed.saturating_add(1);
-        if self.performed > MOST_STATEMENTS {
-            return Err(too_many_statements());
-        }
-        Ok(())
+    pub fn count_statement(&mut self) -> Outcome<()> {
+        count_one(&mut self.performed)
     }
 
     /// Counts one more line that another one makes.
-    pub fn count_made(&mut self) -> Result<(), Stop> {
-        self.made_lines = self.made_lines.saturating_add(1);
-        if self.made_lines > MOST_STATEMENTS {
-            return Err(too_many_statements());
-        }
-        Ok(())
+    pub fn count_made(&mut self) -> Outcome<()> {
+        count_one(&mut self.made_lines)
     }
 
     /// Keeps a fault of a line. Only the last pass does so.
-    pub fn report(&mut self, here: &Here, column: usize, fault: Fault) -> Result<(), Stop> {
+    pub fn report(&mut self, here: &Here, column: usize, fault: Fault) -> Outcome<()> {
         if !self.is_last {
             return Ok(());
         }
@@ -260,7 +224,7 @@ impl Pass {
     }
 
     /// Keeps why something has no value, if that is a fault of the line, and returns what stops the pass.
-    pub fn report_stop(&mut self, here: &Here, stop: Stop) -> Result<(), Stop> {
+    pub fn report_stop(&mut self, here: &Here, stop: Stop) -> Outcome<()> {
         match stop {
             Stop::At(column, fault) => self.report(here, column, fault),
             Stop::Follows => Ok(()),
@@ -269,13 +233,14 @@ impl Pass {
     }
 
     /// Keeps a warning, of each kind the first one.
-    pub fn warn(&mut self, here: &Here, column: usize, fault: Fault) -> Result<(), Stop> {
+    pub fn warn(&mut self, here: &Here, column: usize, fault: Fault) -> Outcome<()> {
         self.warn_at(here.message(column, fault))
     }
 
     /// Keeps a warning at its place, of each kind the first one.
-    pub fn warn_at(&mut self, message: Message) -> Result<(), Stop> {
-        if !self.is_last || has_kind(&self.warnings, message.fault) {
+    pub fn warn_at(&mut self, message: Message) -> Outcome<()> {
+        let is_known = |warning: &Message| warning.fault.text == message.fault.text;
+        if !self.is_last || self.warnings.iter().any(is_known) {
             return Ok(());
         }
         Ok(self.warnings.push(message)?)
@@ -289,67 +254,27 @@ impl Pass {
         self.open = None;
     }
 
-    /// Gives a name of a line a value, or reports why that can't be.
-    pub fn define(
-        &mut self,
-        here: &Here,
-        name: Field,
-        value: Option<i64>,
-        is_address: bool,
-        is_set: bool,
-    ) -> Result<(), Stop> {
-        self.define_as(
-            here,
-            name,
-            Definition {
-                value,
-                line: here.line.number,
-                is_address,
-                is_set,
-                is_here: false,
-            },
-        )
-    }
-
-    /// Gives a name of a line its meaning, or reports why that can't be.
-    pub fn define_as(
-        &mut self,
-        here: &Here,
-        name: Field,
-        definition: Definition,
-    ) -> Result<(), Stop> {
-        match self.symbols.define(here.text, name, definition) {
-            Ok(()) => Ok(()),
-            Err(stop) => self.report_stop(here, stop),
-        }
+    /// Gives a name its meaning by a line, or reports why that can't be.
+    pub fn define(&mut self, here: &Here, name: Field, meaning: Definition) -> Outcome<()> {
+        let line = here.line.number;
+        let defined = self
+            .symbols
+            .define(here.text, name, Definition { line, ..meaning });
+        self.reported(here, defined, ())
     }
 
     /// Gives the present address to the label of a statement, if it has one.
-    pub fn label(&mut self, here: &Here, statement: Statement) -> Result<(), Stop> {
+    pub fn label(&mut self, here: &Here, statement: Statement) -> Outcome<()> {
         let name = statement.location.of(here.text);
         if matches!(name, b"" | b"+" | b"-") {
             return Ok(());
         }
-        self.define(here, statement.location, Some(self.location), true, false)
+        self.define(here, statement.location, Definition::address(self.location))
     }
 
     /// Returns the value of an expression. Names count only from the lines above if that is asked.
-    pub fn value(
-        &mut self,
-        here: &Here,
-        operand: Field,
-        is_from_above: bool,
-    ) -> Result<Value, Stop> {
-        let scope = Scope {
-            symbols: &self.symbols,
-            is_last: self.is_last,
-            base: self.base,
-            is_deck: self.is_deck,
-            origin: self.origin,
-            location: self.location,
-            is_from_above,
-        };
-        let mut expression = Expression::new(here.text, operand, scope);
+    pub fn value(&mut self, here: &Here, operand: Field, is_from_above: bool) -> Outcome<Value> {
+        let mut expression = Expression::new(self, here.text, operand, is_from_above);
         let value = expression.value();
         if let Some(digits) = expression.decimal {
             let fault = Fault::new("warning: {} is decimal, as in COMPASS without BASE");
@@ -359,24 +284,35 @@ impl Pass {
     }
 
     /// Returns a number of an expression, which has at most 60 bits.
-    pub fn number(
-        &mut self,
-        here: &Here,
-        operand: Field,
-        is_from_above: bool,
-    ) -> Result<i64, Stop> {
+    pub fn number(&mut self, here: &Here, operand: Field, is_from_above: bool) -> Outcome<i64> {
         let value = self.value(here, operand, is_from_above)?;
         Ok(i64::try_from(value.number).unwrap_or(0))
     }
 
     /// Returns a number up to octal 7777 whose names are known from the lines above.
-    pub fn count(&mut self, here: &Here, operand: Field, least: i64) -> Result<i64, Stop> {
+    pub fn count(&mut self, here: &Here, operand: Field, least: i64) -> Outcome<i64> {
         let number = self.number(here, operand, true)?;
         if number < least || number >= CELLS as i64 {
             let fault = Fault::new("{} (octal) is no number from {} to 7777");
-            return Err(Stop::At(operand.first, fault.octal(number).octal(least)));
+            return Err(fault.octal(number).octal(least).at(operand.first));
         }
         Ok(number)
+    }
+
+    /// Returns what is found, or something else if there is a fault, which is reported.
+    pub fn reported<T: Drop>(
+        &mut self,
+        here: &Here,
+        found: Outcome<T>,
+        otherwise: T,
+    ) -> Outcome<T> {
+        match found {
+            Ok(value) => Ok(value),
+            Err(stop) => {
+                self.report_stop(here, stop)?;
+                Ok(otherwise)
+            }
+        }
     }
 
     /// Returns an operand as a number of so many bits, at most 60; 0 if it is wrong, which is reported. The code is that of the
@@ -387,20 +323,9 @@ impl Pass {
         operand: Field,
         bits: u32,
         code: Option<u8>,
-    ) -> Result<u64, Stop> {
+    ) -> Outcome<u64> {
         let number = self.checked_field(here, operand, bits, code);
-        self.reported(here, number)
-    }
-
-    /// Returns a number; 0 if it is wrong, which is reported.
-    pub fn reported(&mut self, here: &Here, number: Result<u64, Stop>) -> Result<u64, Stop> {
-        match number {
-            Ok(number) => Ok(number),
-            Err(stop) => {
-                self.report_stop(here, stop)?;
-                Ok(0)
-            }
-        }
+        self.reported(here, number, 0)
     }
 
     /// Returns an operand as a number of so many bits: minus is the ones complement.
@@ -410,12 +335,13 @@ impl Pass {
         operand: Field,
         bits: u32,
         code: Option<u8>,
-    ) -> Result<u64, Stop> {
+    ) -> Outcome<u64> {
         let text = operand.of(here.text);
-        if let Some(alone) = text_at(text, 0, false)? {
-            if alone.end == text.len() && alone.kind != b'R' {
-                return text_field(operand, text, alone, bits);
-            }
+        if let Some(alone) = text_at(text, 0, false)?
+            && alone.end == text.len()
+            && alone.kind != b'R'
+        {
+            return text_field(operand, alone, bits);
         }
         let number = if text.first() == Some(&b'=') {
             self.literal(here, operand)?
@@ -426,117 +352,85 @@ impl Pass {
     }
 
     /// Returns a number without a name as one of so many bits.
-    pub fn number_field(&mut self, here: &Here, operand: Field, bits: u32) -> Result<u64, Stop> {
+    pub fn number_field(&mut self, here: &Here, operand: Field, bits: u32) -> Outcome<u64> {
         let number = self.number(here, operand, false)?;
         fitting(here, operand, number, bits, None)
     }
 
-    /// Returns what the listing has of a line without words.
-    fn row_of(&self, here: &Here) -> Row {
-        let end = self.words.len();
-        Row {
+    /// Adds a line to the listing, in the last pass.
+    fn add_row(
+        &mut self,
+        here: &Here,
+        words: &[u16],
+        has_address: bool,
+        value: Option<i64>,
+        is_set: bool,
+    ) -> Outcome<()> {
+        if !self.is_last {
+            return Ok(());
+        }
+        let first = self.words.len();
+        self.words.extend_from_slice(words)?;
+        let row = Row {
             statement: here.index,
             origin: self.origin,
             location: self.location,
-            first: end,
-            end,
-            has_address: false,
-            value: None,
-            is_set: false,
-        }
+            first,
+            end: self.words.len(),
+            has_address,
+            value,
+            is_set,
+        };
+        Ok(self.rows.push(row)?)
     }
 
     /// Adds a line with words to the listing.
-    pub fn row(&mut self, here: &Here, words: &[u16]) -> Result<(), Stop> {
-        if !self.is_last {
-            return Ok(());
-        }
-        let row = Row {
-            has_address: true,
-            end: self.words.len().saturating_add(words.len()),
-            ..self.row_of(here)
-        };
-        self.words.extend_from_slice(words)?;
-        self.add_row(row)
+    pub fn row(&mut self, here: &Here, words: &[u16]) -> Outcome<()> {
+        self.add_row(here, words, true, None, false)
     }
 
     /// Adds a line without words to the listing.
-    pub fn plain_row(&mut self, here: &Here, has_address: bool) -> Result<(), Stop> {
-        self.add_row(Row {
-            has_address,
-            ..self.row_of(here)
-        })
+    pub fn plain_row(&mut self, here: &Here, has_address: bool) -> Outcome<()> {
+        self.add_row(here, &[], has_address, None, false)
     }
 
     /// Adds a line that names a number to the listing.
-    pub fn value_row(&mut self, here: &Here, value: Option<i64>, is_set: bool) -> Result<(), Stop> {
-        self.add_row(Row {
-            value,
-            is_set,
-            ..self.row_of(here)
-        })
-    }
-
-    /// Adds a line to the listing, in the last pass.
-    pub fn add_row(&mut self, row: Row) -> Result<(), Stop> {
-        if !self.is_last {
-            return Ok(());
-        }
-        Ok(self.rows.push(row)?)
+    pub fn value_row(&mut self, here: &Here, value: Option<i64>, is_set: bool) -> Outcome<()> {
+        self.add_row(here, &[], false, value, is_set)
     }
 }
 
-/// Returns whether there is a warning of the kind of a fault.
-fn has_kind(warnings: &[Message], fault: Fault) -> bool {
-    for warning in warnings {
-        if warning.fault.text == fault.text {
-            return true;
-        }
+/// Adds one to a count, which has a most.
+fn count_one(count: &mut u32) -> Outcome<()> {
+    *count = count.saturating_add(1);
+    if *count > MOST_STATEMENTS {
+        return Err(too_many_statements());
     }
-    false
+    Ok(())
 }
 
 /// Returns a number as one of so many bits: minus is the ones complement.
-fn fitting(
-    here: &Here,
-    operand: Field,
-    number: i64,
-    bits: u32,
-    code: Option<u8>,
-) -> Result<u64, Stop> {
+fn fitting(here: &Here, operand: Field, number: i64, bits: u32, code: Option<u8>) -> Outcome<u64> {
     let top = 1i64.wrapping_shl(bits).wrapping_sub(1);
     if number > top || number < top.wrapping_neg() {
         let fault = Fault::new("{} (octal) does not fit in {} (decimal) bits{}");
         let fault = fault.octal(number).decimal(bits);
-        return Err(Stop::At(
-            operand.first,
-            match code {
-                Some(code) => fault.with(Argument::Wider(operand, code)),
-                None => fault,
-            },
-        ));
+        let wider = |code: u8| fault.with(Argument::Wider(operand, code));
+        return Err(code.map_or(fault, wider).at(operand.first));
     }
-    let positive = if matches!(operand.of(here.text), b"-0") {
-        top
-    } else if number >= 0 {
-        number
-    } else {
-        top.wrapping_add(number)
-    };
+    let is_minus = number < 0 || matches!(operand.of(here.text), b"-0");
+    let positive = number.wrapping_add(if is_minus { top } else { 0 });
     Ok(u64::try_from(positive).unwrap_or(0))
 }
 
 /// Returns a text as a number of so many bits.
-fn text_field(operand: Field, text: &[u8], found: Text, bits: u32) -> Result<u64, Stop> {
+fn text_field(operand: Field, text: Text, bits: u32) -> Outcome<u64> {
     let size = (bits / 6) as usize;
-    if matches!(found.kind, b'C' | b'Z') || bits % 6 != 0 || found.count > size {
+    if matches!(text.kind, b'C' | b'Z') || bits % 6 != 0 || text.count > size {
         let fault = Fault::new("the text {} does not fit in {} (decimal) bits");
-        return Err(Stop::At(operand.first, fault.part(operand).decimal(bits)));
+        return Err(fault.part(operand).decimal(bits).at(operand.first));
     }
-    let symbols = text.get(found.first..found.last).unwrap_or(b"");
-    if let Some(symbol) = without_code(symbols) {
-        return Err(Stop::At(operand.first, Fault::no_display_code(symbol)));
-    }
-    let number = number_of(Filling::new(found.kind, found.count, size), symbols).unwrap_or(0);
+    are_in_code(text.symbols, operand.first)?;
+    let number = text.number(size).unwrap_or(0);
     Ok(u64::try_from(number).unwrap_or(0))
 }

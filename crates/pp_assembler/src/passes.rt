@@ -10,7 +10,7 @@ use crate::performing::Ending;
 use crate::places::complaints;
 use crate::program::{Assembly, Cell, Program};
 use crate::symbols::Symbols;
-use crate::units::{Blocks, Unit};
+use crate::units::Blocks;
 use std::alloc::{AllocError, Global};
 
 /// How many passes there are, until each block is where the pass before has put it.
@@ -31,35 +31,31 @@ pub fn assemble(alloc: Global, source: &[u8]) -> Result<Assembly, AllocError>
 {
     let spans = cut_lines(alloc, source)?;
     let mut lines = read_lines(alloc, source, &spans)?;
-    let (pass, ending) = last_pass(alloc, &mut lines)?;
-    match ending {
-        Some(ending) => ended(alloc, lines, pass, &spans, ending),
-        None => assembly_of(alloc, lines, pass, &spans),
-    }
+    let pass = last_pass(alloc, &mut lines)?;
+    assembly_of(alloc, lines, pass, &spans)
 }
 
-/// Returns the last pass over lines, and why it does not go on to their end, if so.
-fn last_pass(alloc: Global, lines: &mut Lines) -> Result<(Pass, Option<Ending>), AllocError> {
+/// Returns the last pass over lines.
+fn last_pass(alloc: Global, lines: &mut Lines) -> Result<Pass, AllocError> {
     let mut pass = Pass::new(alloc, Symbols::new(alloc), Blocks::new(alloc), false)?;
-    if let Err(ending) = pass.run(lines) {
-        return Ok((pass, Some(ending)));
-    }
-    for _ in 1..MOST_PASSES {
-        pass = next_pass(alloc, pass)?;
-        if let Err(ending) = pass.run(lines) {
-            return Ok((pass, Some(ending)));
+    for number in 0..MOST_PASSES {
+        if number > 0 {
+            pass = next_pass(alloc, pass)?;
         }
-        if pass.has_settled() {
-            return Ok((pass, None));
+        match pass.run(lines) {
+            Ok(()) if number > 0 && pass.has_settled() => return Ok(pass),
+            Ok(()) => {}
+            Err(Ending::NoMemory) => return Err(AllocError),
+            Err(Ending::At(message)) => {
+                pass.messages.clear();
+                pass.messages.push(message)?;
+                return Ok(pass);
+            }
         }
     }
-    pass.messages.push(Message {
-        line: 1,
-        column: 1,
-        statement: usize::MAX,
-        fault: Fault::new(UNSETTLED),
-    })?;
-    Ok((pass, None))
+    let message = Message::new(1, 1, usize::MAX, Fault::new(UNSETTLED));
+    pass.messages.push(message)?;
+    Ok(pass)
 }
 
 /// Returns the pass after one, which knows what this one has found.
@@ -73,26 +69,6 @@ fn next_pass(alloc: Global, pass: Pass) -> Result<Pass, AllocError> {
     Pass::new(alloc, symbols, blocks.next(alloc), true)
 }
 
-/// Returns a program without words and with one message alone.
-fn ended(
-    alloc: Global,
-    lines: Lines,
-    pass: Pass,
-    spans: &[Span],
-    ending: Ending,
-) -> Result<Assembly, AllocError>
-    ensures messages { IfOk result (λ made. All (IsOfLine (map length_of spans.now)) made.messages.items) }
-    ensures warnings { IfOk result (λ made. All (IsOfLine (map length_of spans.now)) made.warnings.items) }
-{
-    let Ending::At(message) = ending else {
-        return Err(AllocError);
-    };
-    let mut pass = pass;
-    pass.messages.clear();
-    pass.messages.push(message)?;
-    assembly_of(alloc, lines, pass, spans)
-}
-
 /// Returns what a pass has made.
 fn assembly_of(
     alloc: Global,
@@ -103,37 +79,25 @@ fn assembly_of(
     ensures messages { IfOk result (λ made. All (IsOfLine (map length_of spans.now)) made.messages.items) }
     ensures warnings { IfOk result (λ made. All (IsOfLine (map length_of spans.now)) made.warnings.items) }
 {
-    let Pass {
-        symbols,
-        vocabulary,
-        cells,
-        words,
-        rows,
-        messages,
-        warnings,
-        start,
-        mut units,
-        ..
-    } = pass;
+    let mut units = pass.units;
     let program = if units.is_empty() {
-        program_of(alloc, &cells, start)?
+        program_of(alloc, &pass.cells, pass.start)?
     } else {
-        let Unit { program, .. } = units.remove(0);
-        program
+        units.remove(0).program
     };
     let made = Assembly {
         program,
         others: units,
         lines,
-        symbols,
-        vocabulary,
-        words,
-        rows,
+        symbols: pass.symbols,
+        vocabulary: pass.vocabulary,
+        words: pass.words,
+        rows: pass.rows,
         messages: Vec::new(alloc),
         warnings: Vec::new(alloc),
     };
-    let messages = complaints(alloc, &made, &messages, spans)?;
-    let warnings = complaints(alloc, &made, &warnings, spans)?;
+    let messages = complaints(alloc, &made, &pass.messages, spans)?;
+    let warnings = complaints(alloc, &made, &pass.warnings, spans)?;
     Ok(Assembly {
         messages,
         warnings,

@@ -1,13 +1,14 @@
 //! The names of a source: labels, and names of numbers.
 use crate::lines::Span;
-use crate::message::{Argument, Fault, Field, Stop};
+use crate::message::{Argument, Fault, Field, Outcome, Stop};
+use crate::texts::next_where;
 use std::alloc::{AllocError, Global};
 
 /// How many characters a symbol has.
 const LONGEST: usize = 8;
 
 /// What a name stands for. It has no value if its definition is wrong.
-#[derive(Clone, Copy, PartialEq, Eq)]
+#[derive(Clone, Copy, PartialEq, Eq, Default)]
 pub struct Definition {
     pub value: Option<i64>,
     /// From 1.
@@ -17,6 +18,17 @@ pub struct Definition {
     pub is_set: bool,
     /// By EQU *.
     pub is_here: bool,
+}
+
+impl Definition {
+    /// Returns what a name of an address stands for.
+    pub fn address(address: i64) -> Self {
+        Definition {
+            value: Some(address),
+            is_address: true,
+            ..Definition::default()
+        }
+    }
 }
 
 /// What a name stands for in the pass before and in this one. Its key is the name, or with a qualifier /Q/NAME.
@@ -35,8 +47,9 @@ pub struct Symbols {
     pub all: Vec<Symbol>,
     /// The labels of lines that are left out.
     passed_over: Vec<Span>,
-    /// The qualifiers that QUAL names, the present one last.
+    /// The qualifiers that QUAL names, the present one last, and their text: each between slashes.
     qualifiers: Vec<Span>,
+    qualifier_text: Vec<u8>,
 }
 
 /// Where a name is looked up, the column of a message about it, and whether only names of the lines above count.
@@ -50,35 +63,10 @@ pub struct Place {
 /// Returns the column after the name that begins at a column, if one does.
 pub fn end_of_name(text: &[u8], at: usize) -> Option<usize> {
     let first = *text.get(at)?;
-    if !first.is_ascii_uppercase() && !b".#%@&!?<>[];\\':".contains(&first) {
-        return None;
-    }
-    for end in at.saturating_add(1)..text.len() {
-        match text.get(end) {
-            Some(symbol) if continues_name(*symbol) => {}
-            _ => return Some(end),
-        }
-    }
-    Some(text.len())
-}
-
-/// Returns whether a symbol may go on with a name.
-fn continues_name(symbol: u8) -> bool {
-    !symbol.is_ascii_lowercase() && !b" \t\n\x0b\x0c\r+-*/,^\"()_".contains(&symbol)
-}
-
-/// Returns whether a key is that of a name with a qualifier, or without if that is empty.
-fn is_key(key: &[u8], qualifier: &[u8], name: &[u8]) -> bool {
-    if qualifier.is_empty() {
-        return key == name;
-    }
-    match key {
-        [b'/', rest @ ..] => match rest.strip_prefix(qualifier) {
-            Some([b'/', rest @ ..]) => rest == name,
-            _ => false,
-        },
-        _ => false,
-    }
+    let begins = first.is_ascii_uppercase() || b".#%@&!?<>[];\\':".contains(&first);
+    begins.then_some(next_where(text, at.saturating_add(1), |symbol| {
+        symbol.is_ascii_lowercase() || b" \t\n\x0b\x0c\r+-*/,^\"()_".contains(symbol)
+    }))
 }
 
 impl Symbols {
@@ -88,6 +76,7 @@ impl Symbols {
             all: Vec::new(alloc),
             passed_over: Vec::new(alloc),
             qualifiers: Vec::new(alloc),
+            qualifier_text: Vec::new(alloc),
         }
     }
 
@@ -101,7 +90,7 @@ impl Symbols {
 
     /// Returns a text that is kept.
     pub fn text_of(&self, text: Span) -> &[u8] {
-        self.text.get(text.first..text.end).unwrap_or(b"")
+        text.of(&self.text)
     }
 
     /// Begins the next pass.
@@ -115,12 +104,7 @@ impl Symbols {
 
     /// Returns whether each name stands for the same as in the pass before.
     pub fn have_settled(&self) -> bool {
-        for symbol in &self.all {
-            if symbol.before != symbol.seen {
-                return false;
-            }
-        }
-        true
+        self.all.iter().all(|symbol| symbol.before == symbol.seen)
     }
 
     /// Qualifies the names that are defined from here on; * goes back to the qualifier before.
@@ -129,15 +113,26 @@ impl Symbols {
             let _ = self.qualifiers.pop();
             return Ok(());
         }
-        let qualifier = self.keep(name)?;
+        let first = self.qualifier_text.len();
+        let slash: &[u8] = if name.is_empty() { b"" } else { b"/" };
+        for part in [slash, name, slash] {
+            self.qualifier_text.extend_from_slice(part)?;
+        }
+        let qualifier = Span::new(first, self.qualifier_text.len());
         Ok(self.qualifiers.push(qualifier)?)
+    }
+
+    /// Returns what is before a name with the present qualifier.
+    fn prefix(&self) -> &[u8] {
+        let qualifier = self.qualifiers.last().copied().unwrap_or_default();
+        qualifier.of(&self.qualifier_text)
     }
 
     /// Returns the present qualifier, which is empty if there is none.
     pub fn qualifier(&self) -> &[u8] {
-        match self.qualifiers.last() {
-            Some(qualifier) => self.text_of(*qualifier),
-            None => b"",
+        match self.prefix() {
+            [b'/', name @ .., b'/'] => name,
+            _ => b"",
         }
     }
 
@@ -149,118 +144,83 @@ impl Symbols {
 
     /// Returns whether a name is the label of a line that is left out, or that label and an X, as of a subroutine's exit.
     pub fn is_passed_over(&self, name: &[u8]) -> bool {
-        for label in &self.passed_over {
+        self.passed_over.iter().any(|label| {
             let label = self.text_of(*label);
-            if label == name || name.strip_suffix(b"X") == Some(label) {
-                return true;
-            }
-        }
-        false
+            label == name || name.strip_suffix(b"X") == Some(label)
+        })
     }
 
-    /// Returns the index of the symbol that has a name with a qualifier, or without if that is empty.
-    fn index_of(&self, qualifier: &[u8], name: &[u8]) -> Option<usize> {
-        for at in 0..self.all.len() {
-            if is_key(self.text_of(self.all[at].key), qualifier, name) {
-                return Some(at);
-            }
-        }
-        None
+    /// Returns the index of the symbol whose key is a name after a prefix.
+    fn index_of(&self, prefix: &[u8], name: &[u8]) -> Option<usize> {
+        let is_it = |symbol: &Symbol| self.text_of(symbol.key).strip_prefix(prefix) == Some(name);
+        self.all.iter().position(is_it)
+    }
+
+    fn symbol(&self, prefix: &[u8], name: &[u8]) -> Option<Symbol> {
+        self.all.get(self.index_of(prefix, name)?).copied()
     }
 
     /// Returns the symbol that a name means: with its qualifier, or else with the present one, or else without.
     pub fn meant(&self, name: &[u8]) -> Option<Symbol> {
-        if let [b'/', ..] = name {
-            let key = name.strip_prefix(b"//").unwrap_or(name);
-            return self.all.get(self.index_of(b"", key)?).copied();
+        if name.first() == Some(&b'/') {
+            return self.symbol(b"", name.strip_prefix(b"//").unwrap_or(name));
         }
-        if let Some(index) = self.index_of(self.qualifier(), name) {
-            match self.all.get(index) {
-                Some(symbol) if symbol.is_known() => return Some(*symbol),
-                _ => {}
-            }
+        match self.symbol(self.prefix(), name) {
+            Some(symbol) if symbol.is_known() => Some(symbol),
+            _ => self.symbol(b"", name),
         }
-        self.all.get(self.index_of(b"", name)?).copied()
     }
 
     /// Returns whether a line above or the pass before has defined a name.
     pub fn is_named(&self, name: &[u8]) -> bool {
-        if matches!(self.meant(name), Some(Symbol { seen: Some(_), .. })) {
-            return true;
-        }
-        let Some(index) = self.index_of(b"", name) else {
-            return false;
-        };
-        matches!(
-            self.all.get(index),
-            Some(Symbol {
-                before: Some(_),
-                ..
-            })
-        )
+        let is_later = |symbol: Symbol| symbol.before.is_some();
+        self.seen(name).is_some() || self.symbol(b"", name).is_some_and(is_later)
     }
 
     /// Gives a name of a line its meaning.
-    pub fn define(
-        &mut self,
-        line: &[u8],
-        field: Field,
-        definition: Definition,
-    ) -> Result<(), Stop> {
+    pub fn define(&mut self, line: &[u8], field: Field, definition: Definition) -> Outcome<()> {
         let name = field.of(line);
         if end_of_name(name, 0) != Some(name.len()) {
-            return Err(Stop::of(why_no_symbol(name), field));
+            let text = match name.first() {
+                Some(b'$' | b'=' | b'0'..=b'9') => {
+                    "{} is no symbol: a symbol begins with no digit, $ or ="
+                }
+                _ => "{} is no symbol: a symbol has none of + - * / , ^ ( ) _ \"",
+            };
+            return Err(Stop::of(text, field));
         }
         if name.len() > LONGEST {
             return Err(Stop::of("the symbol {} is longer than 8 characters", field));
         }
-        let Some(index) = self.index_of(self.qualifier(), name) else {
+        let Some(index) = self.index_of(self.prefix(), name) else {
             return self.add(name, definition);
         };
         let Some(symbol) = self.all.get_mut(index) else {
             return Ok(());
         };
-        match symbol.seen {
-            Some(old) if !definition.is_set || !old.is_set => {
-                let fault = Fault::new("{} is defined twice: line {} (decimal) has it too");
-                Err(Stop::At(field.first, fault.part(field).decimal(old.line)))
-            }
-            _ => {
-                symbol.seen = Some(definition);
-                Ok(())
-            }
+        if let Some(old) = symbol.seen
+            && !(definition.is_set && old.is_set)
+        {
+            let fault = Fault::new("{} is defined twice: line {} (decimal) has it too");
+            return Err(fault.part(field).decimal(old.line).at(field.first));
         }
-    }
-
-    /// Adds a text that is kept to the text of all names.
-    fn copy(&mut self, kept: Span) -> Result<(), AllocError> {
-        for at in kept.first..kept.end {
-            if let Some(symbol) = self.text.get(at).copied() {
-                self.text.push(symbol)?;
-            }
-        }
+        symbol.seen = Some(definition);
         Ok(())
     }
 
     /// Adds a name with the present qualifier.
-    fn add(&mut self, name: &[u8], definition: Definition) -> Result<(), Stop> {
+    fn add(&mut self, name: &[u8], definition: Definition) -> Outcome<()> {
         let first = self.text.len();
-        if let Some(qualifier) = self.qualifiers.last().copied() {
-            if qualifier.first < qualifier.end {
-                self.text.push(b'/')?;
-                self.copy(qualifier)?;
-                self.text.push(b'/')?;
-            }
-        }
-        self.text.extend_from_slice(name)?;
-        let key = Span::new(first, self.text.len());
-        Ok(
-            self.all.push(Symbol {
-                key,
-                before: None,
-                seen: Some(definition),
-            })?,
-        )
+        let qualifier = self.qualifiers.last().copied().unwrap_or_default();
+        let prefix = qualifier.of(&self.qualifier_text);
+        self.text.extend_from_slice(prefix)?;
+        let key = Span::new(first, self.keep(name)?.end);
+        let symbol = Symbol {
+            key,
+            before: None,
+            seen: Some(definition),
+        };
+        Ok(self.all.push(symbol)?)
     }
 
     /// Returns what a name stands for by a line above.
@@ -270,29 +230,22 @@ impl Symbols {
 
     /// Returns what a name stands for. Only a name of a line above counts if that is asked, and of SET in any case. In the first pass
     /// a name may stand for nothing yet.
-    pub fn look_up(&self, name: &[u8], at: Place, is_last: bool) -> Result<Definition, Stop> {
-        let (before, seen) = match self.meant(name) {
-            Some(symbol) => (symbol.before, symbol.seen),
-            None => (None, None),
-        };
-        match (seen, before) {
-            (Some(definition), _) => Ok(definition),
-            (None, Some(later)) if !at.is_from_above && !later.is_set => Ok(later),
-            (None, Some(later)) => {
+    pub fn look_up(&self, name: &[u8], at: Place, is_last: bool) -> Outcome<Definition> {
+        let symbol = self.meant(name);
+        if let Some(seen) = symbol.and_then(|symbol| symbol.seen) {
+            return Ok(seen);
+        }
+        match symbol.and_then(|symbol| symbol.before) {
+            Some(later) if !at.is_from_above && !later.is_set => Ok(later),
+            Some(later) => {
                 let fault = Fault::new("{} is defined only later, in line {} (decimal)");
-                Err(Stop::At(at.column, fault.part(at.name).decimal(later.line)))
+                Err(fault.part(at.name).decimal(later.line).at(at.column))
             }
-            (None, None) if !at.is_from_above && !is_last => Ok(Definition {
-                value: Some(0),
-                line: 0,
-                is_address: true,
-                is_set: false,
-                is_here: false,
-            }),
-            (None, None) if self.is_passed_over(name) => Err(Stop::Follows),
-            (None, None) => {
+            None if !at.is_from_above && !is_last => Ok(Definition::address(0)),
+            None if self.is_passed_over(name) => Err(Stop::Follows),
+            None => {
                 let fault = Fault::new("{} is not defined{}").part(at.name);
-                Err(Stop::At(at.column, fault.with(Argument::NearestSymbol(at.name))))
+                Err(fault.with(Argument::NearestSymbol(at.name)).at(at.column))
             }
         }
     }
@@ -302,15 +255,5 @@ impl Symbol {
     /// Returns whether this pass or the one before has met the name.
     pub fn is_known(&self) -> bool {
         self.seen.is_some() || self.before.is_some()
-    }
-}
-
-/// Returns why a text is no symbol.
-fn why_no_symbol(text: &[u8]) -> &'static str {
-    match text.first() {
-        Some(b'$' | b'=' | b'0'..=b'9') => {
-            "{} is no symbol: a symbol begins with no digit, $ or ="
-        }
-        _ => "{} is no symbol: a symbol has none of + - * / , ^ ( ) _ \"",
     }
 }

@@ -1,5 +1,6 @@
 //! Texts in display code: 3HABC, 0HABC up to a comma or a blank, H*ABC* between two equal symbols.
-use crate::message::{Fault, Stop};
+use crate::message::{Fault, Outcome, Stop};
+use crate::values::product;
 
 /// How many symbols a line has. Blanks at its end may be lost.
 pub const LONGEST: usize = 72;
@@ -11,22 +12,14 @@ pub static SYMBOLS: &[u8; 64] =
 /// The display code of a blank.
 const BLANK: u8 = 0o55;
 
-/// A text: its kind, the columns of its symbols, how many it has with blanks at its end, and the column after it.
-#[derive(Clone, Copy)]
-pub struct Text {
-    pub kind: u8,
-    pub first: usize,
-    pub last: usize,
-    pub count: usize,
-    pub end: usize,
+/// Returns a line from a column on.
+pub fn tail(line: &[u8], from: usize) -> &[u8] {
+    line.get(from..).unwrap_or(b"")
 }
 
-/// Returns whether a column has no symbol; there is none after the end of a line.
-pub fn is_blank(line: &[u8], at: usize) -> bool {
-    match line.get(at) {
-        Some(symbol) => matches!(*symbol, b' ' | b'\t'),
-        None => true,
-    }
+/// Returns whether a symbol is a blank within a line.
+pub fn is_blank(symbol: u8) -> bool {
+    matches!(symbol, b' ' | b'\t')
 }
 
 /// Returns whether a symbol is a letter or digit that goes on with a name or a number.
@@ -34,207 +27,161 @@ pub fn is_alphanumeric(symbol: u8) -> bool {
     symbol.is_ascii_uppercase() || symbol.is_ascii_digit()
 }
 
+/// Returns the column of the first symbol at or after a column that passes a test, or the length of the line.
+pub fn next_where<F: FnMut(&u8) -> bool>(line: &[u8], from: usize, test: F) -> usize
+    requires { (state : F) (x : _) → F.pre state x }
+{
+    match tail(line, from).iter().position(test) {
+        Some(distance) => from.saturating_add(distance),
+        None => line.len(),
+    }
+}
+
 /// Returns the column of the first blank at or after a column, or the length of the line.
 pub fn end_of_word(line: &[u8], from: usize) -> usize {
-    for at in from..line.len() {
-        if is_blank(line, at) {
-            return at;
-        }
-    }
-    line.len()
+    next_where(line, from, |symbol| is_blank(*symbol))
 }
 
 /// Returns the first column at or after one that has a symbol, or the length of the line.
 pub fn after_blanks(line: &[u8], from: usize) -> usize {
-    for at in from..line.len() {
-        if !is_blank(line, at) {
-            return at;
-        }
-    }
-    line.len()
-}
-
-/// Returns the column of the first comma or blank at or after a column, or the length of the line.
-fn end_of_symbols(line: &[u8], from: usize) -> usize {
-    for at in from..line.len() {
-        if is_blank(line, at) || line.get(at) == Some(&b',') {
-            return at;
-        }
-    }
-    line.len()
+    next_where(line, from, |symbol| !is_blank(*symbol))
 }
 
 /// Returns the column of a symbol at or after a column.
 pub fn find(line: &[u8], from: usize, symbol: u8) -> Option<usize> {
-    for at in from..line.len() {
-        if line.get(at) == Some(&symbol) {
-            return Some(at);
+    let distance = tail(line, from).iter().position(|one| *one == symbol)?;
+    distance.checked_add(from)
+}
+
+/// Returns the number of decimal digits that a text begins with, up to a most, and their value.
+pub fn digits_of(text: &[u8], most: usize) -> (usize, u32) {
+    let mut count: usize = 0;
+    let mut value: u32 = 0;
+    for symbol in text.iter().take(most) {
+        if !symbol.is_ascii_digit() {
+            break;
+        }
+        let digit = u32::from(symbol.wrapping_sub(b'0'));
+        value = value.wrapping_mul(10).wrapping_add(digit);
+        count = count.wrapping_add(1);
+    }
+    (count, value)
+}
+
+/// A text: its kind, its symbols, how many it has with blanks that the line has lost, and the column after it.
+#[derive(Clone, Copy)]
+pub struct Text<'a> {
+    pub kind: u8,
+    pub symbols: &'a [u8],
+    pub count: usize,
+    pub end: usize,
+}
+
+impl<'a> Text<'a> {
+    pub fn new(kind: u8, symbols: &'a [u8], count: usize, end: usize) -> Self {
+        Text {
+            kind,
+            symbols,
+            count,
+            end,
         }
     }
-    None
+
+    /// Returns how many codes fill whole words. C ends in a word of zero, Z in a symbol of zero at least.
+    pub fn size_in_words(self) -> usize {
+        let size = self.count.saturating_add(match self.kind {
+            b'C' => 2,
+            b'Z' => 1,
+            _ => 0,
+        });
+        size.saturating_add(size % 2)
+    }
+
+    /// Returns the code at an index of the text filled up to a size: H and A with blanks, the others with zeros; R and A before it.
+    pub fn code(self, index: usize, size: usize) -> u8 {
+        let before = match self.kind {
+            b'R' | b'A' => size.saturating_sub(self.count),
+            _ => 0,
+        };
+        let at = index.wrapping_sub(before);
+        match self.symbols.get(at) {
+            Some(symbol) => code_of(*symbol).unwrap_or(BLANK),
+            None if at < self.count || matches!(self.kind, b'H' | b'A') => BLANK,
+            None => 0,
+        }
+    }
+
+    /// Returns the codes of the filled text as one number, if it is not too great.
+    pub fn number(self, size: usize) -> Option<i64> {
+        let mut number: i64 = 0;
+        for index in 0..size {
+            number = product(number, 0o100)?.checked_add(i64::from(self.code(index, size)))?;
+        }
+        Some(number)
+    }
 }
 
 fn is_kind(symbol: u8) -> bool {
     matches!(symbol, b'H' | b'L' | b'R' | b'A' | b'C' | b'Z')
 }
 
-/// Returns the number of decimal digits from a column on, up to a most, and their value.
-pub fn digits_at(line: &[u8], from: usize, most: usize) -> (usize, u32) {
-    let mut value: u32 = 0;
-    let mut count: usize = 0;
-    for at in from..line.len() {
-        match line.get(at) {
-            Some(symbol) if symbol.is_ascii_digit() && count < most => {
-                value = value
-                    .wrapping_mul(10)
-                    .wrapping_add(u32::from(symbol.wrapping_sub(b'0')));
-                count = count.wrapping_add(1);
-            }
-            _ => break,
-        }
-    }
-    (count, value)
-}
-
 /// Returns the text that begins at a column, if one does. One between two symbols is a text only where that is allowed.
-pub fn text_at(line: &[u8], at: usize, is_delimited: bool) -> Result<Option<Text>, Stop> {
-    let (digits, count) = digits_at(line, at, 9);
+pub fn text_at(line: &[u8], at: usize, is_delimited: bool) -> Outcome<Option<Text<'_>>> {
+    let (digits, count) = digits_of(tail(line, at), 9);
     let start = at.saturating_add(digits);
-    let Some(kind) = line.get(start) else {
-        return Ok(None);
-    };
-    if !is_kind(*kind) {
-        return Ok(None);
+    match tail(line, start) {
+        [kind, ..] if digits > 0 && is_kind(*kind) => {
+            Ok(Some(counted(line, at, *kind, start.saturating_add(1), count)?))
+        }
+        [kind, mark, rest @ ..]
+            if is_delimited && is_kind(*kind) && !is_alphanumeric(*mark) && *mark != b' ' => {
+            let symbols = before_mark(rest, *mark, at)?;
+            let end = at.saturating_add(symbols.len()).saturating_add(3);
+            Ok(Some(Text::new(*kind, symbols, symbols.len(), end)))
+        }
+        _ => Ok(None),
     }
-    let first = start.saturating_add(1);
-    if digits > 0 {
-        return counted(line, at, *kind, first, count);
-    }
-    if !is_delimited {
-        return Ok(None);
-    }
-    delimited(line, at, *kind, first)
 }
 
 /// Returns the text of so many symbols.
-fn counted(
-    line: &[u8],
-    at: usize,
-    kind: u8,
-    first: usize,
-    count: u32,
-) -> Result<Option<Text>, Stop> {
-    let symbols = count as usize;
-    let end = if symbols > 0 {
-        first.saturating_add(symbols)
+fn counted(line: &[u8], at: usize, kind: u8, first: usize, count: u32) -> Outcome<Text<'_>> {
+    let wanted = count as usize;
+    let end = if wanted > 0 {
+        first.saturating_add(wanted)
     } else {
-        end_of_symbols(line, first)
+        next_where(line, first, |symbol| is_blank(*symbol) || *symbol == b',')
     };
     if end > line.len().max(LONGEST) {
         let fault = Fault::new("the line ends before the text has {} (decimal) symbols");
-        return Err(Stop::At(at, fault.decimal(count)));
+        return Err(fault.decimal(count).at(at));
     }
-    let last = end.min(line.len());
-    Ok(Some(Text {
-        kind,
-        first,
-        last,
-        count: symbols.max(last.saturating_sub(first)),
-        end: last,
-    }))
+    let end = end.min(line.len());
+    let symbols = line.get(first..end).unwrap_or(b"");
+    Ok(Text::new(kind, symbols, wanted.max(symbols.len()), end))
 }
 
-/// Returns the text between two equal symbols.
-fn delimited(line: &[u8], at: usize, kind: u8, mark: usize) -> Result<Option<Text>, Stop> {
-    let Some(symbol) = line.get(mark) else {
-        return Ok(None);
-    };
-    if is_alphanumeric(*symbol) || *symbol == b' ' {
-        return Ok(None);
-    }
-    let first = mark.saturating_add(1);
-    match find(line, first, *symbol) {
-        Some(last) => Ok(Some(Text {
-            kind,
-            first,
-            last,
-            count: last.saturating_sub(first),
-            end: last.saturating_add(1),
-        })),
-        None => Err(Stop::At(at, Fault::no_text_end(*symbol))),
-    }
+/// Returns the symbols before a mark. Without it, a column has a fault.
+pub fn before_mark(text: &[u8], mark: u8, column: usize) -> Outcome<&[u8]> {
+    let fault = Fault::new("the text has no {} at its end").symbol(mark);
+    let end = find(text, 0, mark).ok_or(fault.at(column))?;
+    Ok(text.get(..end).unwrap_or(b""))
 }
 
 /// Returns the display code of a symbol.
 pub fn code_of(symbol: u8) -> Option<u8> {
-    for code in 0..64u8 {
-        if SYMBOLS.get(code as usize) == Some(&symbol) {
-            return Some(code);
-        }
-    }
-    None
+    let code = SYMBOLS.iter().position(|one| *one == symbol)?;
+    u8::try_from(code).ok()
 }
 
-/// Returns the first symbol of a text that has no display code.
-pub fn without_code(symbols: &[u8]) -> Option<u8> {
-    for symbol in symbols {
-        if code_of(*symbol).is_none() {
-            return Some(*symbol);
-        }
-    }
-    None
+/// Returns that a symbol has no display code.
+pub fn no_code(symbol: u8) -> Fault {
+    Fault::new("display code has no '{}'").symbol(symbol)
 }
 
-/// A text as it is put into words: how many codes it has, with blanks that the line has lost and zeros at the end.
-#[derive(Clone, Copy)]
-pub struct Filling {
-    pub kind: u8,
-    pub count: usize,
-    pub size: usize,
-}
-
-impl Filling {
-    /// Returns the filling of a text of so many symbols up to a size.
-    pub fn new(kind: u8, count: usize, size: usize) -> Self {
-        Filling { kind, count, size }
-    }
-
-    /// Returns the filling of whole words. C ends in a word of zero, Z in a symbol of zero at least.
-    pub fn of_words(kind: u8, count: usize) -> Self {
-        let zeros = match kind {
-            b'C' => 2,
-            b'Z' => 1,
-            _ => 0,
-        };
-        let size = count.saturating_add(zeros);
-        Filling {
-            kind,
-            count,
-            size: size.saturating_add(size % 2),
-        }
-    }
-
-    /// Returns the code at an index of the filled text. H and A are filled with blanks, the others with zeros; R and A before the text.
-    pub fn code(self, symbols: &[u8], index: usize) -> u8 {
-        let before = match self.kind {
-            b'R' | b'A' => self.size.saturating_sub(self.count),
-            _ => 0,
-        };
-        if index < before {
-            return self.fill();
-        }
-        let at = index.wrapping_sub(before);
-        match symbols.get(at) {
-            Some(symbol) => code_of(*symbol).unwrap_or(BLANK),
-            None if at < self.count => BLANK,
-            None => self.fill(),
-        }
-    }
-
-    fn fill(self) -> u8 {
-        match self.kind {
-            b'H' | b'A' => BLANK,
-            _ => 0,
-        }
+/// Returns that a column has a fault if a symbol of a text has no display code.
+pub fn are_in_code(symbols: &[u8], column: usize) -> Outcome<()> {
+    match symbols.iter().find(|symbol| code_of(**symbol).is_none()) {
+        Some(symbol) => Err(no_code(*symbol).at(column)),
+        None => Ok(()),
     }
 }

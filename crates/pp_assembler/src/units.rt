@@ -285,12 +285,7 @@ impl Pass {
             match symbol.seen {
                 Some(seen) if seen.is_here && seen.value == Some(self.literals.first) => {
                     let fault = Fault::new(BEHIND_LITERALS).with(Argument::Kept(symbol.key));
-                    return self.warn_at(Message {
-                        line: seen.line,
-                        column: 1,
-                        statement: usize::MAX,
-                        fault,
-                    });
+                    return self.warn_at(Message::new(seen.line, 1, usize::MAX, fault));
                 }
                 _ => {}
             }

@@ -1,7 +1,8 @@
 //! Expressions: terms joined by +, - and ^, elements of a term joined by * and /, from left to right.
-use crate::message::{Fault, Field, Stop};
-use crate::symbols::{Place, Symbols, end_of_name};
-use crate::texts::{Filling, digits_at, is_alphanumeric, text_at, without_code};
+use crate::message::{Fault, Field, Outcome, Stop};
+use crate::pass::Pass;
+use crate::symbols::{Place, end_of_name};
+use crate::texts::{are_in_code, digits_of, is_alphanumeric, next_where, tail, text_at};
 
 const MOST_BITS: u32 = 60;
 
@@ -35,332 +36,279 @@ impl Value {
     pub fn new(number: i64, addresses: i64) -> Self {
         Value { number, addresses }
     }
-}
 
-/// What an expression means things in.
-#[derive(Clone, Copy)]
-pub struct Scope<'a> {
-    pub symbols: &'a Symbols,
-    pub is_last: bool,
-    /// None without BASE.
-    pub base: Option<Base>,
-    /// A deck for COMPASS, in which a number without BASE is decimal.
-    pub is_deck: bool,
-    pub origin: i64,
-    pub location: i64,
-    /// Names count only from the lines above.
-    pub is_from_above: bool,
+    fn negated(self) -> Self {
+        Value::new(self.number.wrapping_neg(), self.addresses.wrapping_neg())
+    }
+
+    /// Returns the sum, if it is kept.
+    fn plus(self, other: Value) -> Option<Self> {
+        let number = self.number.checked_add(other.number)?;
+        Some(Value::new(number, self.addresses.wrapping_add(other.addresses)))
+    }
 }
 
 /// Reads an expression from its beginning to its end.
 #[derive(Clone, Copy)]
 pub struct Expression<'a> {
+    pass: &'a Pass,
+    operand: Field,
     text: &'a [u8],
-    /// The column of the first symbol.
-    column: usize,
-    at: usize,
-    scope: Scope<'a>,
+    /// What has not been read.
+    rest: &'a [u8],
+    /// Names count only from the lines above.
+    is_from_above: bool,
     /// The first number that is decimal only because the source is a deck.
     pub decimal: Option<Field>,
 }
 
-/// An operator between terms.
-#[derive(Clone, Copy)]
-enum Operator {
-    Add,
-    Subtract,
-    Difference,
-}
-
 impl<'a> Expression<'a> {
     /// Returns a reader of an operand of a line.
-    pub fn new(line: &'a [u8], operand: Field, scope: Scope<'a>) -> Self {
+    pub fn new(pass: &'a Pass, line: &'a [u8], operand: Field, is_from_above: bool) -> Self {
+        let text = operand.of(line);
         Expression {
-            text: operand.of(line),
-            column: operand.first,
-            at: 0,
-            scope,
+            pass,
+            operand,
+            text,
+            rest: text,
+            is_from_above,
             decimal: None,
         }
     }
 
-    fn symbol(&self) -> Option<u8> {
-        self.text.get(self.at).copied()
+    /// Returns the column, from 0 in the operand, of what has not been read.
+    fn at(&self) -> usize {
+        self.text.len().saturating_sub(self.rest.len())
     }
 
-    /// Returns the part of the line from a column of the expression to another one.
-    fn part(&self, first: usize, end: usize) -> Field {
-        Field::new(
-            self.column.saturating_add(first),
-            self.column.saturating_add(end),
-        )
-    }
-
-    /// Returns the part of the line from the present column on.
-    fn rest(&self) -> Field {
-        self.part(self.at, self.text.len())
+    /// Returns the part of the line that has so many symbols of the rest.
+    fn part(&self, size: usize) -> Field {
+        self.operand.part(self.at(), self.at().saturating_add(size))
     }
 
     fn fault(&self, fault: Fault) -> Stop {
-        Stop::At(self.column.saturating_add(self.at), fault)
+        fault.at(self.part(0).first)
     }
 
-    /// Returns that a number is too great to be worked out here.
-    fn too_great(&self) -> Stop {
-        Stop::not_yet(self.part(0, self.text.len()))
+    /// Returns a number, unless it is too great to be worked out here.
+    fn kept<T>(&self, number: Option<T>) -> Outcome<T> {
+        number.ok_or(Stop::not_yet(self.operand))
     }
 
     /// Returns the value of the whole text.
-    pub fn value(&mut self) -> Result<Value, Stop> {
+    pub fn value(&mut self) -> Outcome<Value> {
         if self.text.is_empty() {
             return Err(self.fault(Fault::new("an operand is missing")));
         }
         let mut total = Value::new(0, 0);
         for _ in 0..self.text.len() {
-            if self.at > 0 && self.symbol().is_none() {
+            if self.rest.is_empty() {
                 break;
             }
             let operator = self.operator()?;
             let term = self.term()?;
-            total = joined(total, operator, term).ok_or(self.too_great())?;
+            total = self.kept(match operator {
+                b'^' => Some(Value::new(total.number ^ term.number, 0)),
+                b'-' => total.plus(term.negated()),
+                _ => total.plus(term),
+            })?;
         }
         if total.number.unsigned_abs() >> MOST_BITS != 0 {
             let fault = Fault::new("this has more than 60 (decimal) bits");
-            return Err(Stop::At(self.column, fault));
+            return Err(fault.at(self.operand.first));
         }
         Ok(total)
     }
 
     /// Returns the operator before a term, and passes over it. Only the first term may have none.
-    fn operator(&mut self) -> Result<Operator, Stop> {
-        let operator = match self.symbol() {
-            Some(b'+') => Operator::Add,
-            Some(b'-') => Operator::Subtract,
-            Some(b'^') => Operator::Difference,
-            _ if self.at > 0 => return Err(Stop::of("{} is no operator", self.rest())),
-            _ => return Ok(Operator::Add),
-        };
-        self.pass_operator()?;
-        Ok(operator)
+    fn operator(&mut self) -> Outcome<u8> {
+        match self.rest {
+            [operator @ (b'+' | b'-' | b'^'), ..] => {
+                self.pass_operator()?;
+                Ok(*operator)
+            }
+            _ if self.at() == 0 => Ok(b'+'),
+            rest => Err(Stop::of("{} is no operator", self.part(rest.len()))),
+        }
     }
 
-    fn pass_operator(&mut self) -> Result<(), Stop> {
-        let next = self.at.saturating_add(1);
-        if next >= self.text.len() {
-            let sign = self.text.last().copied().unwrap_or(b'+');
-            return Err(self.fault(Fault::new("nothing follows the {}").symbol(sign)));
+    fn pass_operator(&mut self) -> Outcome<()> {
+        if let [operator] = self.rest {
+            return Err(self.fault(Fault::new("nothing follows the {}").symbol(*operator)));
         }
-        self.at = next;
+        self.rest = tail(self.rest, 1);
         Ok(())
     }
 
-    fn term(&mut self) -> Result<Value, Stop> {
+    fn term(&mut self) -> Outcome<Value> {
         let mut value = self.element()?;
         for _ in 0..self.text.len() {
-            let is_product = match self.symbol() {
-                Some(b'*') => true,
-                Some(b'/') => false,
-                _ => break,
+            let [operator @ (b'*' | b'/'), ..] = self.rest else {
+                break;
             };
             self.pass_operator()?;
             let other = self.element()?.number;
-            let number = if is_product {
-                product(value.number, other)
-            } else {
-                quotient(value.number, other)
+            let number = match (operator, other) {
+                (b'*', _) => product(value.number, other),
+                (_, 0) => Some(0),
+                _ => value.number.checked_div(other),
             };
-            value = Value::new(number.ok_or(self.too_great())?, 0);
+            value = Value::new(self.kept(number)?, 0);
         }
         Ok(value)
     }
 
     /// Returns the value of a name, a number, a counter or a text.
-    fn element(&mut self) -> Result<Value, Stop> {
-        if let Some(end) = self.end_of_name() {
-            return self.name(end);
+    fn element(&mut self) -> Outcome<Value> {
+        if let Some(size) = size_of_name(self.rest) {
+            return self.name(size);
         }
-        if let Some(digits) = number_at(self.text, self.at) {
-            return self.number(digits);
+        if let Some(number) = number_of(self.rest) {
+            return self.number(number);
         }
-        if self.symbol() == Some(b'*') {
-            return Ok(self.counter());
+        match self.rest {
+            [b'*', after @ ..] => Ok(self.counter(after)),
+            _ => self.text_element(),
         }
-        self.text_element()
     }
 
-    /// Returns the column after a name, which may have its qualifier before it.
-    fn end_of_name(&self) -> Option<usize> {
-        if self.symbol() != Some(b'/') {
-            return end_of_name(self.text, self.at);
-        }
-        for at in self.at.saturating_add(1)..self.text.len() {
-            match self.text.get(at) {
-                Some(b'/') => return end_of_name(self.text, at.saturating_add(1)),
-                Some(b',' | b' ' | 0x09..=0x0d) => return None,
-                _ => {}
-            }
-        }
-        None
-    }
-
-    fn name(&mut self, end: usize) -> Result<Value, Stop> {
-        let name = self.text.get(self.at..end).unwrap_or(b"");
-        let part = self.part(self.at, end);
+    fn name(&mut self, size: usize) -> Outcome<Value> {
+        let name = self.part(size);
         let place = Place {
-            name: part,
-            column: part.first,
-            is_from_above: self.scope.is_from_above,
+            name,
+            column: name.first,
+            is_from_above: self.is_from_above,
         };
-        let symbol = self.scope.symbols.look_up(name, place, self.scope.is_last)?;
-        let Some(number) = symbol.value else {
-            return Err(Stop::Follows);
-        };
-        self.at = end;
-        Ok(Value {
-            number: i64::from(number),
-            addresses: if symbol.is_address { 1 } else { 0 },
-        })
+        let text = self.rest.get(..size).unwrap_or(b"");
+        let symbol = self.pass.symbols.look_up(text, place, self.pass.is_last)?;
+        self.rest = tail(self.rest, size);
+        let addresses = if symbol.is_address { 1 } else { 0 };
+        Ok(Value::new(symbol.value.ok_or(Stop::Follows)?, addresses))
     }
 
     /// Returns the value of a counter; of ** it is 0.
-    fn counter(&mut self) -> Value {
-        let next = self.text.get(self.at.saturating_add(1)).copied();
-        let after = self.text.get(self.at.saturating_add(2)).copied();
-        if next == Some(b'*') && matches!(after, None | Some(b'-' | b'+' | b'/')) {
-            self.at = self.at.saturating_add(2);
-            return Value::new(0, 0);
-        }
-        let is_letter = matches!(next, Some(b'L' | b'O')) && !goes_on(after) && after != Some(b'=');
-        self.at = self.at.saturating_add(if is_letter { 2 } else { 1 });
-        let counter = if is_letter && next == Some(b'O') {
-            self.scope.origin
-        } else {
-            self.scope.location
+    fn counter(&mut self, after: &'a [u8]) -> Value {
+        let (letter, rest) = match after {
+            [b'*'] | [b'*', b'-' | b'+' | b'/', ..] => (b'*', tail(after, 1)),
+            [letter @ (b'L' | b'O'), rest @ ..] if !goes_on(rest, b".$=") => (*letter, rest),
+            _ => (b'L', after),
         };
-        Value::new(i64::from(counter), 1)
+        self.rest = rest;
+        match letter {
+            b'*' => Value::new(0, 0),
+            b'O' => Value::new(self.pass.origin, 1),
+            _ => Value::new(self.pass.location, 1),
+        }
     }
 
-    fn number(&mut self, number: Number) -> Result<Value, Stop> {
-        let Number { end, shift, .. } = number;
-        let digits = self.text.get(self.at..number.digits).unwrap_or(b"");
-        let base = self.base_of(number, digits)?;
-        let Some(value) = decoded(digits, base).and_then(|value| shifted(value, shift)) else {
-            return Err(self.too_great());
-        };
-        self.at = end;
+    fn number(&mut self, number: Number<'a>) -> Outcome<Value> {
+        let base = self.base_of(number)?;
+        let value = decoded(number.digits, base).and_then(|value| shifted(value, number.shift));
+        let value = self.kept(value)?;
+        self.rest = number.rest;
         Ok(Value::new(value, 0))
     }
 
     /// Returns the base of digits, 8 or 10 (decimal).
-    fn base_of(&mut self, number: Number, digits: &[u8]) -> Result<i64, Stop> {
-        let part = self.part(self.at, number.digits);
+    fn base_of(&mut self, number: Number) -> Outcome<i64> {
+        let digits = number.digits;
+        let part = self.part(digits.len());
         if digits.len() > MOST_DIGITS {
             return Err(self.fault(Fault::new("a number has at most 20 (decimal) digits")));
         }
-        let base = match (number.letter, self.scope.base) {
-            (Some(b'D'), _) | (None, Some(Base::Decimal)) => 10,
+        match (number.letter, self.pass.base) {
+            (Some(b'D'), _) | (None, Some(Base::Decimal)) => return Ok(10),
             (None, None) if decoded(digits, 10).unwrap_or(0) > 7 => {
-                if !self.scope.is_deck {
-                    return Err(Stop::At(
-                        part.first,
-                        Fault::new(EITHER_BASE).part(part).part(part).part(part),
-                    ));
+                if !self.pass.is_deck {
+                    let fault = Fault::new(EITHER_BASE).part(part).part(part);
+                    return Err(self.fault(fault.part(part)));
                 }
-                if self.decimal.is_none() {
-                    self.decimal = Some(part);
-                }
-                10
+                self.decimal = self.decimal.or(Some(part));
+                return Ok(10);
             }
-            _ => 8,
-        };
-        if base == 8 && has_decimal_digit(digits) {
+            _ => {}
+        }
+        if digits.iter().any(|digit| *digit >= b'8') {
             let fault = Fault::new("{} is no octal number; {}D is decimal");
             return Err(self.fault(fault.part(part).part(part)));
         }
-        Ok(base)
+        Ok(8)
     }
 
-    fn text_element(&mut self) -> Result<Value, Stop> {
-        let Some(text) = text_at(self.text, self.at, false)? else {
-            let fault = Fault::new(match self.symbol() {
-                Some(b'"') => "{} is no number, symbol, text or *; no MICRO above has this name",
-                Some(b'=') => OF_ANOTHER_PROGRAM,
+    fn text_element(&mut self) -> Outcome<Value> {
+        let Some(text) = text_at(self.text, self.at(), false)? else {
+            let fault = Fault::new(match self.rest {
+                [b'"', ..] => "{} is no number, symbol, text or *; no MICRO above has this name",
+                [b'=', ..] => OF_ANOTHER_PROGRAM,
                 _ => "{} is no number, symbol, text or *",
             });
-            return Err(self.fault(fault.part(self.rest())));
+            return Err(self.fault(fault.part(self.part(self.rest.len()))));
         };
         if text.kind != b'R' {
             let fault = Fault::new("in a sum a text is 1R or 2R, not {}");
             return Err(self.fault(fault.symbol(text.kind)));
         }
-        let symbols = self.text.get(text.first..text.last).unwrap_or(b"");
-        if let Some(symbol) = without_code(symbols) {
-            return Err(self.fault(Fault::no_display_code(symbol)));
-        }
-        self.at = text.end;
-        match number_of(Filling::new(b'R', text.count, text.count), symbols) {
-            Some(number) => Ok(Value {
-                number,
-                addresses: 0,
-            }),
-            None => Err(self.too_great()),
-        }
+        are_in_code(text.symbols, self.part(0).first)?;
+        self.rest = tail(self.text, text.end);
+        Ok(Value::new(self.kept(text.number(text.count))?, 0))
     }
 }
 
-/// Digits of a line: the column after them, their letter, how many bits the number is shifted, and the column after all that.
-#[derive(Clone, Copy)]
-struct Number {
-    digits: usize,
-    letter: Option<u8>,
-    shift: u32,
-    end: usize,
-}
-
-/// Returns whether a symbol goes on with a number or a name.
-fn goes_on(symbol: Option<u8>) -> bool {
-    match symbol {
-        Some(symbol) => is_alphanumeric(symbol) || symbol == b'.' || symbol == b'$',
-        None => false,
+/// Returns how many symbols the name has that a text begins with, if it does. It may have its qualifier before it.
+fn size_of_name(text: &[u8]) -> Option<usize> {
+    if text.first() != Some(&b'/') {
+        return end_of_name(text, 0);
     }
-}
-
-/// Returns the number that begins at a column, if one does.
-fn number_at(text: &[u8], at: usize) -> Option<Number> {
-    let (count, _) = digits_at(text, at, usize::MAX);
-    if count == 0 {
+    let end = next_where(text, 1, |symbol| b"/, \t\n\x0b\x0c\r".contains(symbol));
+    if text.get(end) != Some(&b'/') {
         return None;
     }
-    let digits = at.saturating_add(count);
-    let (letter, after) = match text.get(digits) {
-        Some(letter @ (b'B' | b'D' | b'O')) => (Some(*letter), digits.saturating_add(1)),
-        _ => (None, digits),
+    end_of_name(text, end.saturating_add(1))
+}
+
+/// A number that a text begins with: its digits, their letter, by how many bits it is shifted, and what follows.
+#[derive(Clone, Copy)]
+struct Number<'a> {
+    digits: &'a [u8],
+    letter: Option<u8>,
+    shift: u32,
+    rest: &'a [u8],
+}
+
+/// Returns whether a number or a counter goes on with a text: with a letter, a digit or one of other symbols.
+fn goes_on(text: &[u8], others: &[u8]) -> bool {
+    match text {
+        [symbol, ..] => is_alphanumeric(*symbol) || others.contains(symbol),
+        [] => false,
+    }
+}
+
+/// Returns the number that a text begins with, if it does.
+fn number_of(text: &[u8]) -> Option<Number<'_>> {
+    let (count, _) = digits_of(text, usize::MAX);
+    let (digits, rest) = text.split_at_checked(count)?;
+    let (letter, rest) = match rest {
+        [letter @ (b'B' | b'D' | b'O'), rest @ ..] => (Some(*letter), rest),
+        _ => (None, rest),
     };
-    let (bits, shift) = digits_at(text, after.saturating_add(1), 2);
-    let is_shifted = text.get(after) == Some(&b'S') && bits > 0;
-    let end = if is_shifted {
-        after.saturating_add(1).saturating_add(bits)
+    let (bits, shift) = match rest {
+        [b'S', rest @ ..] => digits_of(rest, 2),
+        _ => (0, 0),
+    };
+    let rest = if bits > 0 {
+        tail(rest, bits.saturating_add(1))
     } else {
-        after
+        rest
     };
-    if goes_on(text.get(end).copied()) {
+    if digits.is_empty() || goes_on(rest, b".$") {
         return None;
     }
     Some(Number {
         digits,
         letter,
-        shift: if is_shifted { shift } else { 0 },
-        end,
+        shift,
+        rest,
     })
-}
-
-fn has_decimal_digit(digits: &[u8]) -> bool {
-    for digit in digits {
-        if *digit == b'8' || *digit == b'9' {
-            return true;
-        }
-    }
-    false
 }
 
 /// Returns the number that digits make.
@@ -374,55 +322,14 @@ fn decoded(digits: &[u8], base: i64) -> Option<i64> {
 
 /// Returns a number shifted to the left.
 fn shifted(value: i64, bits: u32) -> Option<i64> {
-    if value == 0 {
-        return Some(0);
+    if bits > MOST_SHIFT && value != 0 {
+        return None;
     }
-    if bits > MOST_SHIFT {
-        None
-    } else {
-        product(value, 1i64.wrapping_shl(bits))
-    }
-}
-
-/// Returns a total with one more term.
-fn joined(total: Value, operator: Operator, term: Value) -> Option<Value> {
-    let (number, addresses) = match operator {
-        Operator::Add => (
-            total.number.checked_add(term.number)?,
-            total.addresses.wrapping_add(term.addresses),
-        ),
-        Operator::Subtract => (
-            total.number.checked_sub(term.number)?,
-            total.addresses.wrapping_sub(term.addresses),
-        ),
-        Operator::Difference => (total.number ^ term.number, 0),
-    };
-    Some(Value { number, addresses })
+    product(value, 1i64.wrapping_shl(bits))
 }
 
 /// Returns a product, if it is kept. The division comes first, since WebAssembly has no product of 128 bits to look at.
-fn product(number: i64, other: i64) -> Option<i64> {
-    if other != 0 && number.unsigned_abs() > MOST / other.unsigned_abs() {
-        None
-    } else {
-        Some(number.wrapping_mul(other))
-    }
-}
-
-/// Returns the quotient without its fraction; of a division by zero 0.
-fn quotient(number: i64, other: i64) -> Option<i64> {
-    if other == 0 {
-        Some(0)
-    } else {
-        number.checked_div(other)
-    }
-}
-
-/// Returns the codes of a text as one number.
-pub fn number_of(filling: Filling, symbols: &[u8]) -> Option<i64> {
-    let mut number: i64 = 0;
-    for index in 0..filling.size {
-        number = product(number, 64)?.checked_add(i64::from(filling.code(symbols, index)))?;
-    }
-    Some(number)
+pub fn product(number: i64, other: i64) -> Option<i64> {
+    let is_kept = other == 0 || number.unsigned_abs() <= MOST / other.unsigned_abs();
+    is_kept.then_some(number.wrapping_mul(other))
 }
