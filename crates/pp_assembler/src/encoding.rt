@@ -74,7 +74,15 @@ impl Pass {
         let cells = number.wrapping_sub(self.location).wrapping_add(SIZE / 2) & (SIZE - 1);
         let cells = cells.wrapping_sub(SIZE / 2);
         if self.is_last && !(-NEAR..=NEAR).contains(&cells) {
-            return Err(too_far(target, cells, code));
+            let fault = Fault::new(if cells > 0 {
+                "{} is {} (octal) cells on, and {} reaches 37; {}"
+            } else {
+                "{} is {} (octal) cells back, and {} reaches 37; {}"
+            });
+            let fault = fault.part(target).octal(cells.wrapping_abs());
+            let fault = fault.with(Argument::Instruction(code));
+            let fault = fault.with(Argument::Reaching(target, code));
+            return Err(fault.at(target.first));
         }
         let d = cells.wrapping_add(if cells < 0 { 0o77 } else { 0 });
         Ok(u64::try_from(d & 0o77).unwrap_or(0))
@@ -86,7 +94,7 @@ impl Pass {
         if self.made > MOST_WORDS {
             return Err(Stop::too_much("more than 100000 (decimal) words"));
         }
-        self.row(here, words)?;
+        self.add_row(here, words, true, None, false)?;
         for word in words {
             self.put_word(here, *word)?;
             self.origin = self.origin.wrapping_add(1);
@@ -162,18 +170,4 @@ fn operands_of(here: &Here, statement: Statement, code: u8) -> Outcome<FirstPart
     let first_left = found.parts.get(most).filter(|_| found.count > most);
     let column = first_left.unwrap_or(&name).first;
     Err(fault.part(name).with(Argument::Text(takes)).at(column))
-}
-
-/// Returns that a relative jump does not reach its target, which is so many cells on or, if minus, back.
-fn too_far(target: Field, cells: i64, code: u8) -> Stop {
-    Fault::new(if cells > 0 {
-        "{} is {} (octal) cells on, and {} reaches 37; {}"
-    } else {
-        "{} is {} (octal) cells back, and {} reaches 37; {}"
-    })
-    .part(target)
-    .octal(cells.wrapping_abs())
-    .with(Argument::Instruction(code))
-    .with(Argument::Reaching(target, code))
-    .at(target.first)
 }

@@ -95,10 +95,12 @@ impl Pass {
         let items = self.items(here, statement, false)?;
         let mut words = Vec::new(self.alloc);
         let mut used = WORD_BITS;
-        let open = self.open_bits(here, statement);
-        if let Some(bits) = open {
+        let is_plain = matches!(statement.location.of(here.text), b"" | b"-");
+        let before = self.origin.wrapping_sub(1);
+        let open = self.open.filter(|word| is_plain && word.cell == before);
+        if let Some(word) = open {
             words.push(0)?;
-            used = bits;
+            used = word.used;
         }
         for item in &items {
             match self.bits_field(here, *item) {
@@ -116,13 +118,6 @@ impl Pass {
         let cell = self.origin.wrapping_add(count).wrapping_sub(1);
         self.open = Some(OpenWord { cell, used });
         Ok(words)
-    }
-
-    /// Returns how many bits of the last word are used, if VFD goes on in it.
-    fn open_bits(&self, here: &Here, statement: Statement) -> Option<u32> {
-        let OpenWord { cell, used } = self.open?;
-        let is_plain = matches!(statement.location.of(here.text), b"" | b"-");
-        (is_plain && cell == self.origin.wrapping_sub(1)).then_some(used)
     }
 
     /// Returns the size, decimal, and the number of a field.

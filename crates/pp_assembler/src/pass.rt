@@ -358,7 +358,7 @@ impl Pass {
     }
 
     /// Adds a line to the listing, in the last pass.
-    fn add_row(
+    pub fn add_row(
         &mut self,
         here: &Here,
         words: &[u16],
@@ -382,11 +382,6 @@ impl Pass {
             is_set,
         };
         Ok(self.rows.push(row)?)
-    }
-
-    /// Adds a line with words to the listing.
-    pub fn row(&mut self, here: &Here, words: &[u16]) -> Outcome<()> {
-        self.add_row(here, words, true, None, false)
     }
 
     /// Adds a line without words to the listing.

@@ -84,8 +84,7 @@ impl Symbols {
     pub fn keep(&mut self, text: &[u8]) -> Result<Span, AllocError> {
         let first = self.text.len();
         self.text.extend_from_slice(text)?;
-        let end = self.text.len();
-        Ok(Span::new(first, end))
+        Ok(Span::new(first, self.text.len()))
     }
 
     /// Returns a text that is kept.
@@ -96,8 +95,7 @@ impl Symbols {
     /// Begins the next pass.
     pub fn begin_pass(&mut self) {
         for symbol in &mut self.all {
-            symbol.before = symbol.seen;
-            symbol.seen = None;
+            symbol.before = symbol.seen.take();
         }
         self.qualifiers.clear();
     }
@@ -150,10 +148,13 @@ impl Symbols {
         })
     }
 
-    /// Returns the index of the symbol whose key is a name after a prefix.
+    /// Returns the index of the symbol whose key is a name after a prefix. Its size is compared first, for speed.
     fn index_of(&self, prefix: &[u8], name: &[u8]) -> Option<usize> {
-        let is_it = |symbol: &Symbol| self.text_of(symbol.key).strip_prefix(prefix) == Some(name);
-        self.all.iter().position(is_it)
+        let size = prefix.len().saturating_add(name.len());
+        self.all.iter().position(|symbol| {
+            let key = self.text_of(symbol.key);
+            key.len() == size && key.ends_with(name) && key.starts_with(prefix)
+        })
     }
 
     fn symbol(&self, prefix: &[u8], name: &[u8]) -> Option<Symbol> {
