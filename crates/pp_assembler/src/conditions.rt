@@ -1,9 +1,10 @@
 //! The conditions of IF and the operations like it.
 use crate::blocks::Opening;
 use crate::fields::{Statement, first_parts};
-use crate::message::{Fault, Field, Stop};
+use crate::message::{Fault, Field, Outcome, Stop};
+use crate::operations::{Operation, operation_of};
 use crate::pass::{Here, Pass};
-use crate::texts::{after_blanks, code_of, end_of_word, find};
+use crate::texts::{after_blanks, code_of, end_of_word};
 
 const TEXTS_WANTED: &str = "IFC wants EQ, NE, GT, GE, LT or LE, a comma and *one text*other text*";
 
@@ -48,77 +49,68 @@ impl Order {
 
 /// The operand of IFC: the condition, which a minus turns round, its two texts, and the count of lines.
 #[derive(Clone, Copy)]
-pub struct Texts {
+pub struct Texts<'a> {
     is_turned: bool,
     order: Order,
-    one: Field,
-    other: Field,
+    one: &'a [u8],
+    other: &'a [u8],
     pub count: Field,
 }
 
 /// Returns what the operand of IFC says.
-pub fn texts_of(line: &[u8], operand: Field) -> Result<Texts, Stop> {
-    match texts_in(line, operand) {
-        Some(texts) => Ok(texts),
-        None => Err(Stop::At(operand.first, Fault::new(TEXTS_WANTED))),
-    }
+pub fn texts_of<'a>(here: &Here<'a>, operand: Field) -> Outcome<Texts<'a>> {
+    texts_in(operand.of(here.text), operand.end).ok_or(Stop::At(
+        operand.first,
+        Fault::new(TEXTS_WANTED),
+    ))
 }
 
-fn texts_in(line: &[u8], operand: Field) -> Option<Texts> {
-    let is_turned = line.get(operand.first) == Some(&b'-');
-    let name = operand.first.saturating_add(if is_turned { 1 } else { 0 });
-    let comma = name.saturating_add(2);
-    let order = Order::of(line.get(name..comma)?)?;
-    let mark = *line.get(comma.saturating_add(1))?;
-    let one = comma.saturating_add(2);
-    let middle = find(line, one, mark)?;
-    let last = find(line, middle.saturating_add(1), mark)?;
-    let text = line.get(..operand.end)?;
-    if line.get(comma) != Some(&b',') || last >= operand.end {
-        return None;
-    }
-    let after = last.saturating_add(1);
-    let first = after_blanks(text, after.saturating_add(1));
-    let count = if line.get(after) == Some(&b',') && after < operand.end {
-        Field::new(first, end_of_word(text, first))
-    } else {
-        Field::new(after, after)
+/// Returns what a text says that is the operand of IFC, and ends at a column.
+fn texts_in(operand: &[u8], end: usize) -> Option<Texts<'_>> {
+    let (is_turned, rest) = match operand {
+        [b'-', rest @ ..] => (true, rest),
+        rest => (false, rest),
     };
+    let [first, second, b',', mark, texts @ ..] = rest else {
+        return None;
+    };
+    // EQ compares texts as IFEQ compares numbers.
+    let compare = operation_of(&[b'I', b'F', *first, *second]);
+    let Operation::Block(Opening::Numbers(order)) = compare else {
+        return None;
+    };
+    let mut parts = texts.splitn(3, |symbol| symbol == mark);
+    let (one, other, after) = (parts.next()?, parts.next()?, parts.next()?);
+    let first = after_blanks(after, 1);
+    let last = match after.first() {
+        Some(b',') => end_of_word(after, first),
+        _ => first,
+    };
+    let before = end.saturating_sub(after.len());
     Some(Texts {
         is_turned,
         order,
-        one: Field::new(one, middle),
-        other: Field::new(middle.saturating_add(1), last),
-        count,
+        one,
+        other,
+        count: Field::new(before.saturating_add(first), before.saturating_add(last)),
     })
 }
 
 /// Compares texts by their display code, the shorter one with zeros at its end: minus if the first one is less, 0 if they are equal.
 fn compared(one: &[u8], other: &[u8]) -> i64 {
-    for at in 0..one.len().max(other.len()) {
-        let difference = code_at(one, at).wrapping_sub(code_at(other, at));
-        if difference != 0 {
-            return difference;
-        }
-    }
-    0
-}
-
-fn code_at(text: &[u8], at: usize) -> i64 {
-    match text.get(at) {
+    let code_at = |text: &[u8], at: usize| match text.get(at) {
         Some(symbol) => i64::from(code_of(*symbol).unwrap_or(0)),
         None => 0,
-    }
+    };
+    (0..one.len().max(other.len()))
+        .map(|at| code_at(one, at).wrapping_sub(code_at(other, at)))
+        .find(|difference| *difference != 0)
+        .unwrap_or(0)
 }
 
 impl Pass {
     /// Returns whether the condition of an IF holds.
-    pub fn holds(
-        &mut self,
-        here: &Here,
-        statement: Statement,
-        opening: Opening,
-    ) -> Result<bool, Stop> {
+    pub fn holds(&mut self, here: &Here, statement: Statement, opening: Opening) -> Outcome<bool> {
         match opening {
             Opening::Fixed(holds) => return Ok(holds),
             Opening::Texts => return holds_of_texts(here, statement.operand),
@@ -128,14 +120,12 @@ impl Pass {
         let [first, second, _] = found.parts;
         let wanted = opening.operands().unwrap_or(0);
         if found.count < wanted {
-            return Err(Stop::of(
-                if wanted == 1 {
-                    "{} wants one operand, and its lines end with ENDIF"
-                } else {
-                    "{} wants two operands, and its lines end with ENDIF"
-                },
-                statement.operation,
-            ));
+            let fault = if wanted == 1 {
+                "{} wants one operand, and its lines end with ENDIF"
+            } else {
+                "{} wants two operands, and its lines end with ENDIF"
+            };
+            return Err(Stop::of(fault, statement.operation));
         }
         match opening {
             Opening::Sign { is_minus } => Ok((self.number(here, first, true)? < 0) == is_minus),
@@ -148,13 +138,13 @@ impl Pass {
     }
 
     /// Returns whether a symbol or an expression has an attribute: IF DEF,X; a minus before it turns it round.
-    fn has_attribute(&self, here: &Here, attribute: Field, operand: Field) -> Result<bool, Stop> {
+    fn has_attribute(&self, here: &Here, attribute: Field, operand: Field) -> Outcome<bool> {
         let name = operand.of(here.text);
-        let seen = self.symbols.seen(name);
         let word = attribute.of(here.text);
-        let has = match without_minus(word) {
-            b"DEF" => seen.is_some(),
-            b"SET" => matches!(seen, Some(definition) if definition.is_set),
+        let first = word.iter().position(|symbol| *symbol != b'-');
+        let has = match word.get(first.unwrap_or(0)..).unwrap_or(b"") {
+            b"DEF" => self.symbols.seen(name).is_some(),
+            b"SET" => self.symbols.seen(name).is_some_and(|seen| seen.is_set),
             b"MIC" => self.vocabulary.micro_of(name).is_some(),
             b"ABS" => true,
             b"REL" | b"EXT" | b"COM" | b"LCM" | b"REG" | b"SST" => false,
@@ -164,23 +154,12 @@ impl Pass {
     }
 }
 
-fn holds_of_texts(here: &Here, operand: Field) -> Result<bool, Stop> {
-    let texts = texts_of(here.text, operand)?;
-    let (one, other) = (texts.one.of(here.text), texts.other.of(here.text));
+fn holds_of_texts(here: &Here, operand: Field) -> Outcome<bool> {
+    let texts = texts_of(here, operand)?;
     let holds = match texts.order {
-        Order::Equal => one == other,
-        Order::NotEqual => one != other,
-        order => order.holds(compared(one, other), 0),
+        Order::Equal => texts.one == texts.other,
+        Order::NotEqual => texts.one != texts.other,
+        order => order.holds(compared(texts.one, texts.other), 0),
     };
     Ok(holds != texts.is_turned)
-}
-
-/// Returns a text without the minus signs before it.
-fn without_minus(text: &[u8]) -> &[u8] {
-    for at in 0..text.len() {
-        if text.get(at) != Some(&b'-') {
-            return text.get(at..).unwrap_or(b"");
-        }
-    }
-    b""
 }

@@ -12,7 +12,7 @@ use crate::values::{Base, Value};
 const BASE_WANTED: &str = "BASE takes OCTAL, DECIMAL, MIXED or, after one of these, *; not {}";
 
 /// Returns that an operation has no operand, if it has none.
-pub fn wants_operand(statement: Statement) -> Outcome<()> {
+pub fn wants_operand(statement: Statement) -> Outcome {
     if statement.operand.is_empty() {
         let text = "{} wants an operand; in column 30 or later is a comment";
         return Err(Stop::of(text, statement.operation));
@@ -53,7 +53,7 @@ impl Pass {
     }
 
     /// BSS leaves cells, backwards if their number is minus.
-    pub fn space(&mut self, here: &Here, statement: Statement) -> Outcome<()> {
+    pub fn space(&mut self, here: &Here, statement: Statement) -> Outcome {
         let operand = the_only(here, statement)?;
         let count = self.count(here, operand, -(CELLS as i64))?;
         self.plain_row(here, true)?;
@@ -69,7 +69,7 @@ impl Pass {
     }
 
     /// ORG sets both counters, in the nominal block; its label has the address after it.
-    pub fn set_origin(&mut self, here: &Here, statement: Statement) -> Outcome<()> {
+    pub fn set_origin(&mut self, here: &Here, statement: Statement) -> Outcome {
         let operand = the_only(here, statement)?;
         let number = self.count(here, operand, 0)?;
         if let Some(block) = self.named_block() {
@@ -85,7 +85,7 @@ impl Pass {
     }
 
     /// LOC sets the location counter alone.
-    pub fn set_location(&mut self, here: &Here, statement: Statement) -> Outcome<()> {
+    pub fn set_location(&mut self, here: &Here, statement: Statement) -> Outcome {
         let operand = the_only(here, statement)?;
         let number = self.count(here, operand, 0)?;
         self.move_to(self.origin, number);
@@ -94,7 +94,7 @@ impl Pass {
     }
 
     /// USE goes on with a block: 0 or none is the nominal one, * the one before.
-    pub fn set_block(&mut self, here: &Here, statement: Statement) -> Outcome<()> {
+    pub fn set_block(&mut self, here: &Here, statement: Statement) -> Outcome {
         let name = statement.operand.of(here.text);
         self.use_block(if matches!(name, b"0") { b"" } else { name })?;
         self.plain_row(here, true)?;
@@ -102,14 +102,14 @@ impl Pass {
     }
 
     /// QUAL qualifies the names that are defined from here on; * goes back, and without a name they have no qualifier.
-    pub fn set_qualifier(&mut self, here: &Here, statement: Statement) -> Outcome<()> {
+    pub fn set_qualifier(&mut self, here: &Here, statement: Statement) -> Outcome {
         let name = without_marks(statement.operand.of(here.text));
         self.symbols.qualify(name)?;
         self.plain_row(here, false)
     }
 
     /// LIT puts words among the literals; its label is the address of the first one.
-    pub fn literals(&mut self, here: &Here, statement: Statement) -> Outcome<()> {
+    pub fn literals(&mut self, here: &Here, statement: Statement) -> Outcome {
         let words = self.data(here, statement)?;
         let address = self.literals.address_of(&words)?;
         if !matches!(statement.location.of(here.text), b"" | b"-") {
@@ -119,12 +119,7 @@ impl Pass {
     }
 
     /// EQU, =, SET, MAX and MIN name the number of an expression; a name whose expression is wrong has none.
-    pub fn equate(
-        &mut self,
-        here: &Here,
-        statement: Statement,
-        operation: Operation,
-    ) -> Outcome<()> {
+    pub fn equate(&mut self, here: &Here, statement: Statement, operation: Operation) -> Outcome {
         if statement.location.is_empty() {
             return Err(Stop::of("{} wants a symbol before it", statement.operation));
         }
@@ -165,12 +160,7 @@ impl Pass {
     }
 
     /// ERR is an error, ERRNZ and the others if their expression is so.
-    pub fn error(
-        &mut self,
-        here: &Here,
-        statement: Statement,
-        order: Option<Order>,
-    ) -> Outcome<()> {
+    pub fn error(&mut self, here: &Here, statement: Statement, order: Option<Order>) -> Outcome {
         self.plain_row(here, false)?;
         let is_error = match order {
             Some(order) => order.holds(self.number(here, statement.operand, false)?, 0),
@@ -184,7 +174,7 @@ impl Pass {
     }
 
     /// IDENT names a program; a second one begins another program of the same source.
-    pub fn name_program(&mut self, here: &Here, statement: Statement) -> Outcome<()> {
+    pub fn name_program(&mut self, here: &Here, statement: Statement) -> Outcome {
         let operand = statement.operand.of(here.text);
         let end = find(operand, 0, b',').unwrap_or(operand.len());
         let name = operand.get(..end).unwrap_or(b"");
@@ -198,7 +188,7 @@ impl Pass {
     }
 
     /// BASE says what numbers without a letter are; * goes back.
-    pub fn set_base(&mut self, here: &Here, statement: Statement) -> Outcome<()> {
+    pub fn set_base(&mut self, here: &Here, statement: Statement) -> Outcome {
         let word = statement.operand.of(here.text);
         let before = if matches!(word, b"*") {
             self.bases.pop()
@@ -220,7 +210,7 @@ impl Pass {
     }
 
     /// END says where the program begins, if it has an operand.
-    pub fn end(&mut self, here: &Here, statement: Statement) -> Outcome<()> {
+    pub fn end(&mut self, here: &Here, statement: Statement) -> Outcome {
         if !statement.operand.is_empty() {
             let start = self.field(here, statement.operand, 12, None)?;
             self.start = Some(bits_of(start, 0o7777));
@@ -231,12 +221,7 @@ impl Pass {
     }
 
     /// LDK and ADK are an instruction of one word if their operand is known to be small.
-    pub fn shortest(
-        &mut self,
-        here: &Here,
-        statement: Statement,
-        operation: Operation,
-    ) -> Outcome<()> {
+    pub fn shortest(&mut self, here: &Here, statement: Statement, operation: Operation) -> Outcome {
         let Operation::Shortest(small, minus, other) = operation else {
             return Ok(());
         };

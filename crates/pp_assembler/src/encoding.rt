@@ -31,14 +31,14 @@ pub fn index_of(cell: i64) -> usize {
 
 impl Pass {
     /// Makes the words of an instruction. There are always as many, also if the statement is wrong.
-    pub fn instruction(&mut self, here: &Here, statement: Statement, code: u8) -> Outcome<()> {
+    pub fn instruction(&mut self, here: &Here, statement: Statement, code: u8) -> Outcome {
         let words = self.words_of(here, statement, code);
         let words = self.reported(here, words, [0, 0])?;
         self.put_instruction(here, code, words)
     }
 
     /// Puts the words of an instruction, of which it may have the first one alone.
-    pub fn put_instruction(&mut self, here: &Here, code: u8, words: [u16; 2]) -> Outcome<()> {
+    pub fn put_instruction(&mut self, here: &Here, code: u8, words: [u16; 2]) -> Outcome {
         self.put(here, words.get(..size_of(code)).unwrap_or(&[]))
     }
 
@@ -89,7 +89,7 @@ impl Pass {
     }
 
     /// Puts words into the cells from here on. Of lines that follow one another only the first is reported if they can't be.
-    pub fn put(&mut self, here: &Here, words: &[u16]) -> Outcome<()> {
+    pub fn put(&mut self, here: &Here, words: &[u16]) -> Outcome {
         self.made = self.made.saturating_add(words.len());
         if self.made > MOST_WORDS {
             return Err(Stop::too_much("more than 100000 (decimal) words"));
@@ -104,7 +104,7 @@ impl Pass {
     }
 
     /// Puts a word into the present cell, or reports why that can't be.
-    fn put_word(&mut self, here: &Here, word: u16) -> Outcome<()> {
+    fn put_word(&mut self, here: &Here, word: u16) -> Outcome {
         if !self.is_last {
             return Ok(());
         }

@@ -1,5 +1,5 @@
 //! Which cells are instructions: those that a processor reaches from given entries. And which cells need a name.
-ghost use Rattle.std.specs.Prelude.{◌≡◌, ◌<◌, ◌≤◌, ◌/◌, ◌%◌, ◌==◌, ◌||◌, IfOk, vec_len};
+ghost use Rattle.std.specs.Prelude.{◌≡◌, ◌<◌, ◌≤◌, ◌/◌, ◌%◌, ◌==◌, ◌||◌, vec_len};
 
 use crate::instructions::{Form, form_of, size_of};
 use crate::program::Cell;
@@ -41,13 +41,6 @@ pub struct Mark {
     pub is_exit: bool,
 }
 
-/// The words of an instruction.
-#[derive(Clone, Copy)]
-struct Words {
-    first: u16,
-    second: Option<u16>,
-}
-
 /// A cell of which nothing is known.
 const UNKNOWN: Mark = Mark {
     word: None,
@@ -74,7 +67,7 @@ fn ends(code: u8) -> bool {
 
 /// Returns whether the code is of a jump that depends on a channel.
 fn is_channel_jump(code: u8) -> bool {
-    code >= 0o64 && code <= 0o67
+    (0o64..=0o67).contains(&code)
 }
 
 /// Returns whether the second word of the instruction with a code is the address of an instruction.
@@ -122,11 +115,8 @@ impl Flow {
         for entry in entries {
             flow.enter(*entry)?;
         }
-        for _ in entries {
-            flow.follow_next()?;
-        }
         // Each instruction leads to two others at most, beside the next one.
-        for _ in 0..2 * CELLS {
+        for _ in 0..entries.len().saturating_add(2 * CELLS) {
             flow.follow_next()?;
         }
         flow.name_operands();
@@ -152,10 +142,8 @@ impl Flow {
 
     /// Returns what is known of the cell at an address.
     pub fn mark(&self, address: u16) -> Mark {
-        self.marks
-            .get(usize::from(address))
-            .copied()
-            .unwrap_or(UNKNOWN)
+        let mark = self.marks.get(usize::from(address));
+        mark.copied().unwrap_or(UNKNOWN)
     }
 
     /// Returns whether the cell at an address is the exit of a subroutine.
@@ -186,81 +174,50 @@ impl Flow {
     /// Puts the words of cells into their marks.
     fn put_words(&mut self, cells: &[Cell]) {
         for cell in cells {
-            if let Some(mark) = self.marks.get_mut(usize::from(cell.address)) {
-                mark.word = Some(cell.word);
-            }
+            let mut mark = self.mark(cell.address);
+            mark.word = Some(cell.word);
+            self.put(cell.address, mark);
+        }
+    }
+
+    /// Puts what is known of the cell at an address.
+    fn put(&mut self, address: u16, mark: Mark) {
+        if let Some(place) = self.marks.get_mut(usize::from(address)) {
+            *place = mark;
         }
     }
 
     /// Gives a cell a name of this kind, if it has none.
     fn name(&mut self, address: u16, kind: Kind) {
-        if let Some(mark) = self.marks.get_mut(usize::from(address)) {
-            if mark.label.is_none() {
-                mark.label = Some(kind);
-            }
-        }
-    }
-
-    /// Names a cell as a subroutine, in place of any other name.
-    fn name_subroutine(&mut self, address: u16) {
-        if let Some(mark) = self.marks.get_mut(usize::from(address)) {
-            mark.label = Some(Kind::Subroutine);
-        }
+        let mut mark = self.mark(address);
+        mark.label = Some(mark.label.unwrap_or(kind));
+        self.put(address, mark);
     }
 
     /// Makes a cell a part of an instruction.
     fn put_role(&mut self, address: u16, role: Role) {
-        if let Some(mark) = self.marks.get_mut(usize::from(address)) {
-            mark.role = role;
-        }
+        let mark = self.mark(address);
+        self.put(address, Mark { role, ..mark });
     }
 
     /// Returns the word of a cell that is there and is of no instruction.
     fn free_word(&self, address: u16) -> Option<u16> {
         let mark = self.mark(address);
-        if mark.role == Role::Data {
-            mark.word
-        } else {
-            None
-        }
+        mark.word.filter(|_| mark.role == Role::Data)
     }
 
     /// Returns the words of the instruction at an address, if there can be one: they are there, and of no other
     /// instruction. A word of zero is none.
-    fn words_at(&self, address: u16) -> Option<Words>
+    fn words_at(&self, address: u16) -> Option<(u16, Option<u16>)>
         requires { address < 0o10000 }
     {
-        let first = self.free_word(address)?;
-        let (code, _) = parts(first);
-        if first == 0 || is_unnamed(code) {
-            return None;
+        let word = self.free_word(address)?;
+        let (code, _) = parts(word);
+        match size_of(code) {
+            _ if word == 0 || is_unnamed(code) => None,
+            1 => Some((word, None)),
+            _ => Some((word, Some(self.free_word(address + 1)?))),
         }
-        if size_of(code) == 1 {
-            return Some(Words {
-                first,
-                second: None,
-            });
-        }
-        let second = self.free_word(address + 1)?;
-        Some(Words {
-            first,
-            second: Some(second),
-        })
-    }
-
-    /// Makes the words at an address an instruction, and returns the address after it.
-    fn take(&mut self, address: u16, words: Words) -> Result<u16, AllocError>
-        requires { address < 0o10000 }
-        ensures { IfOk result (λ after. after ≤ 0o10001) }
-    {
-        self.reached.push(address)?;
-        if words.second.is_none() {
-            self.put_role(address, Role::Single);
-            return Ok(address + 1);
-        }
-        self.put_role(address, Role::First);
-        self.put_role(address + 1, Role::Second);
-        Ok(address + 2)
     }
 
     /// Takes the instructions from an address on, up to one after which the flow ends.
@@ -270,56 +227,66 @@ impl Flow {
             if usize::from(address) >= CELLS {
                 break;
             }
-            let Some(words) = self.words_at(address) else {
+            let Some((word, second)) = self.words_at(address) else {
                 break;
             };
-            let after = self.take(address, words)?;
-            self.add_targets(address, words)?;
-            if ends(parts(words.first).0) {
+            self.reached.push(address)?;
+            if second.is_some() {
+                self.put_role(address, Role::First);
+                self.put_role(address + 1, Role::Second);
+            } else {
+                self.put_role(address, Role::Single);
+            }
+            self.add_targets(address, word, second)?;
+            if ends(parts(word).0) {
                 break;
             }
-            address = after;
+            address += if second.is_some() { 2 } else { 1 };
         }
         Ok(())
     }
 
     /// Names the cells to which an instruction leads, beside the next one, and lets the flow be followed from them.
-    fn add_targets(&mut self, address: u16, words: Words) -> Result<(), AllocError>
+    fn add_targets(
+        &mut self,
+        address: u16,
+        word: u16,
+        second: Option<u16>,
+    ) -> Result<(), AllocError>
         requires { address < 0o10000 }
     {
-        let (code, d) = parts(words.first);
+        let (code, d) = parts(word);
         if form_of(code) == Form::Target {
             let target = relative(address, d);
             if target != address {
                 self.name(target, Kind::Code);
             }
             self.waiting.push(target)?;
-            return Ok(());
         }
-        let Some(second) = words.second else {
-            return Ok(());
-        };
-        if code == RJM && d == 0 {
-            return self.add_subroutine(second);
-        }
-        if is_channel_jump(code) || code == LJM && d == 0 {
-            self.waiting.push(second)?;
+        match second {
+            Some(second) if code == RJM && d == 0 => self.add_subroutine(second)?,
+            Some(second) if is_channel_jump(code) || code == LJM && d == 0 => self
+                .waiting
+                .push(second)?,
+            _ => {}
         }
         Ok(())
     }
 
     /// Names a subroutine, and lets the flow be followed from its first instruction, and from its exit if that is a long jump.
     fn add_subroutine(&mut self, entry: u16) -> Result<(), AllocError> {
-        self.name_subroutine(entry);
+        let mut mark = self.mark(entry);
+        mark.label = Some(Kind::Subroutine);
+        self.put(entry, mark);
         self.waiting.push((entry & 0o7777) + 1 & 0o7777)?;
         if entry == 0 || self.free_word(entry).is_none() {
             return Ok(());
         }
         let exit = entry - 1;
         if self.free_word(exit) == Some(u16::from(LJM) << 6) {
-            if let Some(mark) = self.marks.get_mut(usize::from(exit)) {
-                mark.is_exit = true;
-            }
+            let mut mark = self.mark(exit);
+            mark.is_exit = true;
+            self.put(exit, mark);
             self.waiting.push(exit)?;
         }
         Ok(())
@@ -327,8 +294,8 @@ impl Flow {
 
     /// Names the cells that second words name.
     fn name_operands(&mut self) {
-        for i in 0..self.reached.len() {
-            if let Some(address) = self.reached.get(i).copied() {
+        for index in 0..self.reached.len() {
+            if let Some(address) = self.reached.get(index).copied() {
                 self.name_operand(address);
             }
         }

@@ -2,102 +2,92 @@
 use crate::digits::put_octal;
 use crate::fields::{Statement, length_without_blanks};
 use crate::lines::{Call, Line, Lines, Span};
-use crate::message::{Argument, Fault, Field, Stop};
+use crate::message::{Argument, Fault, Field, Outcome, Stop};
 use crate::pass::{Here, Pass, too_many_statements};
 use crate::symbols::end_of_name;
-use crate::texts::{after_blanks, end_of_word, find, is_alphanumeric};
+use crate::texts::{find, is_alphanumeric};
 use crate::vocabulary::{Macro, Meaning, Vocabulary};
-use std::alloc::AllocError;
+use std::alloc::{AllocError, Global};
 
 /// How many symbols a line has that a macro makes.
 const LONGEST: usize = 1000;
 /// How many macros call one another.
 const MOST_CALLS: u32 = 20;
+/// How many times the lines of a call are gone over, as IRP repeats them.
+const MOST_PARTS: u32 = 1_000_000;
+/// The columns of a label in a line that a macro makes.
+const LABEL: usize = 8;
+/// The columns of an operation there.
+const OPERATION: usize = 6;
 
 const LISTS_DIFFER: &str =
     "warning: the lists of ECHO are of several lengths; the shortest one ends it";
-/// How many lines of macros a call goes over.
-const MOST_LINES: u32 = 1_000_000;
-/// The columns of a label and of an operation in a line that a macro makes.
-const LABEL: usize = 8;
 
-const OPERATION: usize = 6;
-
-/// The operands of a macro's call between commas that are in no parentheses.
+/// An operand of a macro's call: its column, and the part of the line without its parentheses.
 #[derive(Clone, Copy)]
-pub struct Operands {
-    end: usize,
-    next: Option<usize>,
-    depth: i64,
-}
-
-/// An operand: its column, and the part of the line without its parentheses.
-#[derive(Clone, Copy)]
-pub struct Operand {
+struct Operand {
     column: usize,
     text: Field,
 }
 
-impl Operands {
-    pub fn new(operand: Field) -> Self {
-        Operands {
-            end: operand.end,
-            next: if operand.is_empty() {
-                None
-            } else {
-                Some(operand.first)
-            },
-            depth: 0,
-        }
-    }
-
-    /// Returns the next operand, or `None` after the last one.
-    pub fn next(&mut self, line: &[u8]) -> Option<Operand> {
-        let column = self.next?;
-        let end = self.end_of_next(line, column);
-        self.next = if end < self.end {
-            Some(end.saturating_add(1))
-        } else {
-            None
+impl Operand {
+    fn new(line: &[u8], column: usize, end: usize) -> Self {
+        let text = match Field::new(column, end).of(line) {
+            [b'(', .., b')'] => Field::new(column.saturating_add(1), end.saturating_sub(1)),
+            _ => Field::new(column, end),
         };
-        Some(Operand {
-            column,
-            text: without_parentheses(line, Field::new(column, end)),
-        })
+        Operand { column, text }
     }
+}
 
-    fn end_of_next(&mut self, line: &[u8], from: usize) -> usize {
-        for at in from..self.end {
-            match line.get(at) {
-                Some(b'(') => self.depth = self.depth.saturating_add(1),
-                Some(b')') => self.depth = self.depth.saturating_sub(1),
-                Some(b',') if self.depth <= 0 => return at,
-                _ => {}
+/// Returns the operands of a macro's call, between commas that are in no parentheses.
+fn operands_of(alloc: Global, line: &[u8], operand: Field) -> Result<Vec<Operand>, AllocError> {
+    let mut operands = Vec::new(alloc);
+    let mut first = operand.first;
+    let mut depth: i64 = 0;
+    for at in operand.first..operand.end {
+        match line.get(at) {
+            Some(b'(') => depth = depth.saturating_add(1),
+            Some(b')') => depth = depth.saturating_sub(1),
+            Some(b',') if depth <= 0 => {
+                operands.push(Operand::new(line, first, at))?;
+                first = at.saturating_add(1);
             }
+            _ => {}
         }
-        self.end
+    }
+    if !operand.is_empty() {
+        operands.push(Operand::new(line, first, operand.end))?;
+    }
+    Ok(operands)
+}
+
+/// Returns the part of a text before a symbol, and the part after it, if it has the symbol.
+pub fn cut(text: &[u8], symbol: u8) -> (&[u8], Option<&[u8]>) {
+    match find(text, 0, symbol) {
+        Some(at) => (
+            text.get(..at).unwrap_or(text),
+            text.get(at.saturating_add(1)..),
+        ),
+        None => (text, None),
     }
 }
 
-fn without_parentheses(line: &[u8], part: Field) -> Field {
-    match part.of(line) {
-        [b'(', .., b')'] => Field::new(part.first.saturating_add(1), part.end.saturating_sub(1)),
-        _ => part,
-    }
+/// Returns the first item of a list that is kept, and the others, if there are some.
+fn split(kept: &[u8], list: Span) -> (Span, Option<Span>) {
+    let (item, others) = cut(list.of(kept), b',');
+    let end = list.first.saturating_add(item.len());
+    let others = others.map(|_| Span::new(end.saturating_add(1), list.end));
+    (Span::new(list.first, end), others)
 }
 
-/// Returns the parts of an operand before and after its =, if it has one.
-fn around_equal(line: &[u8], part: Field) -> (Field, Option<Field>) {
-    match find(part.of(line), 0, b'=') {
-        Some(length) => {
-            let at = part.first.saturating_add(length);
-            (
-                Field::new(part.first, at),
-                Some(Field::new(at.saturating_add(1), part.end)),
-            )
-        }
-        None => (part, None),
-    }
+/// Lines of a macro that are still to be made with the first values, and of IRP its name, with the items that it is in turn.
+#[derive(Clone, Copy)]
+pub struct Repetition {
+    body: Span,
+    values: usize,
+    name: Span,
+    items: Option<Span>,
 }
 
 impl Pass {
@@ -108,18 +98,15 @@ impl Pass {
         statement: Statement,
         has_names: bool,
         body: Span,
-    ) -> Result<(), Stop> {
-        let mut operands = Operands::new(statement.operand);
-        let mut name = statement.location;
-        let mut label = Field::none();
-        if name.is_empty() {
-            if let Some(first) = operands.next(here.text) {
-                name = first.text;
-            }
-            if let Some(second) = operands.next(here.text) {
-                label = second.text;
-            }
-        }
+    ) -> Outcome {
+        let operands = operands_of(self.alloc, here.text, statement.operand)?;
+        let none = Field::none();
+        let (name, label, operands) = match operands.as_slice() {
+            all if !statement.location.is_empty() => (statement.location, none, all),
+            [name, label, operands @ ..] => (name.text, label.text, operands),
+            [name] => (name.text, none, [].as_slice()),
+            [] => (none, none, [].as_slice()),
+        };
         if name.is_empty() {
             return Err(Stop::of("{} wants a name", statement.operation));
         }
@@ -139,30 +126,26 @@ impl Pass {
     fn keep_operands(
         &mut self,
         here: &Here,
-        operands: Operands,
+        operands: &[Operand],
         has_names: bool,
-    ) -> Result<Span, Stop> {
-        let mut operands = operands;
+    ) -> Outcome<Span> {
         let first = self.vocabulary.operands.len();
-        for _ in 0..here.text.len() {
-            let Some(operand) = operands.next(here.text) else {
-                break;
+        for operand in operands {
+            let text = operand.text.of(here.text);
+            let (name, value) = match has_names {
+                true => cut(text, b'='),
+                false => (text, None),
             };
-            let (name, value) = if has_names {
-                around_equal(here.text, operand.text)
-            } else {
-                (operand.text, None)
-            };
-            let name = self.keep_name(here, name)?;
-            let value = value.unwrap_or(Field::none());
-            let text = self.vocabulary.keep(value.of(here.text))?;
+            let end = operand.text.first.saturating_add(name.len());
+            let name = self.keep_name(here, Field::new(operand.text.first, end))?;
+            let text = self.vocabulary.keep(value.unwrap_or(b""))?;
             self.vocabulary.operands.push(Meaning { name, text })?;
         }
         Ok(Span::new(first, self.vocabulary.operands.len()))
     }
 
     /// Keeps a name, and reports if it is none.
-    fn keep_name(&mut self, here: &Here, name: Field) -> Result<Span, Stop> {
+    fn keep_name(&mut self, here: &Here, name: Field) -> Outcome<Span> {
         let text = name.of(here.text);
         if !text.is_empty() && end_of_name(text, 0) != Some(text.len()) {
             self.report_stop(here, Stop::of("{} is no name", name))?;
@@ -170,127 +153,160 @@ impl Pass {
         Ok(self.vocabulary.keep(text)?)
     }
 
-    /// Makes the lines of a macro's call, which are performed next.
+    /// Makes the lines of a macro's call, which are performed next. The column is that of its name in the source.
     pub fn call(
         &mut self,
         lines: &mut Lines,
         statement: Statement,
         called: Macro,
-    ) -> Result<(), Stop> {
+        column: usize,
+    ) -> Outcome {
         let kept = self.vocabulary.text.len();
-        let line = self.begin_call(lines, statement, called)?;
+        let here = Here::new(lines, self.at);
+        self.begin_call(&here, statement, called)?;
+        let column = here.line.call.map_or(column, |outer| outer.column);
+        let name = here.span_of(statement.operation);
+        let line = Line {
+            joins: Span::none(),
+            call: Some(Call { column, name }),
+            ..here.line
+        };
         let made = self.expand(lines, statement.operation, line, called.body)?;
         self.vocabulary.text.truncate(kept);
         self.push_run(made, 1, 1)
     }
 
-    /// Gives the operands of a call to the names of a macro, and its address to its label. Returns a line as the call makes it.
-    fn begin_call(
-        &mut self,
-        lines: &Lines,
-        statement: Statement,
-        called: Macro,
-    ) -> Result<Line, Stop> {
-        let here = Here::new(lines, self.at);
+    /// Gives the operands of a call to the names of a macro, and its address to its label.
+    fn begin_call(&mut self, here: &Here, statement: Statement, called: Macro) -> Outcome {
         let name = statement.operation;
-        self.vocabulary.give_operands(&here, statement, called)?;
+        self.give_operands(here, statement, called)?;
         let has_label = !statement.location.is_empty();
-        let is_named = called.label.is_empty();
-        if !is_named && !has_label {
+        if !called.label.is_empty() && !has_label {
             return Err(Stop::of("{} wants a label", name));
         }
         if self.present.calls >= MOST_CALLS {
             let fault = "macros call one another more than 20 (decimal) deep";
             return Err(Stop::At(name.first, Fault::new(fault)));
         }
-        if is_named {
-            self.label(&here, statement)?;
-        } else {
-            let text = self.vocabulary.keep(statement.location.of(here.text))?;
-            self.vocabulary.values.push(Meaning {
-                name: called.label,
-                text,
-            })?;
+        if called.label.is_empty() {
+            self.label(here, statement)?;
+            return self.plain_row(here, has_label);
         }
-        self.plain_row(&here, has_label && is_named)?;
-        Ok(Line {
-            joins: Span::none(),
-            call: Some(Call {
-                column: match here.line.call {
-                    Some(outer) => outer.column,
-                    None => name.first,
-                },
-                name: here.span_of(name),
-            }),
-            ..here.line
-        })
+        let text = self.vocabulary.keep(statement.location.of(here.text))?;
+        let name = called.label;
+        self.vocabulary.values.push(Meaning { name, text })?;
+        self.plain_row(here, false)
     }
 
-    /// Makes the lines of a macro's call. A name of LOCAL becomes another one in each call; the lines between two IRP are there once
-    /// for each part of an operand.
-    fn expand(
-        &mut self,
-        lines: &mut Lines,
-        name: Field,
-        line: Line,
-        body: Span,
-    ) -> Result<Span, Stop> {
+    /// Gives the operands of a call to the names of a macro: to that in its place, or to that which it has.
+    fn give_operands(&mut self, here: &Here, statement: Statement, called: Macro) -> Outcome {
+        let operands = operands_of(self.alloc, here.text, statement.operand)?;
+        let words = &mut self.vocabulary;
+        let Span { first, end } = called.operands;
+        let names = words.operands.get(first..end).unwrap_or(&[]);
+        let most = names.len();
+        words.values.clear();
+        words.values.extend_from_slice(names)?;
+        for (index, operand) in operands.iter().enumerate() {
+            let text = operand.text.of(here.text);
+            let given = match words.values.get(index) {
+                _ if called.has_names => words.named(text),
+                Some(own) if index < most => Some((own.name, text)),
+                _ => None,
+            };
+            let Some((name, text)) = given else {
+                let fault = called.wrong(statement.operation, most, operands.len());
+                return Err(Stop::At(operand.column, fault));
+            };
+            let text = words.keep(text)?;
+            words.values.push(Meaning { name, text })?;
+        }
+        Ok(())
+    }
+
+    /// Makes the lines of a macro's call.
+    fn expand(&mut self, lines: &mut Lines, name: Field, line: Line, body: Span) -> Outcome<Span> {
         let first = lines.all.len();
-        let mut rest = body;
         self.parts.clear();
-        for _ in 0..MOST_LINES {
-            if rest.first < rest.end {
-                rest = self.expand_line(lines, name, line, rest)?;
-            } else if let Some(next) = self.next_part()? {
-                rest = next;
-            } else {
+        self.add_part(body, Span::none(), None)?;
+        for _ in 0..MOST_PARTS {
+            let Some(part) = self.parts.pop() else {
                 return Ok(Span::new(first, lines.all.len()));
-            }
+            };
+            self.expand_part(lines, name, line, part)?;
         }
         Err(too_many_statements())
     }
 
-    /// Makes what the next line of a macro makes, and returns the lines after it.
-    fn expand_line(
+    /// Lets lines be made with the present values, once or for each item of a list.
+    fn add_part(&mut self, body: Span, name: Span, items: Option<Span>) -> Outcome {
+        let values = self.vocabulary.values.len();
+        let part = Repetition {
+            body,
+            values,
+            name,
+            items,
+        };
+        Ok(self.parts.push(part)?)
+    }
+
+    /// Makes lines up to an IRP. A name of LOCAL becomes another one in each call.
+    fn expand_part(
         &mut self,
         lines: &mut Lines,
         name: Field,
         line: Line,
-        rest: Span,
-    ) -> Result<Span, Stop> {
-        let after = Span::new(rest.first.saturating_add(1), rest.end);
-        if let Some(next) = self.inside(lines, rest.first, after)? {
-            return Ok(next);
+        part: Repetition,
+    ) -> Outcome {
+        let words = &mut self.vocabulary;
+        words.values.truncate(part.values);
+        if let Some(items) = part.items {
+            let (text, items) = split(&words.text, items);
+            if items.is_some() {
+                self.parts.push(Repetition { items, ..part })?;
+            }
+            let name = part.name;
+            words.values.push(Meaning { name, text })?;
         }
-        self.replace_line(lines, rest.first)?;
-        self.add_made(lines, name, line)?;
-        Ok(after)
+        for index in part.body.first..part.body.end {
+            let here = Here::new(lines, index);
+            match first_words(here.text) {
+                (b"LOCAL", names) => self.vocabulary.give_locals(names)?,
+                (b"IRP", name) if !name.is_empty() => {
+                    let rest = Span::new(index.saturating_add(1), part.body.end);
+                    return self.begin_parts(lines, name, rest);
+                }
+                _ => {
+                    self.replace_line(lines, here)?;
+                    self.add_made(lines, name, line)?;
+                }
+            }
+        }
+        Ok(())
     }
 
-    /// Performs a LOCAL or an IRP of a macro, and returns the lines that come next.
-    fn inside(&mut self, lines: &Lines, index: usize, after: Span) -> Result<Option<Span>, Stop> {
-        let here = Here::new(lines, index);
-        let (word, operand) = first_words(here.text);
-        let name = operand.of(here.text);
-        match word.of(here.text) {
-            b"LOCAL" => {
-                self.vocabulary.give_locals(name)?;
-                Ok(Some(after))
+    /// Begins the lines up to the next IRP, which are there once for each item of what is given for a name.
+    fn begin_parts(&mut self, lines: &Lines, name: &[u8], rest: Span) -> Outcome {
+        let end = (rest.first..rest.end)
+            .find(|at| matches!(first_words(Here::new(lines, *at).text), (b"IRP", b"")))
+            .unwrap_or(rest.end);
+        let words = &mut self.vocabulary;
+        let items = words.meaning(&words.values, name);
+        let name = words.keep(name)?;
+        self.add_part(Span::new(end.saturating_add(1), rest.end), name, None)?;
+        match items {
+            Some(list) if !list.is_empty() => {
+                self.add_part(Span::new(rest.first, end), name, items)
             }
-            b"IRP" if !operand.is_empty() => {
-                let end = end_of_parts(lines, after);
-                let name = self.vocabulary.keep(name)?;
-                Ok(Some(self.begin_parts(name, after, end)?))
-            }
-            _ => Ok(None),
+            _ => Ok(()),
         }
     }
 
     /// Adds the line that has been made.
-    fn add_made(&mut self, lines: &mut Lines, name: Field, line: Line) -> Result<(), Stop> {
+    fn add_made(&mut self, lines: &mut Lines, name: Field, line: Line) -> Outcome {
         if self.vocabulary.made.len() > LONGEST {
-            let fault = Fault::new("a line that {} makes has more than 1000 (decimal) symbols");
-            return Err(Stop::At(name.first, fault.part(name)));
+            let fault = "a line that {} makes has more than 1000 (decimal) symbols";
+            return Err(Stop::of(fault, name));
         }
         self.count_made()?;
         lines.add(line, &self.vocabulary.made)?;
@@ -298,8 +314,7 @@ impl Pass {
     }
 
     /// Makes a line of a macro's line with what is given for its names, in the usual columns and without its comment.
-    fn replace_line(&mut self, lines: &Lines, index: usize) -> Result<(), Stop> {
-        let here = Here::new(lines, index);
+    fn replace_line(&mut self, lines: &Lines, here: Here) -> Outcome {
         self.vocabulary.made.clear();
         if here.text.first() == Some(&b'*') {
             let text = lines.text_of(here.line);
@@ -310,63 +325,19 @@ impl Pass {
             Ok(None) => return Ok(()),
             Err(_) => return Ok(self.vocabulary.replace(here.text)?),
         };
-        let label = statement.location.of(here.text);
-        let name = statement.operation.of(here.text);
-        let operand = statement.operand.of(here.text);
         let words = &mut self.vocabulary;
         words.made.push(b' ')?;
-        words.replace_padded(label, LABEL)?;
-        words.replace_padded(name, OPERATION)?;
-        words.replace(operand)?;
+        words.replace_padded(statement.location.of(here.text), LABEL)?;
+        words.replace_padded(statement.operation.of(here.text), OPERATION)?;
+        words.replace(statement.operand.of(here.text))?;
         let length = length_without_blanks(&words.made);
         words.made.truncate(length);
         Ok(())
     }
 
-    /// Begins the lines between two IRP, which are there once for each part of what is given for a name.
-    fn begin_parts(&mut self, name: Span, after: Span, end: usize) -> Result<Span, Stop> {
-        let words = &mut self.vocabulary;
-        let rest = match words.meaning(&words.values, words.text_of(name)) {
-            Some(value) if value.first < value.end => Some(value),
-            _ => None,
-        };
-        self.parts.push(Repetition {
-            name,
-            rest,
-            body: Span::new(after.first, end),
-            after: Span::new(end.saturating_add(1), after.end),
-            values: words.values.len(),
-        })?;
-        Ok(self.next_part()?.unwrap_or(after))
-    }
-
-    /// Returns the lines for the next part of what is given for a name, or those after them; none if nothing is repeated.
-    fn next_part(&mut self) -> Result<Option<Span>, Stop> {
-        let Some(one) = self.parts.pop() else {
-            return Ok(None);
-        };
-        let words = &mut self.vocabulary;
-        words.values.truncate(one.values);
-        let Some(value) = one.rest else {
-            return Ok(Some(one.after));
-        };
-        let (part, rest) = split(&words.text, value);
-        words.values.push(Meaning {
-            name: one.name,
-            text: part,
-        })?;
-        self.parts.push(Repetition { rest, ..one })?;
-        Ok(Some(one.body))
-    }
-
     /// Repeats lines with one item of each list: ECHO n,P=(A,B),Q=(C,D).
-    pub fn echo(
-        &mut self,
-        lines: &mut Lines,
-        statement: Statement,
-        body: Span,
-    ) -> Result<(), Stop> {
-        let count = self.give_lists(lines, statement)?;
+    pub fn echo(&mut self, lines: &mut Lines, statement: Statement, body: Span) -> Outcome {
+        let count = self.give_lists(&Here::new(lines, self.at), statement)?;
         for _ in 0..count {
             self.vocabulary.give_items()?;
             self.echo_lines(lines, statement.operation, body)?;
@@ -383,165 +354,82 @@ impl Pass {
     }
 
     /// Makes lines with what is given for their names.
-    fn echo_lines(&mut self, lines: &mut Lines, name: Field, body: Span) -> Result<(), Stop> {
+    fn echo_lines(&mut self, lines: &mut Lines, name: Field, body: Span) -> Outcome {
         for index in body.first..body.end {
-            let line = self.echo_line(lines, index)?;
+            let Here { line, text, .. } = Here::new(lines, index);
+            self.vocabulary.made.clear();
+            self.vocabulary.replace(text)?;
             self.add_made(lines, name, line)?;
         }
         Ok(())
     }
 
-    fn echo_line(&mut self, lines: &Lines, index: usize) -> Result<Line, Stop> {
-        let here = Here::new(lines, index);
-        self.vocabulary.made.clear();
-        self.vocabulary.replace(here.text)?;
-        Ok(here.line)
-    }
-
     /// Gives the lists of ECHO to their names. Returns how many items the shortest one has.
-    fn give_lists(&mut self, lines: &Lines, statement: Statement) -> Result<usize, Stop> {
-        let here = Here::new(lines, self.at);
-        let mut operands = Operands::new(statement.operand);
-        operands.next(here.text);
+    fn give_lists(&mut self, here: &Here, statement: Statement) -> Outcome<usize> {
         self.vocabulary.lists.clear();
-        let mut sizes = None;
-        for _ in 0..here.text.len() {
-            let Some(operand) = operands.next(here.text) else {
-                break;
-            };
-            let (name, Some(list)) = around_equal(here.text, operand.text) else {
+        let (mut least, mut most) = (usize::MAX, 0);
+        let operands = operands_of(self.alloc, here.text, statement.operand)?;
+        for operand in operands.get(1..).unwrap_or(&[]) {
+            let (name, Some(list)) = cut(operand.text.of(here.text), b'=') else {
                 let fault = Fault::new("{} is no name, a = and a list").part(operand.text);
                 return Err(Stop::At(operand.column, fault));
             };
-            let list = without_all_parentheses(list.of(here.text));
-            let name = self.vocabulary.keep(name.of(here.text))?;
+            let list = without_all_parentheses(list);
+            let name = self.vocabulary.keep(name)?;
             let text = self.vocabulary.keep(list)?;
             self.vocabulary.lists.push(Meaning { name, text })?;
-            let size = items_of(list);
-            let (least, most) = sizes.unwrap_or((size, size));
-            sizes = Some((size.min(least), size.max(most)));
+            let size = list.split(|symbol| *symbol == b',').count();
+            least = size.min(least);
+            most = size.max(most);
         }
-        let (least, most) = sizes.unwrap_or((0, 0));
         if least < most {
             let fault = Fault::new(LISTS_DIFFER);
-            self.warn(&here, statement.operation.first, fault)?;
+            self.warn(here, statement.operation.first, fault)?;
         }
-        Ok(least)
+        Ok(least.min(most))
     }
 }
 
-/// Lines between two IRP: the name, what is given for it from the next part on, the lines, those after them, and how many values are
-/// given outside of them.
-#[derive(Clone, Copy)]
-pub struct Repetition {
-    name: Span,
-    rest: Option<Span>,
-    body: Span,
-    after: Span,
-    values: usize,
+impl Macro {
+    /// Returns that a call does not have the operands that it may have.
+    fn wrong(self, name: Field, most: usize, count: usize) -> Fault {
+        if self.has_names {
+            let fault = Fault::new("{} takes {} and nothing else").part(name);
+            return fault.with(Argument::Names(self.operands));
+        }
+        let fault = Fault::new("{} takes {} (decimal) operands, not {}").part(name);
+        fault.count(most).count(count)
+    }
 }
 
 impl Vocabulary {
-    /// Gives a text to a name.
-    fn give(&mut self, name: &[u8], text: &[u8]) -> Result<(), Stop> {
-        let name = self.keep(name)?;
-        let text = self.keep(text)?;
-        Ok(self.values.push(Meaning { name, text })?)
-    }
-
     /// Gives new names to those of LOCAL.
-    fn give_locals(&mut self, names: &[u8]) -> Result<(), Stop> {
-        let mut rest = Some(self.keep(names)?);
-        for _ in 0..names.len() {
-            let Some(span) = rest else {
-                break;
-            };
-            let (name, after) = split(&self.text, span);
-            rest = after;
+    fn give_locals(&mut self, names: &[u8]) -> Outcome {
+        if names.is_empty() {
+            return Ok(());
+        }
+        for name in names.split(|symbol| *symbol == b',') {
+            let name = self.keep(name)?;
             self.locals = self.locals.saturating_add(1);
             let first = self.text.len();
             self.text.extend_from_slice(b"Z.")?;
             put_octal(&mut self.text, i64::from(self.locals), 4)?;
-            let end = self.text.len();
-            self.values.push(Meaning {
-                name,
-                text: Span::new(first, end),
-            })?;
+            let text = Span::new(first, self.text.len());
+            self.values.push(Meaning { name, text })?;
         }
         Ok(())
     }
 
-    /// Gives the operands of a call to the names of a macro.
-    fn give_operands(
-        &mut self,
-        here: &Here,
-        statement: Statement,
-        called: Macro,
-    ) -> Result<(), Stop> {
-        self.values.clear();
-        for index in called.operands.first..called.operands.end {
-            if let Some(operand) = self.operands.get(index).copied() {
-                self.values.push(operand)?;
-            }
-        }
-        let mut operands = Operands::new(statement.operand);
-        for index in 0..here.text.len() {
-            let Some(operand) = operands.next(here.text) else {
-                break;
-            };
-            if called.has_names {
-                self.give_named(here, statement, called, operand)?;
-            } else {
-                self.give_next(here, statement, called, (index, operand))?;
-            }
-        }
-        Ok(())
-    }
-
-    /// Gives an operand to the name in its place.
-    fn give_next(
-        &mut self,
-        here: &Here,
-        statement: Statement,
-        called: Macro,
-        given: (usize, Operand),
-    ) -> Result<(), Stop> {
-        let (index, operand) = given;
-        let most = called.operands.end.saturating_sub(called.operands.first);
-        let name = match self.values.get(index) {
-            Some(value) if index < most => value.name,
-            _ => {
-                let fault = Fault::new("{} takes {} (decimal) operands, not {}");
-                let fault = fault.part(statement.operation).count(most);
-                let count = count_of(here.text, statement.operand);
-                return Err(Stop::At(operand.column, fault.count(count)));
-            }
+    /// Returns the name before the = of an operand, if the macro has it, and what is given to it.
+    fn named<'a>(&self, operand: &'a [u8]) -> Option<(Span, &'a [u8])> {
+        let (name, Some(value)) = cut(operand, b'=') else {
+            return None;
         };
-        let text = self.keep(operand.text.of(here.text))?;
-        Ok(self.values.push(Meaning { name, text })?)
-    }
-
-    /// Gives an operand to the name that it has.
-    fn give_named(
-        &mut self,
-        here: &Here,
-        statement: Statement,
-        called: Macro,
-        operand: Operand,
-    ) -> Result<(), Stop> {
-        let (name, value) = around_equal(here.text, operand.text);
-        let name = name.of(here.text);
+        let mut values = self.values.iter();
+        let own = values.find(|own| self.text_of(own.name) == name)?;
         match value {
-            Some(value) if self.meaning(&self.values, name).is_some() => {
-                let value = without_parentheses(here.text, value);
-                self.give(name, value.of(here.text))
-            }
-            _ => {
-                let fault = Fault::new("{} takes {} and nothing else");
-                let fault = fault.part(statement.operation);
-                let fault = fault.with(Argument::Names(called.operands));
-                Err(Stop::At(operand.column, fault))
-            }
+            [b'(', value @ .., b')'] => Some((own.name, value)),
+            value => Some((own.name, value)),
         }
     }
 
@@ -551,43 +439,23 @@ impl Vocabulary {
         for list in &mut self.lists {
             let (text, rest) = split(&self.text, list.text);
             list.text = rest.unwrap_or(Span::new(text.end, text.end));
-            self.values.push(Meaning {
-                name: list.name,
-                text,
-            })?;
+            let name = list.name;
+            self.values.push(Meaning { name, text })?;
         }
         Ok(())
     }
 
-    /// Adds a text to the line that is made, with what is given for its names; a _ between names joins them.
+    /// Adds a text to the line that is made, with what is given for its names; a _ between names joins them. The B of 12B is no name,
+    /// the A of $A$ is one.
     fn replace(&mut self, text: &[u8]) -> Result<(), AllocError> {
-        let mut next: usize = 0;
-        for at in 0..text.len() {
-            if at < next {
-                continue;
-            }
-            next = end_of_parameter(text, at);
-            let name = text.get(at..next).unwrap_or(b"");
-            let value = if begins_parameter(text, at) {
-                self.meaning(&self.values, name)
-            } else {
-                None
+        for word in text.chunk_by(|one, next| is_alphanumeric(*one) && is_alphanumeric(*next)) {
+            let given = match word {
+                [b'A'..=b'Z', ..] => self.meaning(&self.values, word),
+                _ => None,
             };
-            match value {
-                Some(value) => self.add_joined(value)?,
-                None if matches!(name, b"_") => {}
-                None => self.made.extend_from_slice(name)?,
-            }
-        }
-        Ok(())
-    }
-
-    /// Adds a text that is kept, but for each _ in it, to the line that is made.
-    fn add_joined(&mut self, text: Span) -> Result<(), AllocError> {
-        for index in text.first..text.end {
-            match self.text.get(index).copied() {
-                Some(symbol) if symbol != b'_' => self.made.push(symbol)?,
-                _ => {}
+            let word = given.map_or(word, |given| given.of(&self.text));
+            for symbol in word.iter().filter(|symbol| **symbol != b'_') {
+                self.made.push(*symbol)?;
             }
         }
         Ok(())
@@ -604,107 +472,19 @@ impl Vocabulary {
     }
 }
 
-/// Returns whether the name of an operand may begin at a column: the B of 12B is none, the A of $A$ is one.
-fn begins_parameter(text: &[u8], at: usize) -> bool {
-    let is_letter = match text.get(at) {
-        Some(symbol) => symbol.is_ascii_uppercase(),
-        None => false,
-    };
-    let is_within = match text.get(..at).unwrap_or(b"").last() {
-        Some(symbol) => is_alphanumeric(*symbol),
-        None => false,
-    };
-    is_letter && !is_within
-}
-
-/// Returns the column after the name of an operand that begins at a column, or else the next column.
-fn end_of_parameter(text: &[u8], at: usize) -> usize {
-    let next = at.saturating_add(1);
-    if !begins_parameter(text, at) {
-        return next;
-    }
-    for end in next..text.len() {
-        match text.get(end) {
-            Some(symbol) if is_alphanumeric(*symbol) => {}
-            _ => return end,
-        }
-    }
-    text.len()
-}
-
-/// Returns the part before the first comma of a text that is kept, and what is after it, if there is one.
-fn split(kept: &[u8], text: Span) -> (Span, Option<Span>) {
-    match find(text.of(kept), 0, b',') {
-        Some(length) => {
-            let end = text.first.saturating_add(length);
-            (
-                Span::new(text.first, end),
-                Some(Span::new(end.saturating_add(1), text.end)),
-            )
-        }
-        None => (text, None),
-    }
-}
-
-/// Returns how many items a list has.
-fn items_of(list: &[u8]) -> usize {
-    let mut count: usize = 1;
-    for symbol in list {
-        if *symbol == b',' {
-            count = count.saturating_add(1);
-        }
-    }
-    count
-}
-
 /// Returns a text without the parentheses at its ends.
 fn without_all_parentheses(text: &[u8]) -> &[u8] {
-    let mut first = text.len();
-    let mut end: usize = 0;
-    for at in 0..text.len() {
-        if !matches!(text.get(at), Some(b'(' | b')')) {
-            first = first.min(at);
-            end = at.saturating_add(1);
-        }
+    let first = text.iter().position(|symbol| !b"()".contains(symbol));
+    let last = text.iter().rposition(|symbol| !b"()".contains(symbol));
+    match (first, last) {
+        (Some(first), Some(last)) => text.get(first..=last).unwrap_or(text),
+        _ => b"",
     }
-    text.get(first..end).unwrap_or(b"")
 }
 
-/// Returns how many operands a call has.
-fn count_of(line: &[u8], operand: Field) -> usize {
-    let mut operands = Operands::new(operand);
-    let mut count: usize = 0;
-    for _ in 0..line.len() {
-        if operands.next(line).is_none() {
-            break;
-        }
-        count = count.saturating_add(1);
-    }
-    count
-}
-
-/// Returns the first two words of a line that is no note.
-fn first_words(text: &[u8]) -> (Field, Field) {
-    if text.first() == Some(&b'*') {
-        return (Field::none(), Field::none());
-    }
-    let first = after_blanks(text, 0);
-    let end = end_of_word(text, first);
-    let second = after_blanks(text, end);
-    (
-        Field::new(first, end),
-        Field::new(second, end_of_word(text, second)),
-    )
-}
-
-/// Returns the IRP that ends the lines of another one, or the end of all.
-fn end_of_parts(lines: &Lines, rest: Span) -> usize {
-    for index in rest.first..rest.end {
-        let text = Here::new(lines, index).text;
-        let (word, operand) = first_words(text);
-        if operand.is_empty() && matches!(word.of(text), b"IRP") {
-            return index;
-        }
-    }
-    rest.end
+/// Returns the first two words of a line.
+fn first_words(text: &[u8]) -> (&[u8], &[u8]) {
+    let words = text.split(|symbol| matches!(*symbol, b' ' | b'\t'));
+    let mut words = words.filter(|word| !word.is_empty());
+    (words.next().unwrap_or(b""), words.next().unwrap_or(b""))
 }

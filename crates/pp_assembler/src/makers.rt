@@ -41,7 +41,7 @@ impl Pass {
     }
 
     /// Adds the words of a number or a text.
-    pub fn datum(&mut self, here: &Here, item: Field, words: &mut Vec<u16>) -> Outcome<()> {
+    pub fn datum(&mut self, here: &Here, item: Field, words: &mut Vec<u16>) -> Outcome {
         let text = item.of(here.text);
         let Some(found) = text_at(text, 0, true)? else {
             if !is_number(text) {
@@ -166,7 +166,7 @@ fn add_bits(words: &mut Vec<u16>, used: u32, size: u32, number: u64) -> Outcome<
 }
 
 /// Adds the words of a text, two symbols each.
-fn put_text(words: &mut Vec<u16>, text: Text) -> Outcome<()> {
+fn put_text(words: &mut Vec<u16>, text: Text) -> Outcome {
     let size = text.size_in_words();
     for word in 0..size / 2 {
         let at = word.saturating_mul(2);

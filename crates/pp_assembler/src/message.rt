@@ -115,7 +115,7 @@ pub enum Stop {
 }
 
 /// What a statement, or a part of it, stands for, or why there is nothing.
-pub type Outcome<T> = Result<T, Stop>;
+pub type Outcome<T = ()> = Result<T, Stop>;
 
 impl Stop {
     /// Returns a fault at the first column of a part, which is its argument.

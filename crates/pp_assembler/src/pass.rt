@@ -206,17 +206,17 @@ impl Pass {
     }
 
     /// Counts one more statement.
-    pub fn count_statement(&mut self) -> Outcome<()> {
+    pub fn count_statement(&mut self) -> Outcome {
         count_one(&mut self.performed)
     }
 
     /// Counts one more line that another one makes.
-    pub fn count_made(&mut self) -> Outcome<()> {
+    pub fn count_made(&mut self) -> Outcome {
         count_one(&mut self.made_lines)
     }
 
     /// Keeps a fault of a line. Only the last pass does so.
-    pub fn report(&mut self, here: &Here, column: usize, fault: Fault) -> Outcome<()> {
+    pub fn report(&mut self, here: &Here, column: usize, fault: Fault) -> Outcome {
         if !self.is_last {
             return Ok(());
         }
@@ -224,7 +224,7 @@ impl Pass {
     }
 
     /// Keeps why something has no value, if that is a fault of the line, and returns what stops the pass.
-    pub fn report_stop(&mut self, here: &Here, stop: Stop) -> Outcome<()> {
+    pub fn report_stop(&mut self, here: &Here, stop: Stop) -> Outcome {
         match stop {
             Stop::At(column, fault) => self.report(here, column, fault),
             Stop::Follows => Ok(()),
@@ -233,12 +233,12 @@ impl Pass {
     }
 
     /// Keeps a warning, of each kind the first one.
-    pub fn warn(&mut self, here: &Here, column: usize, fault: Fault) -> Outcome<()> {
+    pub fn warn(&mut self, here: &Here, column: usize, fault: Fault) -> Outcome {
         self.warn_at(here.message(column, fault))
     }
 
     /// Keeps a warning at its place, of each kind the first one.
-    pub fn warn_at(&mut self, message: Message) -> Outcome<()> {
+    pub fn warn_at(&mut self, message: Message) -> Outcome {
         let is_known = |warning: &Message| warning.fault.text == message.fault.text;
         if !self.is_last || self.warnings.iter().any(is_known) {
             return Ok(());
@@ -255,7 +255,7 @@ impl Pass {
     }
 
     /// Gives a name its meaning by a line, or reports why that can't be.
-    pub fn define(&mut self, here: &Here, name: Field, meaning: Definition) -> Outcome<()> {
+    pub fn define(&mut self, here: &Here, name: Field, meaning: Definition) -> Outcome {
         let line = here.line.number;
         let defined = self
             .symbols
@@ -264,7 +264,7 @@ impl Pass {
     }
 
     /// Gives the present address to the label of a statement, if it has one.
-    pub fn label(&mut self, here: &Here, statement: Statement) -> Outcome<()> {
+    pub fn label(&mut self, here: &Here, statement: Statement) -> Outcome {
         let name = statement.location.of(here.text);
         if matches!(name, b"" | b"+" | b"-") {
             return Ok(());
@@ -365,7 +365,7 @@ impl Pass {
         has_address: bool,
         value: Option<i64>,
         is_set: bool,
-    ) -> Outcome<()> {
+    ) -> Outcome {
         if !self.is_last {
             return Ok(());
         }
@@ -385,18 +385,18 @@ impl Pass {
     }
 
     /// Adds a line without words to the listing.
-    pub fn plain_row(&mut self, here: &Here, has_address: bool) -> Outcome<()> {
+    pub fn plain_row(&mut self, here: &Here, has_address: bool) -> Outcome {
         self.add_row(here, &[], has_address, None, false)
     }
 
     /// Adds a line that names a number to the listing.
-    pub fn value_row(&mut self, here: &Here, value: Option<i64>, is_set: bool) -> Outcome<()> {
+    pub fn value_row(&mut self, here: &Here, value: Option<i64>, is_set: bool) -> Outcome {
         self.add_row(here, &[], false, value, is_set)
     }
 }
 
 /// Adds one to a count, which has a most.
-fn count_one(count: &mut u32) -> Outcome<()> {
+fn count_one(count: &mut u32) -> Outcome {
     *count = count.saturating_add(1);
     if *count > MOST_STATEMENTS {
         return Err(too_many_statements());

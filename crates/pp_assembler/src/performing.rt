@@ -1,16 +1,18 @@
 //! The statements of a source, performed one after another.
 use crate::directives::the_only;
 use crate::fields::Statement;
-use crate::message::{Argument, Fault, Field, Stop};
+use crate::message::{Argument, Fault, Field, Outcome, Stop};
 use crate::operations::{Operation, is_operation};
 use crate::pass::{Here, Pass};
 
 const LABEL_IS_OPERATION: &str =
     "{} is no operation; {} is taken as a label, for it is not in column 3 or later";
 
+const LABEL_IS_LATER: &str = "{} is no operation; a label begins in column 1 or 2";
+
 impl Pass {
     /// Passes over a statement after END, of which the first one is reported.
-    pub fn after_end(&mut self, here: &Here, statement: Statement) -> Result<(), Stop> {
+    pub fn after_end(&mut self, here: &Here, statement: Statement) -> Outcome {
         if !self.is_last {
             self.symbols.pass_over(statement.location.of(here.text))?;
         }
@@ -22,12 +24,7 @@ impl Pass {
     }
 
     /// Performs an instruction or a directive.
-    pub fn one(
-        &mut self,
-        here: &Here,
-        statement: Statement,
-        operation: Operation,
-    ) -> Result<(), Stop> {
+    pub fn one(&mut self, here: &Here, statement: Statement, operation: Operation) -> Outcome {
         match operation {
             Operation::Equate | Operation::Set | Operation::Greatest | Operation::Least =>
                 self.equate(here, statement, operation),
@@ -57,39 +54,20 @@ impl Pass {
     }
 
     /// Performs an instruction or a directive whose label has been defined.
-    fn labelled(
-        &mut self,
-        here: &Here,
-        statement: Statement,
-        operation: Operation,
-    ) -> Result<(), Stop> {
-        match operation {
-            Operation::None => self.plain_row(here, true),
-            Operation::Instruction(code) => self.instruction(here, statement, code),
-            Operation::Shortest { .. } => self.shortest(here, statement, operation),
-            Operation::Space => self.space(here, statement),
-            _ => {
-                let words = self.words_made(here, statement, operation)?;
-                self.put(here, &words)
-            }
-        }
-    }
-
-    /// Returns the words of a directive that makes some.
-    fn words_made(
-        &mut self,
-        here: &Here,
-        statement: Statement,
-        operation: Operation,
-    ) -> Result<Vec<u16>, Stop> {
-        match operation {
-            Operation::Expressions => self.expressions(here, statement),
-            Operation::Data => self.data(here, statement),
-            Operation::Bits => self.bits(here, statement),
-            Operation::Text => self.text(here, statement),
-            Operation::Zeros => self.zeros(here, the_only(here, statement)?),
-            _ => Err(self.why_not(here, statement, operation)),
-        }
+    fn labelled(&mut self, here: &Here, statement: Statement, operation: Operation) -> Outcome {
+        let words = match operation {
+            Operation::None => return self.plain_row(here, true),
+            Operation::Instruction(code) => return self.instruction(here, statement, code),
+            Operation::Shortest { .. } => return self.shortest(here, statement, operation),
+            Operation::Space => return self.space(here, statement),
+            Operation::Expressions => self.expressions(here, statement)?,
+            Operation::Data => self.data(here, statement)?,
+            Operation::Bits => self.bits(here, statement)?,
+            Operation::Text => self.text(here, statement)?,
+            Operation::Zeros => self.zeros(here, the_only(here, statement)?)?,
+            _ => return Err(self.why_not(here, statement, operation)),
+        };
+        self.put(here, &words)
     }
 
     /// Returns what is wrong with an operation that is none.
@@ -98,28 +76,22 @@ impl Pass {
         if self.symbols.is_passed_over(name.of(here.text)) {
             return Stop::Follows;
         }
-        match operation {
-            Operation::Inside => Stop::of("{} ends nothing here", name),
-            Operation::Refused(instead) => {
-                let fault = Fault::new("{} is not taken: {}").part(name);
-                Stop::At(name.first, fault.with(Argument::Text(instead)))
-            }
-            _ if is_operation(statement.location.of(here.text)) => {
-                let fault = Fault::new(LABEL_IS_OPERATION).part(name);
-                Stop::At(name.first, fault.part(statement.location))
-            }
-            _ if is_operation(statement.operand.of(here.text)) => Stop::of(
-                "{} is no operation; a label begins in column 1 or 2",
+        let fault = match operation {
+            Operation::Inside => Fault::new("{} ends nothing here").part(name),
+            Operation::Refused(instead) => Fault::new("{} is not taken: {}")
+                .part(name)
+                .with(Argument::Text(instead)),
+            _ if is_operation(statement.location.of(here.text)) => Fault::new(LABEL_IS_OPERATION)
+                .part(name)
+                .part(statement.location),
+            _ if is_operation(statement.operand.of(here.text)) => Fault::new(LABEL_IS_LATER).part(
                 name,
             ),
-            _ => {
-                let fault = Fault::new("{} is no instruction, directive or macro{}").part(name);
-                Stop::At(
-                    name.first,
-                    fault.with(Argument::NearestOperation(name, self.performed)),
-                )
-            }
-        }
+            _ => Fault::new("{} is no instruction, directive or macro{}")
+                .part(name)
+                .with(Argument::NearestOperation(name, self.performed)),
+        };
+        Stop::At(name.first, fault)
     }
 }
 
@@ -133,7 +105,7 @@ pub enum Ending {
 }
 
 /// Returns that a statement has a symbol that is not known yet, if one of its fields has: only the comment may have letters beyond ASCII.
-pub fn is_known(here: &Here, statement: Statement) -> Result<(), Stop> {
+pub fn is_known(here: &Here, statement: Statement) -> Outcome {
     for field in &[statement.location, statement.operation, statement.operand] {
         for symbol in field.of(here.text) {
             if !(symbol.is_ascii_graphic() || *symbol == b' ' || *symbol == b'\t') {

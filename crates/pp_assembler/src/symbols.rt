@@ -179,7 +179,7 @@ impl Symbols {
     }
 
     /// Gives a name of a line its meaning.
-    pub fn define(&mut self, line: &[u8], field: Field, definition: Definition) -> Outcome<()> {
+    pub fn define(&mut self, line: &[u8], field: Field, definition: Definition) -> Outcome {
         let name = field.of(line);
         if end_of_name(name, 0) != Some(name.len()) {
             let text = match name.first() {
@@ -210,7 +210,7 @@ impl Symbols {
     }
 
     /// Adds a name with the present qualifier.
-    fn add(&mut self, name: &[u8], definition: Definition) -> Outcome<()> {
+    fn add(&mut self, name: &[u8], definition: Definition) -> Outcome {
         let first = self.text.len();
         let qualifier = self.qualifiers.last().copied().unwrap_or_default();
         let prefix = qualifier.of(&self.qualifier_text);

@@ -179,7 +179,7 @@ pub fn no_code(symbol: u8) -> Fault {
 }
 
 /// Returns that a column has a fault if a symbol of a text has no display code.
-pub fn are_in_code(symbols: &[u8], column: usize) -> Outcome<()> {
+pub fn are_in_code(symbols: &[u8], column: usize) -> Outcome {
     match symbols.iter().find(|symbol| code_of(**symbol).is_none()) {
         Some(symbol) => Err(no_code(*symbol).at(column)),
         None => Ok(()),

@@ -1,10 +1,10 @@
 //! The programs of a source, with the blocks of USE and the literals of each.
-use crate::lines::{Line, Span};
-use crate::message::{Argument, Fault, Field, Message, Stop};
+use crate::lines::Span;
+use crate::message::{Argument, Fault, Field, Outcome, Stop};
 use crate::pass::{Here, Pass, Slot};
 use crate::passes::program_of;
 use crate::program::Program;
-use crate::symbols::Place;
+use crate::symbols::{Definition, Place};
 use crate::texts::is_alphanumeric;
 use std::alloc::{AllocError, Global};
 
@@ -89,16 +89,10 @@ impl Blocks {
 
     /// Returns whether the blocks are where the pass before has put them.
     pub fn have_settled(&self, text: &[u8]) -> bool {
-        for at in 0..self.placed.len().max(self.before.len()) {
-            let (Some(one), Some(other)) = (self.placed.get(at), self.before.get(at)) else {
-                return false;
-            };
-            let is_same = one.unit == other.unit && one.base == other.base;
-            if !is_same || one.name.of(text) != other.name.of(text) {
-                return false;
-            }
-        }
-        true
+        let mut both = self.placed.iter().zip(&self.before);
+        self.placed.len() == self.before.len()
+            && both.all(|(one, other)| one.is(other.unit, other.name.of(text), text)
+                && one.base == other.base)
     }
 
     /// Returns the index of the present block.
@@ -118,29 +112,31 @@ impl Literals {
 
     /// Returns the address of these words; equal ones are there once.
     pub fn address_of(&mut self, words: &[u16]) -> Result<i64, AllocError> {
-        for index in 0..self.all.len() {
-            if self.words_at(index) == words {
-                return Ok(self.address_at(self.all[index].first));
+        let mut all = 0..self.all.len();
+        let index = match all.find(|index| self.words_at(*index) == words) {
+            Some(index) => index,
+            None => {
+                let first = self.words.len();
+                self.words.extend_from_slice(words)?;
+                self.all.push(Span::new(first, self.words.len()))?;
+                all.end
             }
-        }
-        let first = self.words.len();
-        self.words.extend_from_slice(words)?;
-        let end = self.words.len();
-        self.all.push(Span::new(first, end))?;
-        Ok(self.address_at(first))
+        };
+        let first = self.all.get(index).map_or(0, |literal| literal.first);
+        Ok(self.first.wrapping_add(i64::try_from(first).unwrap_or(0)))
     }
 
     /// Returns the words of the literal at an index.
     fn words_at(&self, index: usize) -> &[u16] {
-        match self.all.get(index) {
-            Some(literal) => self.words.get(literal.first..literal.end).unwrap_or(&[]),
-            None => &[],
-        }
+        let Span { first, end } = self.all.get(index).copied().unwrap_or(Span::none());
+        self.words.get(first..end).unwrap_or(&[])
     }
+}
 
-    /// Returns the address of the word at an index.
-    fn address_at(&self, index: usize) -> i64 {
-        self.first.wrapping_add(i64::try_from(index).unwrap_or(0))
+impl Placed {
+    /// Returns whether this is the block of a program with a name.
+    fn is(&self, unit: usize, name: &[u8], text: &[u8]) -> bool {
+        self.unit == unit && self.name.of(text) == name
     }
 }
 
@@ -162,11 +158,10 @@ impl Pass {
     }
 
     /// Ends a program: the literals are after the nominal block, and then come the others as USE named them.
-    pub fn end_unit(&mut self, here: &Here) -> Result<(), Stop> {
+    pub fn end_unit(&mut self, here: &Here) -> Outcome {
         self.use_block(b"")?;
         self.leave_block();
         self.put_literals(here)?;
-        self.warn_of_literals()?;
         self.place_blocks()?;
         let name = Vec::from_slice(self.alloc, &self.unit_name)?;
         let program = program_of(self.alloc, &self.cells, self.start)?;
@@ -177,31 +172,28 @@ impl Pass {
 
     /// Returns where a block begins, as the pass before has found.
     fn base_of(&self, name: &[u8]) -> i64 {
-        for placed in &self.blocks.before {
-            if placed.unit == self.blocks.unit && self.symbols.text_of(placed.name) == name {
-                return placed.base;
-            }
-        }
-        0
+        let Blocks { before, unit, .. } = &self.blocks;
+        let mut placed = before.iter();
+        let found = placed.find(|one| one.is(*unit, name, &self.symbols.text));
+        found.map_or(0, |placed| placed.base)
     }
 
     /// Returns the index of the block with a name, which may be a new one.
     fn block_named(&mut self, name: &[u8]) -> Result<usize, AllocError> {
-        for index in 0..self.blocks.all.len() {
-            if self.symbols.text_of(self.blocks.all[index].name) == name {
-                return Ok(index);
-            }
+        let mut all = self.blocks.all.iter();
+        if let Some(index) = all.position(|block| self.symbols.text_of(block.name) == name) {
+            return Ok(index);
         }
         let base = self.base_of(name);
-        let name = self.symbols.keep(name)?;
+        let index = self.blocks.all.len();
         self.blocks.all.push(Block {
-            name,
+            name: self.symbols.keep(name)?,
             base,
             origin: base,
             location: base,
             end: base,
         })?;
-        Ok(self.blocks.all.len().wrapping_sub(1))
+        Ok(index)
     }
 
     /// Goes on with a block.
@@ -254,68 +246,56 @@ impl Pass {
     }
 
     /// Puts the literals after the highest address of the nominal block.
-    fn put_literals(&mut self, here: &Here) -> Result<(), Stop> {
+    fn put_literals(&mut self, here: &Here) -> Outcome {
         if self.literals.all.is_empty() {
             return Ok(());
         }
         self.use_block(NAME_OF_LITERALS)?;
-        let here = Here {
+        let mut line = here.line;
+        line.call = None;
+        let row = Here {
             index: usize::MAX,
-            line: Line {
-                call: None,
-                ..here.line
-            },
+            line,
             text: b"",
             joins: &[],
         };
         for index in 0..self.literals.all.len() {
             let words = Vec::from_slice(self.alloc, self.literals.words_at(index))?;
-            self.put(&here, &words)?;
+            self.put(&row, &words)?;
         }
         self.leave_block();
+        if let Some((key, line)) = self.name_of_literals() {
+            let fault = Fault::new(BEHIND_LITERALS).with(Argument::Kept(key));
+            let mut message = here.last_message(fault);
+            message.line = line;
+            self.warn_at(message)?;
+        }
         Ok(())
     }
 
-    /// Warns of a name that EQU gives to the cell behind the program, as to a buffer, where the literals begin.
-    fn warn_of_literals(&mut self) -> Result<(), Stop> {
-        if self.literals.all.is_empty() {
-            return Ok(());
-        }
-        for symbol in &self.symbols.all {
-            match symbol.seen {
-                Some(seen) if seen.is_here && seen.value == Some(self.literals.first) => {
-                    let fault = Fault::new(BEHIND_LITERALS).with(Argument::Kept(symbol.key));
-                    return self.warn_at(Message::new(seen.line, 1, usize::MAX, fault));
-                }
-                _ => {}
-            }
-        }
-        Ok(())
+    /// Returns the name, and its line, that EQU gives to the cell behind the program, as to a buffer, where the literals begin.
+    fn name_of_literals(&self) -> Option<(Span, u32)> {
+        let first = Some(self.literals.first);
+        let mut symbols = self.symbols.all.iter();
+        let is_first = |seen: Definition| seen.is_here && seen.value == first;
+        let symbol = symbols.find(|symbol| symbol.seen.is_some_and(is_first))?;
+        Some((symbol.key, symbol.seen?.line))
     }
 
     /// Finds room for the blocks of a program, one behind another.
     fn place_blocks(&mut self) -> Result<(), AllocError> {
-        let Blocks {
-            all,
-            placed,
-            unit,
-            ..
-        } = &mut self.blocks;
-        let mut end: i64 = 0;
-        for block in all {
-            let Block { name, base, .. } = *block;
-            placed.push(Placed {
-                unit: *unit,
-                name,
-                base: end,
-            })?;
-            end = end.wrapping_add(block.end.wrapping_sub(base));
+        let unit = self.blocks.unit;
+        let mut base: i64 = 0;
+        for block in &self.blocks.all {
+            let name = block.name;
+            self.blocks.placed.push(Placed { unit, name, base })?;
+            base = base.wrapping_add(block.end.wrapping_sub(block.base));
         }
         Ok(())
     }
 
     /// Returns the address of the words that a = names, or what the name after =X, =S or =Y stands for.
-    pub fn literal(&mut self, here: &Here, operand: Field) -> Result<i64, Stop> {
+    pub fn literal(&mut self, here: &Here, operand: Field) -> Outcome<i64> {
         let text = operand.of(here.text);
         let Some(name) = name_in(text) else {
             let item = Field::new(operand.first.saturating_add(1), operand.end);
@@ -331,10 +311,8 @@ impl Pass {
             column: operand.first,
             is_from_above: false,
         };
-        match self.symbols.look_up(name, place, self.is_last)?.value {
-            Some(number) => Ok(number),
-            None => Err(Stop::Follows),
-        }
+        let found = self.symbols.look_up(name, place, self.is_last)?;
+        found.value.ok_or(Stop::Follows)
     }
 }
 
@@ -343,13 +321,9 @@ fn name_in(text: &[u8]) -> Option<&[u8]> {
     let [b'=', b'X' | b'S' | b'Y', name @ ..] = text else {
         return None;
     };
-    if !name.first()?.is_ascii_uppercase() {
+    let has_others = |symbol: &u8| !is_alphanumeric(*symbol) && !b".$=".contains(symbol);
+    if !name.first()?.is_ascii_uppercase() || name.iter().any(has_others) {
         return None;
-    }
-    for symbol in name {
-        if !is_alphanumeric(*symbol) && !b".$=".contains(symbol) {
-            return None;
-        }
     }
     Some(name)
 }

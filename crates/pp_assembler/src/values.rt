@@ -132,7 +132,7 @@ impl<'a> Expression<'a> {
         }
     }
 
-    fn pass_operator(&mut self) -> Outcome<()> {
+    fn pass_operator(&mut self) -> Outcome {
         if let [operator] = self.rest {
             return Err(self.fault(Fault::new("nothing follows the {}").symbol(*operator)));
         }

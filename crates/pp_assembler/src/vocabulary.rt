@@ -1,6 +1,7 @@
 //! What a source adds to the notation: macros, other names of operations, micros, and lines for HERE.
 use crate::lines::Span;
 use std::alloc::{AllocError, Global};
+use std::mem::replace;
 
 /// A name, and the text that it stands for.
 #[derive(Clone, Copy)]
@@ -31,7 +32,6 @@ pub struct Macro {
 pub struct Remote {
     pub name: Span,
     pub lines: Span,
-    pub is_taken: bool,
 }
 
 /// The names that a source gives, with what they stand for. Their texts are in one.
@@ -85,30 +85,15 @@ impl Vocabulary {
 
     /// Adds a text that is kept to the line that is made.
     pub fn add_kept(&mut self, text: Span) -> Result<(), AllocError> {
-        for index in text.first..text.end {
-            if let Some(symbol) = self.text.get(index).copied() {
-                self.made.push(symbol)?;
-            }
-        }
-        Ok(())
-    }
-
-    /// Returns whether two texts that are kept are equal.
-    pub fn are_equal(&self, one: Span, other: Span) -> bool {
-        let one = self.text_of(one);
-        let other = self.text_of(other);
-        one == other
+        self.made.extend_from_slice(text.of(&self.text))
     }
 
     /// Returns the macro with a name.
     pub fn macro_of(&self, name: &[u8]) -> Option<Macro> {
-        let mut found = None;
-        for one in &self.macros {
-            if one.until == u32::MAX && self.text_of(one.name) == name {
-                found = Some(*one);
-            }
-        }
-        found
+        let mut macros = self.macros.iter().rev();
+        macros
+            .find(|one| one.until == u32::MAX && self.text_of(one.name) == name)
+            .copied()
     }
 
     /// Forgets the macros with a name, at the statement with a number.
@@ -122,17 +107,22 @@ impl Vocabulary {
 
     /// Returns the text that a name stands for, the last one of several.
     pub fn meaning(&self, all: &[Meaning], name: &[u8]) -> Option<Span> {
-        let mut found = None;
-        for one in all {
-            if self.text_of(one.name) == name {
-                found = Some(one.text);
-            }
-        }
-        found
+        let mut names = all.iter().rev();
+        Some(names.find(|one| self.text_of(one.name) == name)?.text)
     }
 
     /// Returns the text of a micro that the source names.
     pub fn micro_of(&self, name: &[u8]) -> Option<Span> {
         self.meaning(&self.micros, name)
+    }
+
+    /// Returns the lines of the RMT with an index if it has a name, and keeps them no longer.
+    pub fn take_remote(&mut self, index: usize, name: Span) -> Span {
+        match self.remote.get_mut(index) {
+            Some(one) if one.name.of(&self.text) == name.of(&self.text) => {
+                replace(&mut one.lines, Span::none())
+            }
+            _ => Span::none(),
+        }
     }
 }
