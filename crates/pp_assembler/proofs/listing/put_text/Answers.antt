@@ -33,15 +33,15 @@ at-end column at text end = ap (without_tabs column) (drop_all at text end)
 pub loop-byte-preserved : goal.loop-byte-preserved
 loop-byte-preserved c = elim c.if-byte-eq9.branch [
   | then-byte-eq9+in_ok-put_field w ↦ record {
-      below = omega (arith, w.column-is);
-      written = rw w.column-is (after-tab c.loop-byte.out.items _ _ c.args.text.now c.loop-byte.column c.loop-byte.byte-index
-          c.loop-byte-test.true w.if-byte-eq9.true c.loop-byte.invariant.written (rw w.out-is w.in_ok-put_field.ensures));
-    }
+    below = omega (arith, w.column-is);
+    written = rw w.column-is (after-tab c.loop-byte.out.items _ _ c.args.text.now c.loop-byte.column c.loop-byte.byte-index
+        c.loop-byte-test.true w.if-byte-eq9.true c.loop-byte.invariant.written (rw w.out-is w.in_ok-put_field.ensures));
+  }
   | else-byte-eq9+in_ok-push w ↦ record {
-      below = omega (arith, w.column-is, w.next_column-column.ensures.below);
-      written = after-byte c.loop-byte.out.items _ _ c.args.text.now c.loop-byte.column _ c.loop-byte.byte-index c.loop-byte-test.true
-          w.if-byte-eq9.false c.loop-byte.invariant.written (rw w.out-is w.in_ok-push.ensures.items) (w.column-is ∙ w.next_column-column.ensures.next);
-    }
+    below = omega (arith, w.column-is, w.next_column-column.ensures.below);
+    written = after-byte c.loop-byte.out.items _ _ c.args.text.now c.loop-byte.column _ c.loop-byte.byte-index c.loop-byte-test.true
+        w.if-byte-eq9.false c.loop-byte.invariant.written (rw w.out-is w.in_ok-push.ensures.items) (w.column-is ∙ w.next_column-column.ensures.next);
+  }
 ]
 
 pub returns : goal.returns
