@@ -1,7 +1,7 @@
 -- What statements assemble to after one more.
 use Rattle.std.proofs.Common.{◌≡◌, ◌∙◌, ℕ, ◌+◌, ◌-◌, ◌<◌, ◌≤◌, true, List, [], ◌∷◌, ◌++◌, Option, Some, None, All, get_or, zero, length, take, drop}
 use Rattle.std.proofs.Common.{suc, refl, sym, subst, take_all, length-drop, ap, arith, append-nil}
-use Rattle.std.proofs.{lemmas.List.Sums.fold-append, lemmas.Bool.Decides.nat_tests, Math.Seq.take-add, lemmas.List.length-take-le}
+use Rattle.std.proofs.{lemmas.List.Sums.fold-append, lemmas.Bool.Decides.nat_tests, Math.Seq.take-add, lemmas.List.length-take-le, lemmas.List.length-map, lemmas.List.map-append}
 use Rattle.pp_assembler.specs.{Cells.IsCell, declared.program.Cell.Cell}
 use Rattle.pp_assembler.proofs.RowCells.{IsRow-one}
 use Rattle.pp_assembler.specs.declared.statement.Name.{Name}
@@ -36,17 +36,13 @@ placed-row : (address : ℕ) (row : List Cell) → IsRow address row → placed 
 placed-row address [] are = refl
 placed-row address (cell ∷ row) are = rw (are.0, placed-row (address + 1) row are.3) refl
 
-length-words_in : (row : List Cell) → length (words_in row) ≡ length row
-length-words_in [] = refl
-length-words_in (cell ∷ row) = ap suc (length-words_in row)
-
 -- one statement with the words of a row
 pub continues-one : (old : List Statement) (label : Option Name) (operation : Operation) (row : List Cell) →
     HasWords label operation row → Continues old (old ++ statement label operation ∷ []) row
 continues-one old label operation row has = λ before right here.
     assembled-more old (statement label operation) ∙ rw right
     (follow-words before label operation (words_in row) (rw here has.words) (rw here has.named)
-    ∙ rw (length-words_in row, here, placed-row (first_address row) row has.follows) refl)
+    ∙ rw (length-map row (λ (cell : Cell). cell.word), here, placed-row (first_address row) row has.follows) refl)
 
 -- and one after it that has no words
 pub continues-equal : (old new : List Statement) (label : Option Name) (row : List Cell) → Continues old new row → length row ≡ 2 →
@@ -133,14 +129,6 @@ origin-more old next address cells has = record {
   here = refl;
 }
 
-pub origin-same : (statements : List Statement) (next : Option ℕ) (address : ℕ) (cells : List Cell) → next ≡ Some address →
-    HasAssembled statements next cells → HasAssembled statements (Some address) cells
-origin-same statements next address cells same has = subst (λ n. HasAssembled statements n cells) same has
-
-addressed-append : (a b : List Cell) → addressed (a ++ b) ≡ addressed a ++ addressed b
-addressed-append [] b = refl
-addressed-append (cell ∷ a) b = ap (λ rest. (cell.address, cell.word) ∷ rest) (addressed-append a b)
-
 -- one more row
 row-more : (old new : List Statement) (address done count : ℕ) (cells : List Cell) → HasAssembled old (Some address) (take done cells) →
     Adds old new (drop done cells) count → 0 < count → first_address (drop done cells) ≡ address →
@@ -154,7 +142,7 @@ row-more old new address done count cells has adds some own =
         cells = has.assembly.cells ++ addressed (take count (drop done cells));
       };
       right = adds.continues has.assembly has.right (has.here ∙ sym first);
-      words = rw (has.words, take-add done count cells) (sym (addressed-append (take done cells) (take count (drop done cells))));
+      words = rw (has.words, take-add done count cells) (sym (map-append (λ (cell : Cell). (cell.address, cell.word)) (take done cells) (take count (drop done cells))));
       here = omega (arith, has.here, size);
     }
 
@@ -168,14 +156,6 @@ row-added old new address done count cells has adds some own =
     take_all (length cells - done) (drop done cells) (omega (arith, length-drop done cells)) in
     row-more old new address done count cells has (subst (λ r. Adds old new r count) rest adds) some
     (subst (λ r. first_address r ≡ address) rest own)
-
-pub row-within : (cells : List Cell) (done count : ℕ) (old new : List Statement) → done ≤ length cells →
-    Adds old new (take (length cells - done) (drop done cells)) count → done + count ≤ length cells
-row-within cells done count old new h adds =
-    let rest : take (length cells - done) (drop done cells) ≡ drop done cells =
-    take_all (length cells - done) (drop done cells) (omega (arith, length-drop done cells)) in
-    let size = ap length rest ∙ length-drop done cells in
-    omega (arith, size, adds.within)
 
 -- all cells
 pub all-added : (statements : List Statement) (next : Option ℕ) (done : ℕ) (cells : List Cell) → length cells ≤ done →

@@ -10,9 +10,6 @@ pub record IsBelow (cells : List Cell) (limit : ℕ) : Type 0 where
   pub program : IsProgram cells
   pub below : All (λ cell. cell.address < limit) cells
 
-pub IsBelow-none : IsBelow [] 0
-IsBelow-none = record { program = (λ k d h. grind arith, λ k h. grind arith); below = λ k d h. grind arith }
-
 -- a cell without a word
 pub IsBelow-skip : (cells : List Cell) (limit : ℕ) → IsBelow cells limit → IsBelow cells (limit + 1)
 IsBelow-skip cells limit is = record {

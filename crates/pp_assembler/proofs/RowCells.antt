@@ -1,6 +1,7 @@
 -- Rows of cells: one more cell, and the first two.
 use Rattle.std.proofs.Common.{◌≡◌, ℕ, zero, suc, ◌+◌, ◌<◌, ◌≤◌, List, [], ◌∷◌, length, take, All, refl, arith, get_or, add-one, ◌==◌, ◌&&◌, nat_lt, Bool, true, replicate}
 use Rattle.std.proofs.lemmas.Bool.{and_parts, Decides.nat_tests, Decides.Decides-and, Decides.Decides-by_and, Decides.Decides-ltb}
+use Rattle.std.proofs.lemmas.{Grind.common_steps, List.Folds.list_all-append}
 use Rattle.std.specs.{Bool.Decides, List.list_all}
 use Rattle.pp_assembler.specs.{Cells.IsCell, declared.program.Cell.Cell}
 use Rattle.pp_assembler.specs.Rows.{IsPair, IsRow, address_at, are_zeros, first_address, words_in}
@@ -36,21 +37,10 @@ pair-row (first ∷ second ∷ cells) word small pair =
 pair-row (first ∷ []) word small pair = absurd pair
 pair-row [] word small pair = absurd pair
 
-pub pair-words : (cells : List Cell) (word : ℕ) (d : Cell) → IsPair cells word →
-    words_in (take 2 cells) ≡ (get_or cells 0 d).word ∷ word ∷ []
-pair-words (first ∷ second ∷ cells) word d pair = cc (pair.1)
-pair-words (first ∷ []) word d pair = absurd pair
-pair-words [] word d pair = absurd pair
-
 pub pair-length : (cells : List Cell) (word : ℕ) → IsPair cells word → 2 ≤ length cells
 pair-length (first ∷ second ∷ cells) word pair = omega arith
 pair-length (first ∷ []) word pair = absurd pair
 pair-length [] word pair = absurd pair
-
-pub pair-small : (cells : List Cell) (word : ℕ) → IsPair cells word → word < 0o10000
-pair-small (first ∷ second ∷ cells) word pair = pair.3
-pair-small (first ∷ []) word pair = absurd pair
-pair-small [] word pair = absurd pair
 
 -- the address of a cell, by its index
 pub address_at-is : (cells : List Cell) (index : ℕ) (d : Cell) → index < length cells →
@@ -71,18 +61,10 @@ zeros-words (cell ∷ row) h =
     let own : cell.word ≡ 0 = grind (arith, nat_tests) in
     rw (own, ← zeros-words row both.1) refl
 
-zeros-next : (cells : List Cell) (count : ℕ) (d : Cell) → are_zeros (take count cells) ≡ true → count < length cells →
-    (get_or cells count d).word ≡ 0 → are_zeros (take (suc count) cells) ≡ true
-zeros-next [] count d zeros within own = absurd (omega arith)
-zeros-next (cell ∷ cells) zero d zeros within own = grind (arith, nat_tests)
-zeros-next (cell ∷ cells) (suc count) d zeros within own =
-    let both = and_parts (cell.word == 0) (are_zeros (take count cells)) zeros in
-    rw (both.0, zeros-next cells count d both.1 (omega arith) own) refl
-
 -- one more word of zero
 pub zeros-more : (cells : List Cell) (count : ℕ) (d : Cell) → are_zeros (take count cells) ≡ true → count < length cells →
     (get_or cells count d).word ≡ 0 → are_zeros (take (count + 1) cells) ≡ true
-zeros-more cells count d zeros within own = rw add-one (zeros-next cells count d zeros within own)
+zeros-more cells count d zeros within own = grind (arith, common_steps, nat_tests, list_all-append)
 
 pub ruleset zeros = (zeros-words)
 

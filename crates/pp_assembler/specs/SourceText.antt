@@ -1,5 +1,5 @@
 -- The lines of a source that a disassembler writes.
-use Rattle.std.specs.Prelude.{ℕ, ◌+◌, ◌/◌, ◌%◌, ◌==◌, if◌then◌else◌, Option, Some, None, List, [], ◌∷◌, ◌++◌, codes, slice_index, slice_index_or}
+use Rattle.std.specs.Prelude.{ℕ, ◌+◌, ◌/◌, ◌%◌, ◌==◌, if◌then◌else◌, Option, List, [], ◌∷◌, ◌++◌, codes, slice_index, slice_index_or}
 use Rattle.std.specs.List.{flat_map}
 use Rattle.pp_arith.specs.Octal.{octal_text}
 use Rattle.pp_assembler.specs.Texts.{ended, in_columns, optional}

@@ -179,20 +179,6 @@ fn zeros_len(flow: &Flow, row: &[Cell]) -> usize
     count
 }
 
-/// Returns whether a statement of words of zero may begin at a cell of a row.
-fn begins_zeros(flow: &Flow, row: &[Cell], from: usize) -> bool
-    requires { from < length row.now }
-{
-    let mut count = 0;
-    while count < ZEROS && count < row.len() - from {
-        if row[from + count].word != 0 || !is_data(flow, row, from + count) {
-            return false;
-        }
-        count += 1;
-    }
-    count == ZEROS
-}
-
 /// Returns how many of the first cells of a row a statement of data has: words of zero, or up to four words.
 #[tactic(auto, using(crate::proofs::RowCells::rows))]
 fn data_len(flow: &Flow, row: &[Cell]) -> usize
@@ -214,7 +200,7 @@ fn data_len(flow: &Flow, row: &[Cell]) -> usize
     while size < WORDS_OF_LINE
         && size < row.len()
         && is_data(flow, row, size)
-        && !begins_zeros(flow, row, size)
+        && zeros_len(flow, &row[size..]) < ZEROS
     {
         size += 1;
     }

@@ -1,4 +1,4 @@
-use Rattle.std.proofs.Common.{◌≡◌, ◌≢◌, Some, [], arith, get_or, slice_get, sym}
+use Rattle.std.proofs.Common.{◌≢◌, Some, [], arith, slice_get, sym}
 use Rattle.std.proofs.lemmas.Option.{slice_get-get_or}
 use Rattle.std.specs.Cmp.Lexicographic.{other_text, same_text}
 use borrow.Author.Count.{below_more}

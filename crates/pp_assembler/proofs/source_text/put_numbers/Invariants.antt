@@ -1,4 +1,4 @@
-use Rattle.std.proofs.Common.{◌≡◌, ◌∷◌, ◌++◌, codes, take}
+use Rattle.std.proofs.Common.{◌≡◌, ◌++◌, codes, take}
 use Rattle.std.specs.List.{flat_map}
 use Rattle.pp_arith.specs.Octal.{octal_text}
 use Rattle.pp_assembler.proofs.source_text.put_numbers.Given as goal
