@@ -6,7 +6,7 @@ import random
 import shlex
 import tempfile
 
-from tests.cases import Stored, blocks
+from tests.cases import Stored, stored_blocks
 from tests.support import write
 
 from pp6600.engine.plain.lines import FORMS, PlainConsole
@@ -58,7 +58,7 @@ LOOPS = Profile(codes=(0o14, 0o16, 0o30, 0o34, 0o36, 0o50, 0o54, 0o55, *range(0o
 # The same, and watches of what they use.
 WATCHED = dataclasses.replace(LOOPS, lines=(('step', 50), ('back', 6), ('setting', 25), ('watch_near', 14), ('start', 5)))
 
-ROWS = dict(blocks('random.txt')[1])
+ROWS = dict(stored_blocks('random.txt')[1])
 PARTS = ROWS['parts']
 JUNK = [word for line in ROWS['junk'] for word in shlex.split(line)]
 WORDS = [shlex.split(line) for line in ROWS['words']]

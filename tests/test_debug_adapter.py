@@ -66,8 +66,9 @@ class Answers(DebugCase):
     def test_two_sessions(self):
         first, second = self.loader(), self.loader()
         self.assertNotEqual(first.listing(), second.listing())
-        second.end()
-        self.assertTrue(os.path.exists(first.listing()))
+        folder = os.path.dirname(second.listing())
+        self.assertEqual((0, ""), second.end())
+        self.assertEqual((True, False), (os.path.exists(first.listing()), os.path.exists(folder)))
 
     def test_disassembled_beyond_the_memory(self):
         client = self.session(LOOPS)
@@ -135,12 +136,6 @@ class BadHands(DebugCase):
         with self.assertRaises(Refusal):
             client.answer(901)
         self.assertEqual((0, ""), client.end())
-
-    def test_nothing_is_left(self):
-        client = self.loader()
-        folder = os.path.dirname(client.listing())
-        client.end()
-        self.assertFalse(os.path.exists(folder))
 
     def test_pause_at_once(self):
         client = self.session(LOOPS)

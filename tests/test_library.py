@@ -36,8 +36,7 @@ class Machines(LibraryCase):
     """Random machines."""
 
     def test_what_actions_overwrote(self):
-        """Put back, the numbers of the last one first, it gives the machine as it was, and so does to undo them; performed again they overwrite
-        the same."""
+        """Put back, that of the last one first, it gives the machine as it was, and so does undoing; performed again they write the same."""
         for seed in range(60):
             session = self.open(history=500, central=32768)
             session.answer("\n".join(Maker(seed, (BUSY, WATCHING)[seed % 2]).script()).encode())
