@@ -182,17 +182,6 @@ class Listings(Case):
         return [*lines, "          PSN"]
 
 
-class Package(Case):
-    def test_imports(self):
-        """The package knows the machine in one place, and of the tools only their failures."""
-        folder = os.path.join(TOP, "tools", "pp6600", "language", "source")
-        names = [name for name in os.listdir(folder) if name.endswith(".py")]
-        found = {(name, line) for name in names for line in read("tools", "pp6600", "language", "source", name).splitlines()
-                 if re.match(r"\s*(from \.\.|import pp6600)", line)}
-        self.assertEqual({"machine.py", "forms.py"}, {name for name, _ in found})
-        self.assertEqual({"from ...failure import Failure"}, {line for name, line in found if name == "forms.py"})
-
-
 class Sources(Case):
     """The program of each script as a source beside it."""
 

@@ -13,13 +13,6 @@ from tests.support import PATIENCE, add_tests, read
 LOOPS = read(FOLDER, "loops").splitlines()
 
 
-@unittest.skipUnless(HAS_GO, "there is no go or no go-dap: no message of a session is decoded by it")
-class Messages(DebugCase):
-    def test_of_a_session(self):
-        """They are decoded at the end of each class of tests, of this one too."""
-        self.loader()
-
-
 class Dialogues(DebugCase):
     """The answers are those of docs/PANEL.md and docs/CONSOLE.md, and of examples/overwritten-loader."""
 
@@ -36,6 +29,11 @@ add_tests(Dialogues, Dialogues.check, [(f"{os.path.basename(path)[:-len('.txt')]
 
 class Answers(DebugCase):
     """Answers too long for a dialogue."""
+
+    @unittest.skipUnless(HAS_GO, "there is no go or no go-dap: no message of a session is decoded by it")
+    def test_messages(self):
+        """They are decoded at the end of each class of tests, of this one too."""
+        self.loader()
 
     def test_what_it_can(self):
         client = self.client()

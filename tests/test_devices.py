@@ -5,7 +5,7 @@ import random
 import re
 
 from tests.cases import stored_blocks
-from tests.support import EXAMPLES, PYTHON, Case, add_tests, program, read, run, tool, write
+from tests.support import EXAMPLES, PYTHON, Case, add_tests, program, read, run, write
 
 from pp6600 import Attached, Console, Failure
 from pp6600.run.device import Event
@@ -304,13 +304,6 @@ class Films(Case):
         self.assertEqual(wanted, [self.shown(film, moment) for moment in moments])
         self.assertGreater(len(set(wanted)), 5)
         self.assertEqual(len(answers) + 1, film["moments"])
-
-    def test_a_picture_that_fails(self):
-        path = write(self.path("own.py"), "from pp6600 import Device\nfrom pp6600.devices.pictures import Mark, Picture\nclass Own(Device):\n"
-                                          "    start = 0\n    def picture(self, state):\n        return Picture((Mark(0, 0, 8, '!'),),)\n")
-        done = tool("film", "--device", f"{path}:Own@5", "-o", self.path("film.html"), script="STEP\n")
-        self.assertRegex(done.err, r"^film: picture of Own fails: [A-Z]\w+: .*\n$")
-        self.assertEqual((2, False), (done.status, os.path.exists(self.path("film.html"))))
 
     def test_without_a_picture(self):
         self.assertEqual({}, pictures_of([program()], [PaperTape()], []))
