@@ -62,7 +62,7 @@ def encoded(text: str) -> bytes:
     return text.encode("utf-8", "surrogateescape")
 
 
-def blocks(name: str) -> Tuple[List[str], List[Tuple[str, List[str]]]]:
+def stored_blocks(name: str) -> Tuple[List[str], List[Tuple[str, List[str]]]]:
     """Returns the lines of a file of tests/ before its first block, and its blocks: what follows == and the lines. Lines that are empty and
     those that begin with # are left out."""
     first, *others = re.split("^== ?", part(os.path.join(TOP, "tests"), name).decode(), flags=re.M)
@@ -98,7 +98,7 @@ def stored_case(name: str, lines: List[Tuple[str, str]]) -> Stored:
 
 def stored(name: str = "cases.txt") -> List[Stored]:
     """Returns the cases of a file of tests/, else those of the program."""
-    return [stored_case(title, marked(OWN_LINE, lines)) for title, lines in blocks(name)[1]]
+    return [stored_case(title, marked(OWN_LINE, lines)) for title, lines in stored_blocks(name)[1]]
 
 
 def of_folder(name: str) -> Stored:

@@ -54,19 +54,19 @@ def reference(scope):
 
 
 def points(rest, make):
-    """Returns the breakpoints that words ask for: a word is the place of one, and arguments are of the one before them."""
+    """Returns what asks for breakpoints: a word is the place of one, and arguments are of the one before them."""
     asked = []
     for word in shlex.split(rest):
         if is_argument(word):
             asked[-1].update(arguments_of([word]))
         else:
             asked.append(make(word))
-    return asked
+    return {"breakpoints": asked}
 
 
 def set_points(body):
-    return listed(body["breakpoints"], lambda one: (f"{one['id']}" if one["verified"] else "none") + (f" at {one['line']}" if "line" in one else "")
-                  + (f": {one['message']}" if not one["verified"] else ""))
+    return listed(body["breakpoints"], lambda one: (f"{one['id']}" if one["verified"] else "none")
+                  + (f" at {one['line']}" if "line" in one else "") + (f": {one['message']}" if not one["verified"] else ""))
 
 
 def listed(some, shown):
@@ -75,13 +75,14 @@ def listed(some, shown):
 
 def bytes_to_write(reference, data, *offset):
     """Returns the arguments of a request that writes bytes, which are hexadecimal, at an offset if there is one."""
-    return {"memoryReference": reference, "data": base64.b64encode(bytes.fromhex(data)).decode(), **({"offset": int(offset[0])} if offset else {})}
+    text = base64.b64encode(bytes.fromhex(data)).decode()
+    return {"memoryReference": reference, "data": text, **({"offset": int(offset[0])} if offset else {})}
 
 
-# Requests that are asked and shown in one way each: the name in the protocol, the arguments of what follows, and what is shown of the answer.
+# Requests that are asked and shown in one way each: the name in the protocol, the arguments of what follows, what is shown of the answer.
 SHOWN = {
-    "watch": ("setDataBreakpoints", lambda rest: {"breakpoints": points(rest, lambda word: {"dataId": word, "accessType": "write"})}, set_points),
-    "instructions": ("setInstructionBreakpoints", lambda rest: {"breakpoints": points(rest, lambda word: {"instructionReference": word})}, set_points),
+    "watch": ("setDataBreakpoints", lambda rest: points(rest, lambda word: {"dataId": word, "accessType": "write"}), set_points),
+    "instructions": ("setInstructionBreakpoints", lambda rest: points(rest, lambda word: {"instructionReference": word}), set_points),
     "look": ("evaluate", lambda text: {"expression": text, "frameId": 1, "context": "hover"}, lambda body: body["result"]),
     "frames": ("stackTrace", lambda number: {"threadId": int(number or "0", 8) + 1}, lambda body: listed(
         body["stackFrames"], lambda frame: f"{frame['name']} in {frame['source']['name']}:{frame['line']}")),
@@ -155,7 +156,8 @@ class Dialogue:
     def do_prepare(self, rest):
         """As launch, up to the event after which breakpoints are set."""
         words = shlex.split(rest)
-        parts = [read(FOLDER, word) if os.path.exists(os.path.join(FOLDER, word)) else f"{word}\n" for word in words if not is_argument(word)]
+        names = [word for word in words if not is_argument(word)]
+        parts = [read(FOLDER, name) if os.path.exists(os.path.join(FOLDER, name)) else f"{name}\n" for name in names]
         if parts:
             write(os.path.join(self.folder, "script"), "".join(parts).encode("latin-1"))
         if not self.is_begun:
@@ -258,7 +260,7 @@ class Dialogue:
         return self.set_lines({"path": os.path.join(self.folder, name), "name": name}, points(rest, lambda word: {"line": int(word)}))
 
     def set_lines(self, source, asked):
-        return set_points(self.client.ask("setBreakpoints", source=source, breakpoints=asked))
+        return set_points(self.client.ask("setBreakpoints", source=source, **asked))
 
     def do_list(self, rest):
         """list FIRST LAST: these cells of PP 00 in its listing."""

@@ -24,7 +24,7 @@ import re
 import shlex
 import time
 
-from tests.cases import blocks, encoded, files_in, marked, part, text_of
+from tests.cases import encoded, files_in, marked, part, stored_blocks, text_of
 from tests.films import PageCase, shown_film
 from tests.panels import keys_in
 from tests.support import TOP, run, write
@@ -48,7 +48,7 @@ def whole(lines):
     return "\n".join(lines).replace("\n  ", "  ").split("\n")
 
 
-BEGIN, BLOCKS = blocks("film.txt")
+BEGIN, BLOCKS = stored_blocks("film.txt")
 FILES, BLOCKS = files_in(marked(LINE, whole(BEGIN)), {}), [(title, marked(LINE, whole(lines))) for title, lines in BLOCKS]
 DEFINED_NAMES = {name: (kind, code) for kind, name, code in (found.groups() for found in map(DEFINED.fullmatch, whole(BEGIN)) if found)}
 

@@ -6,7 +6,7 @@ import random
 import shlex
 import tempfile
 
-from tests.cases import Stored, blocks
+from tests.cases import Stored, stored_blocks
 from tests.support import write
 
 from pp6600.engine.plain.lines import FORMS, PlainConsole
@@ -58,7 +58,8 @@ LOOPS = Profile(codes=(0o14, 0o16, 0o30, 0o34, 0o36, 0o50, 0o54, 0o55, *range(0o
 # The same, and watches of what they use.
 WATCHED = dataclasses.replace(LOOPS, lines=(('step', 50), ('back', 6), ('setting', 25), ('watch_near', 14), ('start', 5)))
 
-ROWS = dict(blocks('random.txt')[1])
+FIXED = {'back': 'BACK 3', 'watched': 'BACK W', 'start': 'DEADSTART'}  # lines of one kind
+ROWS = dict(stored_blocks('random.txt')[1])
 PARTS = ROWS['parts']
 JUNK = [word for line in ROWS['junk'] for word in shlex.split(line)]
 WORDS = [shlex.split(line) for line in ROWS['words']]
@@ -240,9 +241,12 @@ class Maker:
     def add_action(self):
         """Adds a line or two of a kind of the profile."""
         kinds, weights = zip(*self.profile.lines)
-        getattr(self, f'add_{self.random.choices(kinds, weights)[0]}')()
+        self.add_kind(self.random.choices(kinds, weights)[0])
         if self.chance(self.profile.dumps):
             self.add_dumps()
+
+    def add_kind(self, kind):
+        self.add(FIXED[kind]) if kind in FIXED else getattr(self, f'add_{kind}')()
 
     def add_step(self):
         turns = 1 + self.below(self.choice(self.profile.steps))
@@ -255,15 +259,6 @@ class Maker:
         self.add('BACK', count + 1)
         for _ in range(self.below(3)):
             self.add('FORWARD', self.below(count + 2) + 1)
-
-    def add_back(self):
-        self.add('BACK', 3)
-
-    def add_watched(self):
-        self.add('BACK W')
-
-    def add_start(self):
-        self.add('DEADSTART')
 
     def add_watch(self):
         watches = [line for line in self.lines if line.startswith(b'WATCH')] or [b'WATCH A 0']

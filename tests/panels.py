@@ -20,7 +20,7 @@ import operator
 import os
 import re
 
-from tests.cases import blocks, files_in, marked, part
+from tests.cases import files_in, marked, part, stored_blocks
 from tests.support import EXAMPLES, TOP, Case, program, write
 
 from pp6600.front.panel.app import Panel
@@ -74,7 +74,7 @@ class PanelCase(Case):
         return self.panel(script, *options, size=(160, 24), **how)
 
 
-FILES, BLOCKS = blocks("panel.txt")
+FILES, BLOCKS = stored_blocks("panel.txt")
 FILES, BLOCKS = files_in(marked(LINE, FILES), {}), [(title, marked(LINE, lines)) for title, lines in BLOCKS]
 OVERWRITTEN, FIRST_PROGRAM, READS, DISPLAYS = map(FILES.get, ("loader", "first", "reads", "displays"))
 

@@ -80,7 +80,7 @@ def with_outcome(case):
 def sessions():
     """Returns the sessions with the outcomes that the program has, the shortest kind first."""
     sources = [source for source in chosen(read("docs", "chosen.txt")) if not source.text]
-    found = [Stored(f"session {number} of docs/chosen.txt", source.words, source.script, source.files) for number, source in enumerate(sources, 1)]
+    found = [Stored(f"session {number} of docs/chosen.txt", one.words, one.script, one.files) for number, one in enumerate(sources, 1)]
     found += [case for case in stored() if not case.how and case.name != "ten-thousand-kept"]
     return list(map(with_outcome, [*found, *itertools.islice(random_cases(MOST_TURNS), RANDOM)]))
 

@@ -29,8 +29,8 @@ class Terminal:
     def tmux(self, *words):
         """Performs a command of tmux, and returns what it writes."""
         begin = ("tmux", "-u", "-S", os.path.join(self.room.name, "socket"), "-f", os.path.join(self.room.name, "options"))
-        done = subprocess.run([*begin, *words], env={**os.environ, "LC_ALL": "C.UTF-8"}, capture_output=True, text=True, timeout=PATIENCE, check=True)
-        return done.stdout
+        environment = {**os.environ, "LC_ALL": "C.UTF-8"}
+        return subprocess.run([*begin, *words], env=environment, capture_output=True, text=True, timeout=PATIENCE, check=True).stdout
 
     def said(self, form):
         return self.tmux("display-message", "-p", form).removesuffix("\n")
@@ -46,7 +46,7 @@ class Terminal:
     def colours(self):
         """Returns the numbers of the colours on the screen, as terminals have them."""
         found = re.findall("\x1b\\[([0-9;]*)m", self.tmux("capture-pane", "-pe"))
-        return {int(number) for one in found for number in one.split(";") if number[:1] in ("3", "4") and len(number) == 2 and number[1] < "8"}
+        return {int(number) for one in found for number in one.split(";") if re.fullmatch("[34][0-7]", number)}
 
     def resize(self, columns, rows):
         self.tmux("resize-window", "-x", f"{columns}", "-y", f"{rows}")

@@ -138,7 +138,8 @@ class Programs(Artefacts):
 
     def test_static_with_little_memory(self):
         limit = (4 << 20, 4 << 20)
-        found = outcome(Stored("", [], b"STEP\n", {}), artefact("pp6600-static"), preexec_fn=lambda: resource.setrlimit(resource.RLIMIT_AS, limit))
+        case, set_limit = Stored("", [], b"STEP\n", {}), lambda: resource.setrlimit(resource.RLIMIT_AS, limit)
+        found = outcome(case, artefact("pp6600-static"), preexec_fn=set_limit)
         self.assertEqual((b"", b"pp6600: NO MEMORY\n", 2), found)
 
     def test_aarch64(self):

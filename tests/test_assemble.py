@@ -7,7 +7,7 @@ import os
 import random
 import re
 
-from .assembler_sources import sections
+from .assembler_sources import sections, sources
 from .support import TOP, Case, add_tests, blocks, names_of_codes, read, run, tool
 
 from pp6600.language.listing import ListingSymbols
@@ -112,17 +112,8 @@ class Faults(Case):
         self.assertEqual(["100:1: lines are nested more than 100 (decimal) deep"], self.faults(lines))
 
     def test_no_fault_of_its_own(self):
-        """Sources with lines changed at random give messages or words, never anything else."""
-        choose = random.Random(57)
-        sources = [read(path).splitlines() for path in sorted(glob.glob(f"{PROGRAMS}/*.pp"))]
-        for _ in range(300):
-            lines = list(choose.choice(sources))
-            for _ in range(choose.randrange(1, 6)):
-                at = choose.randrange(len(lines))
-                other = choose.choice(choose.choice(sources))
-                cut = choose.randrange(len(lines[at]) + 1)
-                put = choose.choice(("", " ", ",", "*", "=", "-", "9", "H", "(", "\t", other[cut:], other))
-                lines[at] = lines[at][:cut] + put + lines[at][cut:]
+        """Sources at random give messages or words, never anything else."""
+        for lines in sources(300):
             messages = assembled(lines).messages
             self.assertEqual(sorted(set(messages)), messages)
             self.assertTrue(all(1 <= message.line <= len(lines) and message.column > 0 for message in messages))
@@ -189,17 +180,6 @@ class Listings(Case):
             body = {"DUP 2": ["          PSN", "          ENDD"], "IFEQ 1,2": [" NOT      PSN", "          ENDIF"]}
             lines += body.get(statement, [])
         return [*lines, "          PSN"]
-
-
-class Package(Case):
-    def test_imports(self):
-        """The package knows the machine in one place, and of the tools only their failures."""
-        folder = os.path.join(TOP, "tools", "pp6600", "language", "source")
-        names = [name for name in os.listdir(folder) if name.endswith(".py")]
-        found = {(name, line) for name in names for line in read("tools", "pp6600", "language", "source", name).splitlines()
-                 if re.match(r"\s*(from \.\.|import pp6600)", line)}
-        self.assertEqual({"machine.py", "forms.py"}, {name for name, _ in found})
-        self.assertEqual({"from ...failure import Failure"}, {line for name, line in found if name == "forms.py"})
 
 
 class Sources(Case):

@@ -29,9 +29,6 @@ FAULTS = [(4, 11, "MOVE is no instruction, directive or macro; MACROE is"), (5, 
 
 
 class Files(Case):
-    def test_made_by_the_script(self):
-        self.assertEqual(("", "", 0), run(os.path.join(TOP, "share", "colours"), "--check"))
-
     def test_all_names(self):
         """Each form has the name of each instruction."""
         for name in ("kate/pp6600.xml", "emacs/pp6600-mode.el", "vim/syntax/pp6600.vim", "vscode/syntaxes/pp6600.tmLanguage.json"):

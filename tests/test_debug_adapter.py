@@ -13,13 +13,6 @@ from tests.support import PATIENCE, add_tests, read
 LOOPS = read(FOLDER, "loops").splitlines()
 
 
-@unittest.skipUnless(HAS_GO, "there is no go or no go-dap: no message of a session is decoded by it")
-class Messages(DebugCase):
-    def test_of_a_session(self):
-        """They are decoded at the end of each class of tests, of this one too."""
-        self.loader()
-
-
 class Dialogues(DebugCase):
     """The answers are those of docs/PANEL.md and docs/CONSOLE.md, and of examples/overwritten-loader."""
 
@@ -36,6 +29,11 @@ add_tests(Dialogues, Dialogues.check, [(f"{os.path.basename(path)[:-len('.txt')]
 
 class Answers(DebugCase):
     """Answers too long for a dialogue."""
+
+    @unittest.skipUnless(HAS_GO, "there is no go or no go-dap: no message of a session is decoded by it")
+    def test_messages(self):
+        """They are decoded at the end of each class of tests, of this one too."""
+        self.loader()
 
     def test_what_it_can(self):
         client = self.client()
@@ -66,8 +64,9 @@ class Answers(DebugCase):
     def test_two_sessions(self):
         first, second = self.loader(), self.loader()
         self.assertNotEqual(first.listing(), second.listing())
-        second.end()
-        self.assertTrue(os.path.exists(first.listing()))
+        folder = os.path.dirname(second.listing())
+        self.assertEqual((0, ""), second.end())
+        self.assertEqual((True, False), (os.path.exists(first.listing()), os.path.exists(folder)))
 
     def test_disassembled_beyond_the_memory(self):
         client = self.session(LOOPS)
@@ -135,12 +134,6 @@ class BadHands(DebugCase):
         with self.assertRaises(Refusal):
             client.answer(901)
         self.assertEqual((0, ""), client.end())
-
-    def test_nothing_is_left(self):
-        client = self.loader()
-        folder = os.path.dirname(client.listing())
-        client.end()
-        self.assertFalse(os.path.exists(folder))
 
     def test_pause_at_once(self):
         client = self.session(LOOPS)

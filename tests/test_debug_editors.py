@@ -89,8 +89,8 @@ class Extension(Case):
     """VS Code's extension: package.json as VS Code's page of extension manifests and that of contribution points have it."""
 
     def test_fields(self):
-        self.assertEqual({"name", "displayName", "description", "publisher", "version", "engines", "categories", "extensionKind", "contributes"},
-                         set(PACKAGE))
+        names = "name displayName description publisher version engines categories extensionKind contributes"
+        self.assertEqual(set(names.split()), set(PACKAGE))
         for text, form in ((PACKAGE["name"], NAME), (PACKAGE["publisher"], NAME), (PACKAGE["version"], r"\d+\.\d+\.\d+"),
                            (PACKAGE["engines"]["vscode"], r"\^1\.\d+\.0")):
             self.assertRegex(text, f"^{form}$")
@@ -109,7 +109,7 @@ class Extension(Case):
 
     def test_debugger(self):
         debugger, = GIVES["debuggers"]
-        self.assertEqual({"type", "label", "languages", "runtime", "configurationAttributes", "initialConfigurations", "configurationSnippets"},
+        self.assertEqual({*"type label languages runtime configurationAttributes initialConfigurations configurationSnippets".split()},
                          set(debugger))
         settings = debugger["configurationAttributes"]["launch"]["properties"]
         for name, setting in settings.items():

@@ -3,8 +3,6 @@ history would answer, in which nothing is watched but what the user watches. Bre
 
 import os
 import random
-import sys
-import time
 from typing import NamedTuple
 
 from tests.debug_client import SCOPES, OwnClient
@@ -173,13 +171,17 @@ class Oracle(Timeline):
         if self.slot(now) != shown and any(self.comes(now, point.at, True) and self.meets(now, point) and self.counts(now, point)
                                            for point in points if not point.is_log and not isinstance(point.at, str)):
             return now, "breakpoint", ""
-        watched = self.watched(now)
-        for at in range(now, ACTIONS - 1):
+        return self.run(points, lambda at: False)
+
+    def run(self, points, is_end):
+        """Goes on until a number or a breakpoint ends the run, or after a turn that does."""
+        watched = self.watched(self.now)
+        for at in range(self.now, ACTIONS - 1):
             place, stops = self.change(at, watched, points), self.stops(at + 1, points)
             if place:
                 return at + 1, "data breakpoint", self.text(place, at, "{} was {} and is {}")
-            if stops:
-                return at + 1, "breakpoint", ""
+            if stops or is_end(at):
+                return at + 1, "breakpoint" if stops else "step", ""
             watched = self.watched(at + 1) if is_watch(self.actions[at]) else watched
         return None
 
@@ -197,17 +199,9 @@ class Oracle(Timeline):
         return form.format(" ".join(place_text(place)), self.value(at, place), self.value(at + 1, place))
 
     def step(self, number, points):
-        self.said, watched = [], self.watched(self.now)
+        self.said = []
         points = [point for point in points if isinstance(point.at, str) or point.is_log]
-        for at in range(self.now, ACTIONS - 1):
-            place = self.change(at, watched, points)
-            self.stops(at + 1, points)
-            if place:
-                return at + 1, "data breakpoint", self.text(place, at, "{} was {} and is {}")
-            if self.is_turn(at) and self.slot(at) == number:
-                return at + 1, "step", ""
-            watched = self.watched(at + 1) if is_watch(self.actions[at]) else watched
-        return None
+        return self.run(points, lambda at: self.is_turn(at) and self.slot(at) == number)
 
     def step_back(self, number):
         self.said = []
@@ -299,8 +293,7 @@ class Session(Case):
     def setting(self):
         """Returns a line that sets a number, begins or ends a watch, or goes back."""
         self.maker.lines.clear()
-        self.chance.choice((self.maker.add_setting, self.maker.add_setting, self.maker.add_watch_near, self.maker.add_back,
-                            self.maker.add_start))()
+        self.maker.add_kind(self.chance.choice(("setting", "setting", "watch_near", "back", "start")))
         return self.maker.lines[0].decode()
 
     def go(self, kind, number, expected, what):
@@ -332,9 +325,6 @@ class Session(Case):
         self.assertEqual("\n".join(watched) or "W NONE", self.client.typed("DUMP W"), what)
 
     def test_sessions(self):
-        began = time.monotonic()
         for seed in range(FIRST, FIRST + SESSIONS):
             with self.subTest(seed=seed):
                 self.session(seed)
-        if SESSIONS > 100:
-            print(f"{SESSIONS} sessions in {time.monotonic() - began:.0f} s", file=sys.stderr)

@@ -2,8 +2,6 @@
 
 import os
 import re
-import subprocess
-import sys
 
 from tests.support import TOP, Case, read
 
@@ -57,11 +55,6 @@ class Page(Case):
     def setUpClass(cls):
         cls.text = read("docs", "DEFINITIONS.md")
         cls.entries = list(map(Entry, ENTRY.findall(cls.text)))
-
-    def test_current(self):
-        words = [sys.executable, os.path.join(TOP, "docs", "definitions.py"), "--check"]
-        done = subprocess.run(words, capture_output=True, text=True, check=False)
-        self.assertEqual(("", 0), (done.stdout + done.stderr, done.returncode))
 
     def test_every_name_is_there(self):
         """Each name of each definition is on the page, in its list of words of the kit, or bound where it is used."""

@@ -4,8 +4,8 @@ import os
 import random
 import re
 
-from tests.cases import blocks
-from tests.support import EXAMPLES, PYTHON, Case, add_tests, program, read, run, tool, write
+from tests.cases import stored_blocks
+from tests.support import EXAMPLES, PYTHON, Case, add_tests, program, read, run, write
 
 from pp6600 import Attached, Console, Failure
 from pp6600.run.device import Event
@@ -137,10 +137,11 @@ LOOKS = {
     "printed": lambda session, _: session.devices[0].output(session.state()).replace("\f", "\\f").replace("\n", "\\n"),
     "tape": lambda session, _: ", ".join(" ".join(f"{word:o}" for word in block) or "mark" for block in session.devices[0].blocks(session.state())),
     "left": lambda session, _: marks_on(session, 0), "right": lambda session, _: marks_on(session, 1),
-    "punched": lambda session, _: session.devices[0].output(session.state()).decode(), "place": lambda session, _: f"{session.state().place:o}",
+    "punched": lambda session, _: session.devices[0].output(session.state()).decode(),
+    "place": lambda session, _: f"{session.state().place:o}",
     "keys": lambda session, _: session.state().keys, "waits": lambda session, _: f"at {session.registers(0)['P']}",
     "channel": lambda session, text: f"{text.split()[0]} {session.channel(int(text.split()[0], 8))}"[:len(text)]}
-add_tests(Blocks, Blocks.check, blocks("devices.txt")[1])
+add_tests(Blocks, Blocks.check, stored_blocks("devices.txt")[1])
 
 
 class Tapes(DeviceCase):
@@ -262,26 +263,6 @@ class Pictures(Case):
         for device in (PaperTape(), MagneticTape()):
             self.assertIsNone(device.picture(device.start))
 
-    def test_drawn_undone_and_drawn_again(self):
-        """The example: the bytes of a picture are those that it had when the run first came there."""
-        session = Attached([program()], [ConsoleDisplay()])
-        self.addCleanup(session.close)
-        for line in read("examples", "console-display", "script").splitlines():
-            if line.startswith("SET"):
-                session.act(line)
-
-        def shown(line):
-            self.assertNotIn("ERR", session.act(line)[0])
-            picture = session.devices[0].picture(session.state())
-            return svg(picture), braille(picture, 129)
-
-        half, whole = shown("STEP 2700"), shown("STEP 14000")
-        self.assertNotEqual(half, whole)
-        for line, wanted in (("BACK 14000", half), ("FORWARD 14000", whole), ("BACK 14000", half), ("STEP 14000", whole)):
-            self.assertEqual(wanted, shown(line))
-        self.assertNotIn("<path", shown("BACK 16700")[0])
-        self.assertEqual(whole, shown("STEP 16700"))
-
 
 class Films(Case):
     """The pictures of a film are those of the session."""
@@ -324,13 +305,6 @@ class Films(Case):
         self.assertGreater(len(set(wanted)), 5)
         self.assertEqual(len(answers) + 1, film["moments"])
 
-    def test_a_picture_that_fails(self):
-        path = write(self.path("own.py"), "from pp6600 import Device\nfrom pp6600.devices.pictures import Mark, Picture\nclass Own(Device):\n"
-                                          "    start = 0\n    def picture(self, state):\n        return Picture((Mark(0, 0, 8, '!'),),)\n")
-        done = tool("film", "--device", f"{path}:Own@5", "-o", self.path("film.html"), script="STEP\n")
-        self.assertRegex(done.err, r"^film: picture of Own fails: [A-Z]\w+: .*\n$")
-        self.assertEqual((2, False), (done.status, os.path.exists(self.path("film.html"))))
-
     def test_without_a_picture(self):
         self.assertEqual({}, pictures_of([program()], [PaperTape()], []))
 
@@ -338,15 +312,10 @@ class Films(Case):
 class Options(Case):
     """The words after --device. tests/sessions/devices.txt has wrong ones."""
 
-    def test_converters(self):
+    def test_cards(self):
         self.assertEqual(["card_reader", "line_printer"], [name for name in NAMES if name in ("card_reader", "line_printer")])
         path = write(self.path("deck"), "1 2\n* a note\n7777\n")
         self.assertEqual([(1, 2), (0o7777,)], device_of(f"card_reader:{path},6@12").deck)
-        for text, wrong in (("card_reader:,3@12", "an equipment has a number from 4 to 7, and not 3"),
-                            (f"card_reader:{write(self.path('bad'), '18')}@12", "line 1 (decimal) is no card")):
-            with self.subTest(text):
-                with self.assertRaisesRegex(Failure, re.escape(wrong)):
-                    device_of(text)
 
     def test_names(self):
         tape = write(self.path("tape"), TapeFiles.BYTES)

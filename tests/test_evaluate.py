@@ -1,8 +1,8 @@
 """Tests docs/evaluate: the definitions, run, say what the program does.
 
 Its own check computes the worked rows of crates/pp_worked as statements about data, and performs the cases of tests/cases.txt and of
-examples/. Random sessions are performed by the definitions and by the program, and all that is written is compared. Which faults in the definitions this
-would find is what python3 -m tests.slips says, which takes longer.
+examples/. Random sessions are performed by the definitions and by the program, and all that is written is compared. Which faults in the
+definitions this would find is what python3 -m tests.slips says, which takes longer.
 """
 
 import gc

@@ -1,4 +1,4 @@
-"""Tests what is done in the page of a film beside tests/film.txt: origins in random sessions, links and damaged pages, the page of a class, and
+"""Tests what is done in the page of a film beside tests/film.txt: origins in random sessions, links, damaged pages, a page of a class, and
 devices. Expected values are those of docs/FILM.md, and of the program and the tools for the same lines."""
 
 import json

@@ -7,7 +7,7 @@ import subprocess
 import unittest
 
 from tests.generator import BUSY, WATCHED as WATCHING, Maker
-from tests.support import PATIENCE, TOP, Case, blocks, program, read
+from tests.support import PATIENCE, PROVED, TOP, Case, blocks, program, read
 
 from pp6600.engine import library
 from pp6600.engine.library import LibrarySession, Refused
@@ -17,17 +17,12 @@ CRATE = os.path.join(TOP, "crates", "pp_library")
 PLACES = 106592 + 32768  # of a machine with the smallest central memory
 
 
-def built():
-    """Returns the path of the library, or None if it was not built."""
-    return next((path for path in (os.environ.get("PP6600_LIBRARY"), os.path.join(TOP, "dist", "libpp6600.so")) if path and os.path.isfile(path)), None)
-
-
-@unittest.skipUnless(built(), "dist/libpp6600.so was not built")
+@unittest.skipUnless(PROVED, "dist/libpp6600.so was not built")
 class LibraryCase(Case):
     """A case with sessions of the library."""
 
     def open(self, **options):
-        session = LibrarySession(path=built(), **options)
+        session = LibrarySession(path=PROVED, **options)
         self.addCleanup(session.close)
         return session
 
@@ -36,8 +31,7 @@ class Machines(LibraryCase):
     """Random machines."""
 
     def test_what_actions_overwrote(self):
-        """Put back, the numbers of the last one first, it gives the machine as it was, and so does to undo them; performed again they overwrite
-        the same."""
+        """Put back, that of the last one first, it gives the machine as it was, and so does undoing; performed again they do the same."""
         for seed in range(60):
             session = self.open(history=500, central=32768)
             session.answer("\n".join(Maker(seed, (BUSY, WATCHING)[seed % 2]).script()).encode())
@@ -138,15 +132,15 @@ class WrongHands(LibraryCase):
             LibrarySession(path=self.file("not a library"))
 
 
-@unittest.skipUnless(built() and shutil.which("gcc"), "dist/libpp6600.so was not built, or there is no gcc")
+@unittest.skipUnless(PROVED and shutil.which("gcc"), "dist/libpp6600.so was not built, or there is no gcc")
 class InC(LibraryCase):
     """The examples in C, and the session of the page."""
 
     def compiled(self, source):
         """Returns the path of a program of this source."""
         target = self.path(os.path.basename(source) + ".out")
-        subprocess.run(["gcc", "-std=c11", "-O1", "-g", "-Wall", "-Wextra", "-Wconversion", "-Werror", "-I", CRATE, source, built(), "-o", target,
-                        f"-Wl,-rpath,{os.path.dirname(built())}"], check=True, timeout=PATIENCE)
+        subprocess.run(["gcc", "-std=c11", "-O1", "-g", "-Wall", "-Wextra", "-Wconversion", "-Werror", "-I", CRATE, source, PROVED, "-o", target,
+                        f"-Wl,-rpath,{os.path.dirname(PROVED)}"], check=True, timeout=PATIENCE)
         return target
 
     def run_under(self, *words):
@@ -169,7 +163,7 @@ class InC(LibraryCase):
         script = "SET M 0 100 3410 0376\nSET P 0 100\nSTEP 50\nDUMP PP 0\n"
         answers = subprocess.run([program()], input=script, capture_output=True, text=True, check=False, timeout=PATIENCE).stdout
         self.assertEqual((done.returncode, done.stdout), (0, answers))
-        environment = {**os.environ, "PYTHONPATH": os.path.join(TOP, "tools"), "PP6600_LIBRARY": built()}
+        environment = {**os.environ, "PYTHONPATH": os.path.join(TOP, "tools"), "PP6600_LIBRARY": PROVED}
         shown = subprocess.run(["python3", "-c", in_python.text], capture_output=True, text=True, check=False, timeout=PATIENCE, env=environment)
         self.assertEqual((shown.returncode, shown.stderr), (0, ""))
         self.assertIn("TURNS 50 SLOT 00", shown.stdout)

@@ -7,7 +7,6 @@ import glob
 import os
 import random
 import re
-import time
 
 from .support import TOP, Case, read
 
@@ -144,13 +143,3 @@ class Errors(Case):
                 changed = f"{line[:at]}{int(line[at]) ^ 1}{line[at + 1:]}"
                 with self.subTest(changed):
                     self.assertRaises(Failure, Listing, [*lines[:number], changed, *lines[number + 1:]])
-
-    def test_speed(self):
-        """A listing of 5,000 lines is read in 5 seconds of this process."""
-        source = ["          BASE   OCTAL", "          ORG    100"]
-        source += [" A{0:<8}LDN    {1:o}".format(number, number % 64) if number % 5 else f"          LJM    A{number + 1}"
-                   for number in range(1, 3000)]
-        source += [f"*         NOTE {number}" for number in range(2000)]
-        lines, began = own(source[:5000]), time.process_time()
-        self.assertGreater(len(self.words(lines)), 3000)
-        self.assertLess(time.process_time() - began, 5)

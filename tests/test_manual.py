@@ -4,7 +4,6 @@ import glob
 import os
 import re
 import shutil
-import sys
 import unittest
 
 from tests.browser import found
@@ -119,9 +118,6 @@ class Card(Case):
         found = {8 * int(row) + column: int(d, 8) for row, back in grid for column, d in enumerate(back.split())}
         self.assertEqual({distance: 0o77 - distance if distance else 0 for distance in range(0o40)}, found)
 
-    def test_page(self):
-        self.assertEqual(("", 0), alone(sys.executable, os.path.join(TOP, "docs", "card.py"), "--check")[1:])
-
     def test_printed(self):
         """It is one sheet of A4 on a printer."""
         browser = found()
@@ -135,13 +131,3 @@ class Card(Case):
         self.assertEqual(1, len(re.findall(rb"/Type /Page\b(?!s)", data)))
         sizes = {tuple(round(float(size)) for size in found) for found in re.findall(rb"/MediaBox \[0 0 ([\d.]+) ([\d.]+)\]", data)}
         self.assertEqual({(595, 842)}, sizes)
-
-
-class NamesOnPages(Case):
-    """Each tool that a page names, in a block of commands too, is there."""
-
-    def test_tools(self):
-        known = {"NAME", *os.listdir(os.path.join(TOP, "tools"))}
-        for path in [os.path.join(TOP, "README.md"), *sorted(glob.glob(os.path.join(TOP, "docs", "*.md")))]:
-            with self.subTest(os.path.basename(path)):
-                self.assertEqual(set(), set(re.findall(r"\btools/(\w[\w-]*(?:\.py)?)", read(path))) - known)

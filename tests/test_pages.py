@@ -176,7 +176,8 @@ class Pages(Case):
         self.assertEqual(sorted(listed), sorted(re.findall(r"^\| `(\w+)` \|", table, flags=re.M)))
 
     def test_what_scripts_make(self):
-        for script in ("docs/proofs.py", "docs/card.py", "docs/drawings/draw.py"):
+        """Texts, tables and pictures of the pages, and the colours of editors, are what their scripts make now."""
+        for script in ("docs/proofs.py", "docs/card.py", "docs/definitions.py", "docs/drawings/draw.py", "docs/drawings/panel.py", "share/colours"):
             with self.subTest(script):
                 done = subprocess.run([sys.executable, os.path.join(TOP, script), "--check"], capture_output=True, text=True, check=False)
                 self.assertEqual(("", 0), (done.stdout + done.stderr, done.returncode))

@@ -3,7 +3,6 @@ of README.md, docs/TUTORIAL.md, docs/TOOLS.md, docs/PYTHON.md and docs/PANEL.md.
 
 import os
 import re
-import sys
 
 from tests.fixtures import BLOCKS_GO_ON, COMPLETES, DECK, LOADER
 from tests.panels import BLOCKS, FIRST_PROGRAM, OVERWRITTEN, BlockCase, PanelCase, bottom, press
@@ -185,10 +184,6 @@ class Looks(PanelCase):
         panel = self.panel("STEP 3\n", sources=[(3, os.path.join(EXAMPLES, "loop", "loop.pp"))])
         plain = self.panel("".join(f"{line}\n" for line in panel.session.sent))
         self.assertEqual(press(plain, "4)"), press(panel, ")"))
-
-    def test_picture(self):
-        """The picture of docs/PANEL.md is what the panel shows; docs/drawings/panel.py draws it anew."""
-        self.assertEqual(("", "", 0), run(sys.executable, os.path.join(TOP, "docs", "drawings", "panel.py"), "--check"))
 
 
 class Keys(PanelCase):

@@ -155,8 +155,6 @@ class Screens(TerminalCase):
         self.assertEqual(set(), terminal.colours())
         self.assertTrue(terminal.hang_up(), "it goes on in a terminal that was closed")
 
-
-class Keys(TerminalCase):
     def test_fast_typing(self):
         """Keys that come faster than they are performed are not lost."""
         terminal = self.started()

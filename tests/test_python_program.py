@@ -36,47 +36,43 @@ add_tests(Cases, Cases.check_python, named())
 
 
 @contextlib.contextmanager
+def closing(*numbers):
+    """Yields the first of some files, and closes them all."""
+    try:
+        yield numbers[0]
+    finally:
+        list(map(os.close, numbers))
+
+
 def pipe(data=b"", blocking=True, lasts=True):
-    """Yields the end to read of a pipe with some bytes, and the other end if it lasts; a read may not wait."""
+    """The end to read of a pipe with some bytes, whose other end may be closed; a read may not wait."""
     reader, end = os.pipe()
     os.write(end, data)
     os.set_blocking(reader, blocking)
     if not lasts:
         os.close(end)
-    yield reader
-    os.close(reader)
-    if lasts:
-        os.close(end)
+    return closing(reader, *[end] * lasts)
 
 
-@contextlib.contextmanager
 def full_pipe():
-    """Yields the end to write of a pipe without room, at which a write does not wait."""
+    """The end to write of a pipe without room, at which a write does not wait."""
     reader, end = os.pipe()
     os.set_blocking(end, False)
     with contextlib.suppress(BlockingIOError):
         while True:
             os.write(end, b"*" * 4096)
-    yield end
-    os.close(reader)
-    os.close(end)
+    return closing(end, reader)
 
 
-@contextlib.contextmanager
 def broken_pipe():
-    """Yields the end to write of a pipe that nobody reads."""
+    """The end to write of a pipe that nobody reads."""
     reader, end = os.pipe()
     os.close(reader)
-    yield end
-    os.close(end)
+    return closing(end)
 
 
-@contextlib.contextmanager
 def opened(path, flags):
-    """Yields a file."""
-    file = os.open(path, flags)
-    yield file
-    os.close(file)
+    return closing(os.open(path, flags))
 
 
 SOURCES = {

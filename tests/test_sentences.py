@@ -4,7 +4,7 @@ what they say of P, A and cells is compared with the simulator."""
 import random
 import re
 
-from .cases import blocks, marked
+from .cases import marked, stored_blocks
 from .support import Case, add_tests, program
 
 from pp6600 import Console
@@ -98,7 +98,7 @@ class Sentences(Case):
 
 def rows_by_heading():
     """Returns the headings of tests/sentences.txt, each with its rows: the state of the channels, the words and the sentence."""
-    for heading, lines in blocks("sentences.txt")[1]:
+    for heading, lines in stored_blocks("sentences.txt")[1]:
         yield heading, [(heading[0] if heading[1] == ":" else "E", *row) for row in marked(re.compile(r"(.+?) +\| (.*)"), lines)]
 
 

@@ -3,7 +3,7 @@
 import random
 import re
 
-from tests.fixtures import COMPLETES, at_terminal
+from tests.fixtures import at_terminal
 from tests.generator import BUSY, JUNK, Maker
 from tests.support import TOOLS, Case, names_of_codes, program, read, run, tool
 
@@ -28,16 +28,6 @@ class Tables(Case):
         words = "".join(f"{first:02o}{first + 1:02o} " for first in range(0, 64, 2)).split()
         self.assertEqual(words, tool("words", "--", symbols).out.split())
         self.assertEqual(f"{symbols}\n", tool("words", "--back", *words).out)
-
-    def test_each_wait(self):
-        """Each code on a channel of its own in the same state; channel 14, and one that is none."""
-        for state in "IEF":
-            script = "".join(f"SET M {n:o} 0 {code:o}{n:02o} 17\nSET H {n:o} {state}\n" for n, code in enumerate(COMPLETES))
-            got = tool("waits", script=script + "SET M 6 0 7214\nSET M 7 0 7014\nSET M 10 0 7515\nSET M 11 0 6615\n").out
-            wanted = [f"PP {n:02o}" for n, (completes, _) in enumerate(COMPLETES.values()) if state not in completes]
-            with self.subTest(state):
-                self.assertEqual([*wanted, "PP 06", "PP 10"], re.findall("^PP ..", got, flags=re.M))
-        self.assertIn("PP 10 AT 0000 DCN P 0000 H 15 NONE FROM TURN 11", got)
 
     def test_each_reason(self):
         """Whatever is refused, there is a reason, and each form that is named is on the card."""

@@ -15,7 +15,8 @@ def outcome(case, *command, **how):
     with tempfile.TemporaryDirectory(prefix="pp6600-test-") as folder:
         for name, data in case.files.items():
             write(os.path.join(folder, name), data)
-        done = subprocess.run([*command, *case.words], cwd=folder, input=case.script, capture_output=True, timeout=PATIENCE, check=False, **how)
+        how = {"cwd": folder, "input": case.script, "capture_output": True, "timeout": PATIENCE, "check": False, **how}
+        done = subprocess.run([*command, *case.words], **how)
     return done.stdout, done.stderr, done.returncode
 
 
