@@ -235,7 +235,11 @@ class LibraryEngine:
         self._answers = self.session.text, c_size_t(ANSWER_ROOM), *self.session.counted
 
     def answer(self, text: str) -> List[str]:
-        return self.session.answer(text.encode("latin-1"), ANSWER_ROOM).text.decode("ascii").splitlines()
+        typed, found = text.encode("latin-1"), b""
+        while typed:  # beyond the limits of a call it goes on
+            answers = self.session.answer(typed, ANSWER_ROOM)
+            typed, found = typed[answers.taken:], found + answers.text
+        return found.decode("ascii").splitlines()
 
     def perform(self, typed: bytes) -> None:
         self._size.value = len(typed)

@@ -334,7 +334,7 @@ class Turn:
     def addresses(self) -> List[Place]:
         """Returns the places that say where it read or wrote: cell d of an indirect or indexed address, and A."""
         processor = self.processor
-        if not processor.phase and address_is_in_cell(processor.instruction):
+        if not processor.phase and (processor.code in INDIRECT or processor.channel and processor.code in INDEXED):
             return self._places("I")
         return self._places("A") if processor.code in (BLOCKS_OF_CENTRAL if processor.phase else A_IS_AN_ADDRESS) else []
 
@@ -397,12 +397,6 @@ def places_of(symbol: str, number: int, processor: Processor, cell: Cell) -> Lis
 def of_word(place: Place, word: Optional[Place], parts: Optional[Tuple[int, ...]]) -> Write:
     """Returns the write of a place from these parts of a central word, or from one that is not there."""
     return Write(place, True, (Source(word, parts),) if word else (), () if word else (NO_WORD,))
-
-
-def address_is_in_cell(word: int) -> bool:
-    """Returns whether the instruction of a word has its operand's address, or a part of it, in cell d."""
-    code, d = word >> 6, word & 0o77
-    return code in INDIRECT or d != 0 and code in INDEXED
 
 
 def device_put_a_word(channel: int, writes: Sequence[Write], before: str, after: str) -> bool:
