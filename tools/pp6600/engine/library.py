@@ -199,11 +199,11 @@ class LibrarySession:
         return int(self.answered[0].value)
 
     def _make_room(self, most: int, places: Sequence[int]) -> None:
-        """Makes room for the numbers at places after so many turns."""
+        """Makes room for the numbers at places after so many turns. What is passed in each call is converted once."""
         width, room = len(places), (c_uint64 * (most * len(places)))()
         self.looked, self.most_seen, self.most, self.seen = places, most, c_uint32(), memoryview(room).cast("B").cast("Q")
-        self._looks = functools.partial(self.calls["looks"], self.most, byref((c_uint32 * width)(*places)), c_size_t(width), byref(room),
-                                        c_size_t(most * width), self.counted[0])
+        self._looks = functools.partial(self.calls["looks"], self.most, byref((c_uint32 * width)(*places)), c_size_t.from_param(width),
+                                        byref(room), c_size_t.from_param(most * width), self.counted[0])
 
     def back(self, count: int) -> bool:
         """Undoes actions. Returns whether there were enough; if not, none is undone."""
@@ -232,10 +232,14 @@ class LibraryEngine:
             raise Failure(f"{path} is not the library of the simulator: {failure.__cause__}") from failure
         self.numbers, self.close = self.session.numbers, self.session.close
         self._answer, self._refused, self._size = self.session.calls["answer"], self.session.answered[3], c_size_t()
-        self._answers = self.session.text, c_size_t(ANSWER_ROOM), *self.session.counted
+        self._answers = byref(self.session.text), c_size_t.from_param(ANSWER_ROOM), *self.session.counted
 
     def answer(self, text: str) -> List[str]:
-        return self.session.answer(text.encode("latin-1"), ANSWER_ROOM).text.decode("ascii").splitlines()
+        typed, found = text.encode("latin-1"), b""
+        while typed:  # beyond the limits of a call it goes on
+            answers = self.session.answer(typed, ANSWER_ROOM)
+            typed, found = typed[answers.taken:], found + answers.text
+        return found.decode("ascii").splitlines()
 
     def perform(self, typed: bytes) -> None:
         self._size.value = len(typed)

@@ -109,21 +109,12 @@ class Waits(Test):
         return looks.spread(self.number, same, held)
 
     def waited(self, looks: Looks, registers: Sequence[Tuple[int, ...]], same: bytes) -> bytes:
-        """Returns which turns waited, of those that changed no register."""
-        keys = {(one[0], one[3]) for one in compress(registers, same)}
-        written = looks.written if any(not phase for _, phase in keys) else set()
-        known = {(p, phase): self.waits_at(looks, p, phase) for p, phase in keys
-                 if phase or flat.CELLS + CELLS * self.number + p not in written}
+        """Returns which turns waited, of those that changed no register: those whose instruction may, or block transfer."""
         own, found = looks.first_own(self.number), bytearray(len(same))
         for at, (p, _, _, phase) in compress(enumerate(registers), same):
-            key = p, phase
-            found[at] = known[key] if key in known else looks.processor_at(own + PROCESSORS * at).goes_on_in is not None
+            word = phase or int(looks.words_at(self.number, p, own + PROCESSORS * at)[0], 8)
+            found[at] = word >> 6 in (BLOCK_GOES_ON if phase else COMPLETES)
         return bytes(found)
-
-    def waits_at(self, looks: Looks, p: int, phase: int) -> bool:
-        """Returns whether the instruction at P may wait, or the block transfer of a phase. The cell is as it was in all the turns."""
-        word = phase or looks.run.engine.numbers(flat.CELLS + CELLS * self.number + p, 1)[0]
-        return word >> 6 in (BLOCK_GOES_ON if phase else COMPLETES)
 
 
 class Returns(Test):

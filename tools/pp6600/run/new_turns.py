@@ -187,14 +187,11 @@ class NewTurns:
 
     def _hit_with_replies(self, watched: Sequence[Place], hit: Optional[str], now: Channels) -> Optional[str]:
         """Returns the HIT of a turn with its replies: that of the turn itself, and the channels after it."""
-        return hit_with_replies(watched, hit, self._named(now), self._named([value.seen for value in self.values]))
+        names, after = [f"H {channel:02o}" for channel in self.channels], [value.seen for value in self.values]
+        return hit_with_replies(watched, hit, *({name: f"{register:04o}" for name, (_, register) in zip(names, some)} for some in (now, after)))
 
     def _digits(self, places: Sequence[Place]) -> List[str]:
         return [f"{self.engine.numbers(place.number, 1)[0]:0{place.digits}o}" for place in places]
-
-    def _named(self, channels: Channels) -> Dict[str, str]:
-        """Returns the digits of the registers of the devices' channels, by their places."""
-        return {f"H {channel:02o}": f"{register:04o}" for channel, (_, register) in zip(self.channels, channels)}
 
 
 def value_told(past: Past, value: Value, what: object, now: Channel, turn: int) -> Tuple[Value, Optional[Reply]]:

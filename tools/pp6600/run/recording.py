@@ -124,22 +124,13 @@ def overwritten(olds: Sequence[int]) -> Dict[int, int]:
     return dict(zip(reversed(olds[::2]), reversed(olds[1::2])))
 
 
-def latest_changes(run: Session, count: int = 1) -> Dict[int, int]:
-    """Returns the numbers before the latest actions, so many, at the places where they are no longer so. The engine keeps the actions:
-    they are undone, and performed again."""
-    run.engine.back(count)
-    was = overwritten(array("Q", run.engine.again(count).olds))
-    now = Numbers(run)
-    return {place: number for place, number in was.items() if number != now[place]}
-
-
 def next_changes(run: Session, count: int = 1) -> Dict[int, int]:
     """Returns the present numbers at the places where they are others after the next actions, so many, which the engine has undone. They are
     performed again, and undone."""
-    run.engine.forward(count)
-    was = latest_changes(run, count)
+    was, now = overwritten(array("Q", run.engine.again(count).olds)), Numbers(run)
+    found = {place: number for place, number in was.items() if number != now[place]}
     run.engine.back(count)
-    return was
+    return found
 
 
 def first_of(place: int, olds: bytes, begin: int = 0) -> int:

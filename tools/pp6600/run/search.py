@@ -63,7 +63,7 @@ class Looks:
         """Makes turns, at most so many."""
         self.run, self.first = run, run.position
         self.slot = run.next_slot
-        self.words: Dict[int, List[str]] = {}  # those that no turn wrote, of a processor
+        self.words: Dict[Tuple[int, int], List[str]] = {}  # those that no turn wrote, by processor and address
         self.columns: Dict[int, Sequence[int]] = {}
         for begin in range(0, max(len(places), 1), MOST_PLACES):
             looked = places[begin:begin + MOST_PLACES] or [flat.SLOT]
@@ -112,13 +112,13 @@ class Looks:
 
     def words_at(self, number: int, address: int, at: int) -> List[str]:
         """Returns the words of two cells of a processor before a turn."""
-        if address not in self.words:
+        if (number, address) not in self.words:
             cells = {flat.CELLS + CELLS * number + (address + more) % CELLS for more in (0, 1)}
             if not self.written.isdisjoint(cells):
                 with self.run.at(self.position(at)) as run:
                     return run.words_at(number, address)
-            self.words[address] = self.run.words_at(number, address)
-        return self.words[address]
+            self.words[number, address] = self.run.words_at(number, address)
+        return self.words[number, address]
 
     @functools.cached_property
     def written(self) -> Set[int]:

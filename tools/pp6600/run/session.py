@@ -15,7 +15,7 @@ from typing import Iterator, List, Optional, Sequence
 from ..failure import Failure
 from .console import Console
 from .forms import MOST_TURNS, refused
-from .tape import STEP, Action, History, Position, Tape, UnitCounts, Units, lines_of, room_of
+from .tape import STEP, History, Position, Tape, UnitCounts, Units, lines_of, room_of
 
 MOVE = re.compile(r"[ \t]*(BACK|FORWARD)(?:[ \t]+([0-7]{1,10}))?[ \t\r]*", re.I)
 REPLAYED = "replayed"  # the second line of an answer to a BACK
@@ -26,6 +26,11 @@ def without_history(words: Sequence[str]) -> List[str]:
     """Returns the words of the simulator without --history: a replay needs no length of its own."""
     at = words.index("--history") if "--history" in words else len(words)
     return [*words[:at], *words[at + 2:]]
+
+
+def number_in(line: str) -> int:
+    """Returns the number of turns of a STEP or of its answer."""
+    return int(line.split()[1], 8)
 
 
 class Session(Console):
@@ -142,25 +147,16 @@ class Session(Console):
         return sum(action.times for action in self.tape.actions(first, last) if action.is_watch)
 
     def _play(self, position: Position) -> None:
-        """Performs the actions of the tape up to a position by their lines."""
-        if self.tape.watches and not self.is_search:
-            for action in self.tape.actions(self.position, position):
-                self._perform(action)
-                self.history.performed(action.times)
-            return
-        actions = self.tape.actions(self.position, position)
-        lines = (line for action in actions if not self.tape.watches or not action.is_watch for line in lines_of(action))
-        while some := list(itertools.islice(lines, AT_ONCE)):
-            self._perform_lines(some)
+        """Performs the actions of the tape up to a position by their lines. A STEP may end where a watched number changes, and goes on."""
+        watches, actions = self.tape.watches, self.tape.actions(self.position, position)
+        stops = watches and not self.is_search
+        lines = (line for action in actions if stops or not watches or not action.is_watch for line in lines_of(action))
+        while some := list(itertools.islice(lines, 1 if stops else AT_ONCE)):
+            answers = self._perform_lines(some)
+            while stops and answers[0] != "OK" and (left := number_in(some[0]) - number_in(answers[0])):
+                some = [f"{STEP} {left:o}"]
+                answers = self._perform_lines(some)
         self.history.performed(position - self.position)
-
-    def _perform(self, action: Action) -> None:
-        """Performs an action of the tape. A STEP may end where a watched number changes, and goes on."""
-        answers = self._perform_lines(list(lines_of(action)))
-        left = action.turns - sum(int(answer.split()[1], 8) for answer in answers if answer.startswith("TURNS "))
-        while left:
-            answer, *_ = self._perform_lines([f"STEP {left:o}"])
-            left -= int(answer.split()[1], 8)
 
     def _perform_lines(self, lines: List[str]) -> List[str]:
         """Performs lines of the tape. Returns the lines of their answers."""

@@ -145,8 +145,9 @@ class Tape:
         if is_turn and self.runs and self.runs[-1].line == STEP:
             times += self._pop().times
         self._add(Action(line, times), times * is_turn, times * (not is_reply))
-        if not is_turn and not is_reply:
-            self._note_kind(self.runs[-1].word)
+        word = "" if is_turn or is_reply else self.runs[-1].word
+        self.watches += word in WATCH_WORDS
+        self.dead_starts += [self.end] * (word == "DEADSTART")
 
     def append_replies(self, turns: Sequence[int], replies: Sequence[Action]) -> None:
         """Adds replies, and the turns before each of them: it comes after so many in all. A range of them is added at once."""
@@ -171,12 +172,6 @@ class Tape:
         """Removes the last run, and returns it."""
         del self.starts[-1], self.turns_before[-1], self.units_before[-1]
         return self.runs.pop()
-
-    def _note_kind(self, word: str) -> None:
-        if word in WATCH_WORDS:
-            self.watches += 1
-        elif word == "DEADSTART":
-            self.dead_starts.append(self.end)
 
     def cut(self, position: Position) -> None:
         """Removes what is after a position."""

@@ -334,7 +334,7 @@ class Turn:
     def addresses(self) -> List[Place]:
         """Returns the places that say where it read or wrote: cell d of an indirect or indexed address, and A."""
         processor = self.processor
-        if not processor.phase and address_is_in_cell(processor.instruction):
+        if not processor.phase and (processor.code in INDIRECT or processor.channel and processor.code in INDEXED):
             return self._places("I")
         return self._places("A") if processor.code in (BLOCKS_OF_CENTRAL if processor.phase else A_IS_AN_ADDRESS) else []
 
@@ -399,27 +399,24 @@ def of_word(place: Place, word: Optional[Place], parts: Optional[Tuple[int, ...]
     return Write(place, True, (Source(word, parts),) if word else (), () if word else (NO_WORD,))
 
 
-def address_is_in_cell(word: int) -> bool:
-    """Returns whether the instruction of a word has its operand's address, or a part of it, in cell d."""
-    code, d = word >> 6, word & 0o77
-    return code in INDIRECT or d != 0 and code in INDEXED
+def state_left(channel: int, writes: Sequence[Write], before: str) -> str:
+    """Returns the state in which the writes of a processor leave a channel. Devices come after it."""
+    states = [STATE_LETTERS[write.constants[0]] for write in writes if write.place == Place("S", (channel,))]
+    return [before, *states][-1]
 
 
 def device_put_a_word(channel: int, writes: Sequence[Write], before: str, after: str) -> bool:
     """Returns whether the device of a channel wrote its register in a turn: it does so only by making the channel full. The
-    writes are those of the processor, which come first; before and after are the states of the channel."""
-    if after != "F":
-        return False
-    states = [STATE_LETTERS[write.constants[0]] for write in writes if write.place == Place("S", (channel,))]
-    return [before, *states][-1] != "F"
+    writes are those of the processor; before and after are the states of the channel."""
+    return after == "F" and state_left(channel, writes, before) != "F"
 
 
 def is_made_by(turn: Turn, channel: int, before: str, after: str) -> bool:
     """Returns whether the processor of a turn made a channel as it is after it, and not a device. Before and after are the states of the
-    channel; devices come after the processor."""
-    written = [write for write in turn.writes() if write.place in (Place("S", (channel,)), Place("H", (channel,)))]
-    states = [STATE_LETTERS[write.constants[0]] for write in written if write.place.kind == "S"]
-    return bool(written) and (states or [before])[0] == after
+    channel."""
+    writes = turn.writes()
+    has_written = any(write.place in (Place("S", (channel,)), Place("H", (channel,))) for write in writes)
+    return has_written and state_left(channel, writes, before) == after
 
 
 # ---- what a setting wrote
