@@ -91,9 +91,11 @@ class Run(NamedTuple):
 
 
 class Parts(NamedTuple):
-    """The parts of a line: the error flag; the address, and that to which the words are loaded; what is in the place of the words;
-    the source line, the column at which it begins, and whether that is the column of source lines."""
+    """The parts of a line: all of it; the error flag; the address, and that to which the words are loaded; what is in the place of the
+    words; the source line, the column at which it begins, and whether that is the column of source lines; and the fields of the source
+    line: the operand has the comment after it, and the statement is the line without its label, in the columns of sources."""
 
+    line: str
     flag: Optional[Token]
     address: Optional[Token]
     load: Optional[Token]
@@ -101,21 +103,20 @@ class Parts(NamedTuple):
     text: str
     column: int
     is_aligned: bool
+    label: str = ""
+    operation: str = ""
+    operand: str = ""
+    statement: str = ""
+
+    @property
+    def expression(self) -> str:
+        """The operand without its comment."""
+        return next(iter(self.operand.split()), "")
 
     @property
     def starts(self) -> List[int]:
         """The columns of the words of the source line, counted from its own first one, if it begins where all do."""
         return [found.start() for found in re.finditer(r"\S+", self.text)] if self.is_aligned else []
-
-
-class PrintedSource(NamedTuple):
-    """The fields of a source line. The operand has the comment after it. The statement is the line without its label, in the columns of
-    sources."""
-
-    label: str
-    operation: str
-    operand: str
-    statement: str
 
 
 def tokens_of(line: str) -> List[Token]:
@@ -245,7 +246,7 @@ def parts_of(line: str, columns: Optional[Columns]) -> Parts:
     start = max([min([start, *(token.start for token in rest[:1])]), *(word.end for word in words)])
     is_before = columns is not None and start == columns.text - 1
     is_aligned = columns is not None and start in (columns.text - 1, columns.text)
-    return Parts(flag, address, load, words, line[start:], start + is_before, is_aligned)
+    return Parts(line, flag, address, load, words, line[start:], start + is_before, is_aligned)
 
 
 def place_of_address(tokens: Sequence[Token], columns: Optional[Columns]) -> int:
@@ -307,16 +308,16 @@ def operation_at(words: Sequence[str], start: int) -> Optional[int]:
     return known[-1 if start < FIRST_OF_OPERATIONS else 0] if known else None
 
 
-def source_of(parts: Parts, operations: Set[int]) -> PrintedSource:
-    """Returns the fields of a source line. The columns of operations are those of the whole listing."""
+def with_fields(parts: Parts, operations: Set[int]) -> Parts:
+    """Returns the parts of a line with the fields of its source line. The columns of operations are those of the whole listing."""
     if parts.starts and parts.starts[0] >= FIRST_OF_COMMENTS:
-        return PrintedSource("", "", "", "")
+        return parts
     label = label_of(parts.text.split(), parts, operations)
     _, _, rest = parts.text.lstrip().partition(label) if label else ("", "", parts.text)
     operation, *operand = rest.lstrip(":").split(None, 1) or [""]
     blanks = max(len(parts.text) - len(rest.lstrip(" :")), FIRST_OF_OPERATIONS)  # before the operation
     statement = f"{'':{blanks}}{rest.lstrip(' :')}" if parts.is_aligned else f"          {operation:6} {''.join(operand)}"
-    return PrintedSource(label, operation.upper(), operand[0] if operand else "", statement)
+    return parts._replace(label=label, operation=operation.upper(), operand="".join(operand), statement=statement)
 
 
 def label_of(words: Sequence[str], parts: Parts, operations: Set[int]) -> str:
