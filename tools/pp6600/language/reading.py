@@ -13,7 +13,7 @@ from .printed import (
 from .source.directives import BASES
 from .source.machine import CODES, MNEMONICS, size_of
 from .source.messages import Message
-from .source.state import LITERAL, LITERALS, NOMINAL, WORD_BITS
+from .source.scope import LITERAL, LITERALS, NOMINAL, WORD_BITS
 
 HERE = re.compile(r"\*[LO]?([-+][0-9]+[BDO]?)?")  # an operand that is an address near that of its line
 DUPLICATED = re.compile(r"\bDUPLICATED? LINES?\b", re.I)

@@ -5,7 +5,7 @@ from typing import Callable, Dict, Iterator, List, Mapping, Sequence, Tuple
 from ...failure import Failure
 from .machine import CELLS, COLUMNS_OF_CARD, ROW
 from .passes import Program
-from .state import Row, Words
+from .scope import ListingRow, Words
 from .statements import TAB
 
 PANEL = range(0o1, 0o15)  # the cells of PP 00 that a dead start fills from the panel
@@ -66,7 +66,7 @@ def listing(program: Program) -> Iterator[str]:
             yield f"{address_of(row, at)} {shown(row.words[at:at + WORDS_OF_LINE])}".rstrip()
 
 
-def address_of(row: Row, at: int = 0) -> str:
+def address_of(row: ListingRow, at: int = 0) -> str:
     """Returns the columns of the address of a word, or of the number that a line names."""
     named = row.value if row.value is not None and 0 <= row.value < CELLS and not row.is_set else None
     number = row.location + at if row.has_address else named
@@ -74,7 +74,7 @@ def address_of(row: Row, at: int = 0) -> str:
     return f"{'' if number is None else digits(number):4} {load:5}"
 
 
-def value_of(row: Row) -> str:
+def value_of(row: ListingRow) -> str:
     """Returns a number that a line names and that is no address."""
     return "" if row.value is None or address_of(row).strip() else f"{'-' if row.value < 0 else ''}{abs(row.value):o}"
 

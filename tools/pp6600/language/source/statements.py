@@ -72,6 +72,14 @@ def statement_of(line: Line, macros: Container[str] = ()) -> Optional[Statement]
     return Statement(location, operation, operand_of(line, operation, macros))
 
 
+def statement_or_none(line: Line, macros: Container[str] = ()) -> Optional[Statement]:
+    """Returns the statement of a line; None also if it is wrong."""
+    try:
+        return statement_of(line, macros)
+    except Fault:
+        return None
+
+
 def joined(lines: Iterable[Line]) -> List[Line]:
     """Returns lines, each with those that continue it: they begin with a comma, and go on after the last sign of the line before."""
     found: List[Line] = []
