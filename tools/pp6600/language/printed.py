@@ -2,6 +2,7 @@
 addresses that go on where the words of the line before end; if there are none, the first number of a line is its address."""
 
 import re
+from itertools import takewhile
 from typing import Iterable, Iterator, List, NamedTuple, Optional, Sequence, Set, Tuple
 
 from ..failure import Failure
@@ -141,19 +142,9 @@ def run_from(tokens: Sequence[Token], at: int) -> Optional[Run]:
     """Returns what a line is if its address is the token there; None if that is no address."""
     if at >= len(tokens) or tokens[at].address is None or at and tokens[at].is_load and tokens[at - 1].address is not None:
         return None
-    load = at + 1 if tokens[at + 1:] and tokens[at + 1].is_load and tokens[at + 1].address is not None else at
-    after = load + 1
-    while after < len(tokens) and SHORT.fullmatch(tokens[after].text):
-        after += 1
-    words, first = list(tokens[load + 1:after]), tokens[load].address or 0
-    return Run(tokens[at], first, first + len(words), words, tokens[after] if after < len(tokens) else None)
-
-
-def runs_at(lines: Iterable[List[Token]], end: int) -> List[Run]:
-    """Returns the lines whose address ends in a column."""
-    places = ((tokens, next((at for at, token in enumerate(tokens[:MOST_BEFORE + 1]) if token.end_of_digits == end), None))
-              for tokens in lines)
-    return [run for tokens, at in places if at is not None and (run := run_from(tokens, at))]
+    load = at + any(token.is_load and token.address is not None for token in tokens[at + 1:at + 2])
+    words, first = list(takewhile(lambda token: SHORT.fullmatch(token.text), tokens[load + 1:])), tokens[load].address or 0
+    return Run(tokens[at], first, first + len(words), words, next(iter(tokens[load + 1 + len(words):]), None))
 
 
 def first_runs(lines: Iterable[List[Token]]) -> List[Run]:
@@ -161,11 +152,11 @@ def first_runs(lines: Iterable[List[Token]]) -> List[Run]:
     return [run for tokens in lines if (run := run_from(tokens, 0))]
 
 
-def with_words(runs: Iterable[Optional[Run]]) -> List[Run]:
-    return [run for run in runs if run and run.words]
+def with_words(runs: Iterable[Run]) -> List[Run]:
+    return [run for run in runs if run.words]
 
 
-def continuity(runs: Iterable[Optional[Run]]) -> int:
+def continuity(runs: Iterable[Run]) -> int:
     """Returns how many lines with words begin where those of the line before end."""
     coded = with_words(runs)
     return sum(one.after == other.first for one, other in zip(coded, coded[1:]))
@@ -185,14 +176,13 @@ def guessed(texts: Iterable[str]) -> Optional[Columns]:
     """Returns the columns of a listing; None if its lines have none in common."""
     lines = [tokens_of(text) for text in texts]
     plain = first_runs(lines)
-    ends = {run.token.end_of_digits for tokens in lines
-            for run in with_words(run_from(tokens, at) for at in range(MOST_BEFORE + 1))}
-    found = [(runs_at(lines, end), end) for end in sorted(ends)]
+    every = [run for tokens in lines for at in range(MOST_BEFORE + 1) if (run := run_from(tokens, at))]
+    ends = sorted({run.token.end_of_digits for run in with_words(every)})
+    found = [([run for run in every if run.token.end_of_digits == end], end) for end in ends]
     if len(with_words(plain)) == 1 and any(map(has_carriage_control, lines)):
         return next((columns_of(runs, end) for runs, end in found if runs[0].token.start), None)
     runs, end = max(found, key=lambda pair: order(pair[0]), default=([], 0))
-    is_better = order(runs) > order(plain)
-    return columns_of(runs, end) if is_better or are_aligned(plain, end) else None
+    return columns_of(runs, end) if order(runs) > order(plain) or are_aligned(plain, end) else None
 
 
 def few(others: int, all_: int) -> bool:
@@ -230,11 +220,9 @@ def columns_of(runs: Sequence[Run], end: int) -> Optional[Columns]:
 def parts_of(line: str, columns: Optional[Columns]) -> Parts:
     tokens = tokens_of(line)
     at = place_of_address(tokens, columns)
-    flag = None
+    flag = next((token for token in tokens[:at] if is_flag(token.text)), None)
     if tokens[at + 1:] and is_flag(tokens[at].text) and tokens[at + 1].address is not None:
         flag, at = tokens[at], at + 1
-    elif columns:
-        flag = next((token for token in tokens[:at] if is_flag(token.text)), None)
     address = tokens[at] if at < len(tokens) and is_in_columns(tokens[at], columns) else None
     after = at + (address is not None)
     load = address if address and address.is_load else None

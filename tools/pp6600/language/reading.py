@@ -298,7 +298,10 @@ class PrintedReading:
         elif value is None or self.origin is None:
             self.origin = None
         elif name == "BSSZ":
-            self.put_zeros(value)
+            count = max(0, min(value, CELLS))
+            if count:
+                self.entries.append(Printed(self.number, "", self.location or 0, self.origin, ("0000",) * count))
+            self.origin += count
         else:
             self.origin += value
         return address
@@ -325,13 +328,6 @@ class PrintedReading:
         else:
             self.used.append(NOMINAL if parts.expression == "0" else parts.expression)
         self.origin, self.moved = self.blocks.get(self.used[-1], address), 0
-
-    def put_zeros(self, count: int) -> None:
-        """Fills the cells of a BSSZ without words."""
-        load, count = self.origin or 0, max(0, min(count, CELLS))
-        if count:
-            self.entries.append(Printed(self.number, "", self.location or 0, load, ("0000",) * count))
-        self.origin = load + count
 
     def with_label(self, entry: Printed, parts: Parts) -> Printed:
         """Returns what a line says that has no words and no operation that is known: a macro, or a label alone."""

@@ -108,7 +108,7 @@ def nested(state: "Pass", statement: Statement, lines: Sequence[Line]) -> Option
         word, name = inner.operation.text, inner.location.text
         if ENDS.get(word) == end and not has_count(inner):
             open_names.append(name)
-        elif word == "ELSE" and end == "ENDIF" and middle is None and is_own(open_names, name):
+        elif word == "ELSE" and end == "ENDIF" and middle is None and (name == open_names[0] if name else len(open_names) == 1):
             middle = at
         elif word == end:
             del open_names[(open_names.index(name) if name in open_names and name else len(open_names) - 1):]
@@ -116,11 +116,6 @@ def nested(state: "Pass", statement: Statement, lines: Sequence[Line]) -> Option
             first, second = (lines[:at], []) if middle is None else (lines[:middle], lines[middle + 1:at])
             return Body(first, second, lines[at:at + 1], at + 1)
     return None
-
-
-def is_own(open_names: Sequence[str], name: str) -> bool:
-    """Returns whether an ELSE is that of the outermost statement."""
-    return name == open_names[0] if name else len(open_names) == 1
 
 
 def has_count(statement: Statement) -> bool:
@@ -138,7 +133,8 @@ def goes_on(state: "Pass", statement: Statement, body: Body) -> bool:
 
 
 def perform_body(state: "Pass", statement: Statement, body: Body) -> None:
-    """Performs a statement with its lines. Of an IF or DUP without end the lines are performed once."""
+    """Performs a statement with its lines; the listing has those that it leaves out too. Of an IF or DUP without end the lines are
+    performed once."""
     name = statement.operation.text
     if name == "RMT":
         state.remote.setdefault(statement.location.text, []).extend(body.first)
@@ -156,13 +152,9 @@ def perform_body(state: "Pass", statement: Statement, body: Body) -> None:
     elif name == "ECHO":
         echo(state, statement, body.first)
     else:
-        choose(state, body, holds(state, statement))
-
-
-def choose(state: "Pass", body: Body, is_first: bool) -> None:
-    """Performs the lines before ELSE or those after it; the listing has the others too."""
-    for lines, perform in ((body.first, is_first), (body.second, not is_first)):
-        (state.run if perform else state.show)(lines)
+        is_first = holds(state, statement)
+        for lines, is_performed in ((body.first, is_first), (body.second, not is_first)):
+            (state.run if is_performed else state.show)(lines)
 
 
 def echo(state: "Pass", statement: Statement, lines: Sequence[Line]) -> None:
