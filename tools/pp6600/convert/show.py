@@ -4,8 +4,7 @@ from ..language.symbol_options import add_sources, symbols_of
 from ..run.session import Session
 from ..run.tape import Position
 from ..shell.command_line import add_script, add_turn, arguments, script_lines, simulator
-from ..shell.script import performed
-from ..shell.shown import show_lines
+from ..shell.script import performed, show_lines
 
 DESCRIPTION = """Shows each line of a script after '> ', and below it the answer. The exit status is 0 if no line was refused, else
 1. With --turn N it shows the lines that lead to turn N: those of the actions that are in effect at the end of the script, up to

@@ -7,8 +7,8 @@ from .source.directives import MAKERS
 from .source.encoding import operands_of, words_of
 from .source.machine import CODES, form_of
 from .source.messages import Fault, Follows
-from .source.state import Scope
-from .source.statements import Field, Line, Statement, statement_of
+from .source.scope import Scope
+from .source.statements import Field, Line, Statement, statement_or_none
 from .source.symbols import Symbol
 
 D = 0o77  # what the operand of an instruction says of its first word
@@ -47,7 +47,7 @@ class Told(Scope):
 
     def number(self, text: str) -> Optional[int]:
         """Returns the number of the operand of a statement; None if it is not known."""
-        statement = statement_in(text)
+        statement = statement_or_none(Line(1, text))
         if not statement or not statement.operand.text or "*" in statement.operand.text and not self.is_placed:
             return None
         try:
@@ -66,17 +66,9 @@ class Told(Scope):
         return [word & ~bits | told & bits for word, bits, told in zip(words, known, made[0])] + list(words[len(known):])
 
 
-def statement_in(text: str) -> Optional[Statement]:
-    """Returns the statement of a line; None if it is wrong."""
-    try:
-        return statement_of(Line(1, text))
-    except Fault:
-        return None
-
-
 def told_by(told: Told, operation: str, text: str, words: Sequence[int]) -> Optional[List[int]]:
     """Returns the words that a statement makes, where its operands say that; those of the listing elsewhere. None if nothing is said."""
-    statement = statement_in(text)
+    statement = statement_or_none(Line(1, text))
     if not statement or statement.operation.text != operation:
         return None
     if operation == SUBR:

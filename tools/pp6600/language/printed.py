@@ -2,6 +2,7 @@
 addresses that go on where the words of the line before end; if there are none, the first number of a line is its address."""
 
 import re
+from itertools import takewhile
 from typing import Iterable, Iterator, List, NamedTuple, Optional, Sequence, Set, Tuple
 
 from ..failure import Failure
@@ -91,9 +92,11 @@ class Run(NamedTuple):
 
 
 class Parts(NamedTuple):
-    """The parts of a line: the error flag; the address, and that to which the words are loaded; what is in the place of the words;
-    the source line, the column at which it begins, and whether that is the column of source lines."""
+    """The parts of a line: all of it; the error flag; the address, and that to which the words are loaded; what is in the place of the
+    words; the source line, the column at which it begins, and whether that is the column of source lines; and the fields of the source
+    line: the operand has the comment after it, and the statement is the line without its label, in the columns of sources."""
 
+    line: str
     flag: Optional[Token]
     address: Optional[Token]
     load: Optional[Token]
@@ -101,21 +104,20 @@ class Parts(NamedTuple):
     text: str
     column: int
     is_aligned: bool
+    label: str = ""
+    operation: str = ""
+    operand: str = ""
+    statement: str = ""
+
+    @property
+    def expression(self) -> str:
+        """The operand without its comment."""
+        return next(iter(self.operand.split()), "")
 
     @property
     def starts(self) -> List[int]:
         """The columns of the words of the source line, counted from its own first one, if it begins where all do."""
         return [found.start() for found in re.finditer(r"\S+", self.text)] if self.is_aligned else []
-
-
-class PrintedSource(NamedTuple):
-    """The fields of a source line. The operand has the comment after it. The statement is the line without its label, in the columns of
-    sources."""
-
-    label: str
-    operation: str
-    operand: str
-    statement: str
 
 
 def tokens_of(line: str) -> List[Token]:
@@ -140,19 +142,9 @@ def run_from(tokens: Sequence[Token], at: int) -> Optional[Run]:
     """Returns what a line is if its address is the token there; None if that is no address."""
     if at >= len(tokens) or tokens[at].address is None or at and tokens[at].is_load and tokens[at - 1].address is not None:
         return None
-    load = at + 1 if tokens[at + 1:] and tokens[at + 1].is_load and tokens[at + 1].address is not None else at
-    after = load + 1
-    while after < len(tokens) and SHORT.fullmatch(tokens[after].text):
-        after += 1
-    words, first = list(tokens[load + 1:after]), tokens[load].address or 0
-    return Run(tokens[at], first, first + len(words), words, tokens[after] if after < len(tokens) else None)
-
-
-def runs_at(lines: Iterable[List[Token]], end: int) -> List[Run]:
-    """Returns the lines whose address ends in a column."""
-    places = ((tokens, next((at for at, token in enumerate(tokens[:MOST_BEFORE + 1]) if token.end_of_digits == end), None))
-              for tokens in lines)
-    return [run for tokens, at in places if at is not None and (run := run_from(tokens, at))]
+    load = at + any(token.is_load and token.address is not None for token in tokens[at + 1:at + 2])
+    words, first = list(takewhile(lambda token: SHORT.fullmatch(token.text), tokens[load + 1:])), tokens[load].address or 0
+    return Run(tokens[at], first, first + len(words), words, next(iter(tokens[load + 1 + len(words):]), None))
 
 
 def first_runs(lines: Iterable[List[Token]]) -> List[Run]:
@@ -160,11 +152,11 @@ def first_runs(lines: Iterable[List[Token]]) -> List[Run]:
     return [run for tokens in lines if (run := run_from(tokens, 0))]
 
 
-def with_words(runs: Iterable[Optional[Run]]) -> List[Run]:
-    return [run for run in runs if run and run.words]
+def with_words(runs: Iterable[Run]) -> List[Run]:
+    return [run for run in runs if run.words]
 
 
-def continuity(runs: Iterable[Optional[Run]]) -> int:
+def continuity(runs: Iterable[Run]) -> int:
     """Returns how many lines with words begin where those of the line before end."""
     coded = with_words(runs)
     return sum(one.after == other.first for one, other in zip(coded, coded[1:]))
@@ -184,14 +176,13 @@ def guessed(texts: Iterable[str]) -> Optional[Columns]:
     """Returns the columns of a listing; None if its lines have none in common."""
     lines = [tokens_of(text) for text in texts]
     plain = first_runs(lines)
-    ends = {run.token.end_of_digits for tokens in lines
-            for run in with_words(run_from(tokens, at) for at in range(MOST_BEFORE + 1))}
-    found = [(runs_at(lines, end), end) for end in sorted(ends)]
+    every = [run for tokens in lines for at in range(MOST_BEFORE + 1) if (run := run_from(tokens, at))]
+    ends = sorted({run.token.end_of_digits for run in with_words(every)})
+    found = [([run for run in every if run.token.end_of_digits == end], end) for end in ends]
     if len(with_words(plain)) == 1 and any(map(has_carriage_control, lines)):
         return next((columns_of(runs, end) for runs, end in found if runs[0].token.start), None)
     runs, end = max(found, key=lambda pair: order(pair[0]), default=([], 0))
-    is_better = order(runs) > order(plain)
-    return columns_of(runs, end) if is_better or are_aligned(plain, end) else None
+    return columns_of(runs, end) if order(runs) > order(plain) or are_aligned(plain, end) else None
 
 
 def few(others: int, all_: int) -> bool:
@@ -229,11 +220,9 @@ def columns_of(runs: Sequence[Run], end: int) -> Optional[Columns]:
 def parts_of(line: str, columns: Optional[Columns]) -> Parts:
     tokens = tokens_of(line)
     at = place_of_address(tokens, columns)
-    flag = None
+    flag = next((token for token in tokens[:at] if is_flag(token.text)), None)
     if tokens[at + 1:] and is_flag(tokens[at].text) and tokens[at + 1].address is not None:
         flag, at = tokens[at], at + 1
-    elif columns:
-        flag = next((token for token in tokens[:at] if is_flag(token.text)), None)
     address = tokens[at] if at < len(tokens) and is_in_columns(tokens[at], columns) else None
     after = at + (address is not None)
     load = address if address and address.is_load else None
@@ -245,7 +234,7 @@ def parts_of(line: str, columns: Optional[Columns]) -> Parts:
     start = max([min([start, *(token.start for token in rest[:1])]), *(word.end for word in words)])
     is_before = columns is not None and start == columns.text - 1
     is_aligned = columns is not None and start in (columns.text - 1, columns.text)
-    return Parts(flag, address, load, words, line[start:], start + is_before, is_aligned)
+    return Parts(line, flag, address, load, words, line[start:], start + is_before, is_aligned)
 
 
 def place_of_address(tokens: Sequence[Token], columns: Optional[Columns]) -> int:
@@ -307,16 +296,16 @@ def operation_at(words: Sequence[str], start: int) -> Optional[int]:
     return known[-1 if start < FIRST_OF_OPERATIONS else 0] if known else None
 
 
-def source_of(parts: Parts, operations: Set[int]) -> PrintedSource:
-    """Returns the fields of a source line. The columns of operations are those of the whole listing."""
+def with_fields(parts: Parts, operations: Set[int]) -> Parts:
+    """Returns the parts of a line with the fields of its source line. The columns of operations are those of the whole listing."""
     if parts.starts and parts.starts[0] >= FIRST_OF_COMMENTS:
-        return PrintedSource("", "", "", "")
+        return parts
     label = label_of(parts.text.split(), parts, operations)
     _, _, rest = parts.text.lstrip().partition(label) if label else ("", "", parts.text)
     operation, *operand = rest.lstrip(":").split(None, 1) or [""]
     blanks = max(len(parts.text) - len(rest.lstrip(" :")), FIRST_OF_OPERATIONS)  # before the operation
     statement = f"{'':{blanks}}{rest.lstrip(' :')}" if parts.is_aligned else f"          {operation:6} {''.join(operand)}"
-    return PrintedSource(label, operation.upper(), operand[0] if operand else "", statement)
+    return parts._replace(label=label, operation=operation.upper(), operand="".join(operand), statement=statement)
 
 
 def label_of(words: Sequence[str], parts: Parts, operations: Set[int]) -> str:

@@ -8,12 +8,12 @@ from ..run.forms import CELLS
 from .listed_words import Told, told_by
 from .names import EQUATES, octal_number
 from .printed import (
-    ADDRESS, SHORT, SUBR, TAB, WITH_WORDS, WORD, Columns, Parts, PrintedSource, Token, guessed, is_note, is_operation, operation_columns,
-    parts_of, source_of)
+    ADDRESS, SHORT, SUBR, TAB, WITH_WORDS, WORD, Columns, Parts, Token, guessed, is_note, is_operation, operation_columns, parts_of,
+    with_fields)
 from .source.directives import BASES
 from .source.machine import CODES, MNEMONICS, size_of
 from .source.messages import Message
-from .source.state import LITERAL, LITERALS, NOMINAL, WORD_BITS
+from .source.scope import LITERAL, LITERALS, NOMINAL, WORD_BITS
 
 HERE = re.compile(r"\*[LO]?([-+][0-9]+[BDO]?)?")  # an operand that is an address near that of its line
 DUPLICATED = re.compile(r"\bDUPLICATED? LINES?\b", re.I)
@@ -46,11 +46,11 @@ class Printout:
     def __init__(self, lines: Sequence[str], columns: Optional[Columns] = None, has_gaps: bool = False) -> None:
         """Without columns they are guessed. Between the rows of a dump there may be gaps."""
         self.has_gaps = has_gaps
-        self.lines = [line.replace("\f", " ").expandtabs(TAB) for line in lines]
-        self.columns = columns or guessed([line for line in self.lines if not is_note(line)])
-        all_parts = [parts_of(line, self.columns) for line in self.lines]
+        texts = [line.replace("\f", " ").expandtabs(TAB) for line in lines]
+        self.columns = columns or guessed([line for line in texts if not is_note(line)])
+        all_parts = [parts_of(line, self.columns) for line in texts]
         operations = operation_columns(all_parts)
-        self.fields = [(parts, source_of(parts, operations)) for parts in all_parts]  # of each line
+        self.parts = [with_fields(parts, operations) for parts in all_parts]  # of each line
         self.has_zeros = any(parts.address and parts.words and WITH_ZEROS.fullmatch(parts.address.text) for parts in all_parts)
 
     def read(self) -> "PrintedReading":
@@ -58,10 +58,6 @@ class Printout:
         fewer doubts."""
         names = PrintedReading(self, {}, 8).names
         return min((PrintedReading(self, names, base) for base in (8, 10)), key=lambda reading: len(reading.doubts))
-
-
-def source_line(source: PrintedSource) -> str:
-    return f" {source.label:8} {source.operation:6} {source.operand}".rstrip()
 
 
 class PrintedReading:
@@ -81,9 +77,9 @@ class PrintedReading:
         self.end = 0  # the highest address of the nominal block, after which come the literals
         self.start: Optional[int] = None  # that END names
         self.bits = 0  # of the last word that a VFD has filled
-        for self.number, (line, (parts, source)) in enumerate(zip(printout.lines, printout.fields), 1):
-            if not is_note(line):
-                self.entries.append(self.entry(line, parts, source))
+        for self.number, parts in enumerate(printout.parts, 1):
+            if not is_note(parts.line):
+                self.entries.append(self.entry(parts))
                 self.end = max(self.end, self.origin or 0) if self.used[-1] == NOMINAL else self.end
         self.check_statement()
         if self.is_repeated:
@@ -94,39 +90,40 @@ class PrintedReading:
 
     # -- one line
 
-    def entry(self, line: str, parts: Parts, source: PrintedSource) -> Printed:
+    def entry(self, parts: Parts) -> Printed:
         """Returns what a line says, after what it tells was checked."""
-        entry = Printed(self.number, parts.text.strip(), source=parts.text.rstrip() if parts.is_aligned else source_line(source))
-        if DUPLICATED.search(line):
+        source = parts.text if parts.is_aligned else f" {parts.label:8} {parts.operation:6} {parts.operand}"
+        entry = Printed(self.number, parts.text.strip(), source=source.rstrip())
+        if DUPLICATED.search(parts.line):
             self.is_repeated = True
             return entry
-        if self.has_ended and not self.is_literal(parts, source):
-            return self.passed(entry, line)
-        if is_operation(source.operation) and source.operation not in WITH_WORDS or source.operation == "BSSZ" and not parts.words:
-            return self.without_words(entry, parts, source)
-        if source.operation == "LIT" and not parts.words:
+        if self.has_ended and not self.is_literal(parts):
+            return self.passed(entry, parts)
+        if is_operation(parts.operation) and parts.operation not in WITH_WORDS or parts.operation == "BSSZ" and not parts.words:
+            return self.without_words(entry, parts)
+        if parts.operation == "LIT" and not parts.words:
             numbers = self.values_of(parts)
-            return self.named(entry, self.labels_at(source, numbers[0])) if numbers else entry
-        if self.is_coded(parts, source):
-            return self.coded(entry, parts, source)
-        return self.with_label(entry, parts, source, line)
+            return self.named(entry, self.labels_at(parts, numbers[0])) if numbers else entry
+        if self.is_coded(parts):
+            return self.coded(entry, parts)
+        return self.with_label(entry, parts)
 
-    def is_literal(self, parts: Parts, source: PrintedSource) -> bool:
+    def is_literal(self, parts: Parts) -> bool:
         """Returns whether a line after END has words of the program: no source line, and an address that goes on, or almost."""
-        if not parts.address or not parts.words or any(source):
+        if not parts.address or not parts.words or parts.statement:
             return False
         return parts.address.address is None or parts.address.address == self.origin
 
     @staticmethod
-    def is_coded(parts: Parts, source: PrintedSource) -> bool:
+    def is_coded(parts: Parts) -> bool:
         """Returns whether a line has words, or had some before it was read wrongly."""
         is_placed = parts.address is not None and parts.address.has_digit
-        if source.operation in WITH_WORDS:
+        if parts.operation in WITH_WORDS:
             return is_placed or any(token.has_digit for token in parts.words)
         has_address = parts.address is not None and parts.address.address is not None
         return is_placed and any(has_address or WORD.fullmatch(token.text) for token in parts.words)
 
-    def coded(self, entry: Printed, parts: Parts, source: PrintedSource) -> Printed:
+    def coded(self, entry: Printed, parts: Parts) -> Printed:
         """Returns what a line with words says."""
         if parts.flag:
             self.doubt(parts.flag, f"the line has the error flag {parts.flag.text}")
@@ -136,26 +133,25 @@ class PrintedReading:
         words = tuple(self.word(token) for token in parts.words)
         address, load = self.places(parts, parts.words[0] if parts.words else None)
         if None not in words:
-            self.check_size(parts, source)
+            self.check_size(parts)
         if address is None or load is None:
             return entry
         entry = entry._replace(address=address, load=load, words=words)
-        if source.operation or source.label or not self.statement:
+        if parts.operation or parts.label or not self.statement:
             self.check_statement()
-            self.statement = [entry] if self.is_whole(source) else []
+            self.statement = [entry] if self.is_whole(parts) else []
         else:
             self.statement.append(entry)
-        if source.operation != "LIT":
+        if parts.operation != "LIT":
             self.repeat(load, parts.address)
             self.origin = None if None in words else load + len(words)  # of what follows from a doubt nothing is said
-        return self.named(entry, self.labels_at(source, address))
+        return self.named(entry, self.labels_at(parts, address))
 
-    def is_whole(self, source: PrintedSource) -> bool:
+    def is_whole(self, parts: Parts) -> bool:
         """Returns whether a statement begins and ends its words: a VFD may go on in the last word of another one."""
-        bits = sum(map(int, BITS.findall(source.operand.split()[0]))) if source.operation == "VFD" and source.operand else 0
-        before = 0 if source.label else self.bits
-        self.bits = (before + bits) % WORD_BITS if source.operation == "VFD" else 0
-        return not before and not self.bits or source.operation != "VFD"
+        before, is_vfd = 0 if parts.label else self.bits, parts.operation == "VFD"
+        self.bits = (before + sum(map(int, BITS.findall(parts.expression)))) % WORD_BITS if is_vfd else 0
+        return not is_vfd or not before and not self.bits
 
     def word(self, token: Token) -> Optional[str]:
         if WORD.fullmatch(token.text):
@@ -164,9 +160,9 @@ class PrintedReading:
         self.doubt(token, f"{token.text} has fewer than four digits" if few else f"{token.text} is no word of four octal digits")
         return None
 
-    def check_size(self, parts: Parts, source: PrintedSource) -> None:
+    def check_size(self, parts: Parts) -> None:
         """Checks that an instruction has its words, and its code."""
-        name, count = source.operation, len(parts.words)
+        name, count = parts.operation, len(parts.words)
         if name not in CODES:
             if not count and name != "VFD":  # which may go on in a word that is listed
                 self.doubt(parts.address, f"the line has an address, and {name} has no word")
@@ -205,8 +201,7 @@ class PrintedReading:
         load = self.number_of(parts.load) if parts.load and parts.load is not parts.address else None
         if address is None:
             return self.location, self.origin
-        if load is None:
-            load = self.load_of(address, parts.address.is_load)
+        load = self.load_of(address, parts.address.is_load) if load is None else load
         self.check_order(load, parts.load or parts.address)
         return address, load
 
@@ -216,9 +211,9 @@ class PrintedReading:
             if self.origin is None:
                 self.doubt(None, "LOC, and where this is loaded is not known")
             self.moved = 0 if self.origin is None or is_load else self.origin - address
-        if is_load or address == self.origin:
-            self.moved = 0 if not is_load else self.moved
+        if is_load:
             return address
+        self.moved = 0 if address == self.origin else self.moved
         return address + self.moved
 
     def check_order(self, load: int, token: Token) -> None:
@@ -227,7 +222,7 @@ class PrintedReading:
         to = f"{self.origin:04o} comes after the line before"
         if load < self.origin:
             self.doubt(token, f"the address goes back: {to}")
-        elif not self.printout.has_gaps or self.printout.fields[self.number - 1][0].text:
+        elif not self.printout.has_gaps or self.printout.parts[self.number - 1].text:
             self.doubt(token, f"a gap: {to}, and no BSS, ORG, LOC or USE says more")
 
     def repeat(self, load: int, token: Optional[Token]) -> None:
@@ -245,23 +240,22 @@ class PrintedReading:
 
     # -- lines without words
 
-    def without_words(self, entry: Printed, parts: Parts, source: PrintedSource) -> Printed:
+    def without_words(self, entry: Printed, parts: Parts) -> Printed:
         """Returns what a line says whose operation makes no words: its numbers are the values of names."""
-        name, numbers = source.operation, self.values_of(parts)
+        name, numbers = parts.operation, self.values_of(parts)
         if parts.flag and numbers:
             self.doubt(parts.flag, f"the line has the error flag {parts.flag.text}")
         if name in EQUATES:
-            return self.equate(entry, parts, source, numbers)
+            return self.equate(entry, parts, numbers)
         if name == "BASE":
-            self.base = next((base for word, base in BASES.items() if source.operand and word.startswith(source.operand.split()[0])),
-                             self.base)
+            self.base = next((base for word, base in BASES.items() if parts.operand and word.startswith(parts.expression)), self.base)
         elif name == "IDENT":
             self.origin, self.moved, self.has_ended = None, 0, False
         if name not in LABELLED:
             return entry
         self.check_statement()
-        address = self.counter(parts, source, numbers[0] if numbers else None)
-        return self.named(entry, self.labels_at(source, address)) if address is not None else entry
+        address = self.counter(parts, numbers[0] if numbers else None)
+        return self.named(entry, self.labels_at(parts, address)) if address is not None else entry
 
     def values_of(self, parts: Parts) -> List[int]:
         """Returns the numbers of a line without words."""
@@ -271,29 +265,30 @@ class PrintedReading:
                 self.doubt(token, f"{token.text} is no octal number")
         return [number for number in found.values() if number is not None]
 
-    def equate(self, entry: Printed, parts: Parts, source: PrintedSource, numbers: List[int]) -> Printed:
+    def equate(self, entry: Printed, parts: Parts, numbers: List[int]) -> Printed:
         """Returns what EQU says: the number that is printed, which the operand must have too."""
-        if not source.label or not numbers:
+        if not parts.label or not numbers:
             return entry
-        number, told = numbers[-1], self.value(source)
+        number, told = numbers[-1], self.value(parts)
         if told is not None and told % CELLS != number % CELLS:
             self.doubt(parts.words[-1] if parts.words else parts.address,
-                       f"{source.label} is {told:o}, as {source.operand.split()[0]} says, and the line has {number:o}")
+                       f"{parts.label} is {told:o}, as {parts.expression} says, and the line has {number:o}")
         if not 0 <= number < CELLS:
             return entry
-        pair = ((source.label, number),)
-        operand = source.operand.split(None, 1)[:1]
-        return self.named(entry, pair) if operand and HERE.fullmatch(operand[0]) else self.named(entry, (), pair)
+        pair = ((parts.label, number),)
+        return self.named(entry, pair) if HERE.fullmatch(parts.expression) else self.named(entry, (), pair)
 
-    def counter(self, parts: Parts, source: PrintedSource, address: Optional[int]) -> Optional[int]:
+    def counter(self, parts: Parts, address: Optional[int]) -> Optional[int]:
         """Performs an operation that moves the counters. Returns the address of its label."""
-        name, value = source.operation, self.value(source)
-        if name == "ORG":
-            return self.organize(parts, address, value)
+        name, value = parts.operation, self.value(parts)
+        if name == "ORG":  # whose line may have its operand or the address before it
+            self.check_move(parts, address, value)
+            self.origin, self.moved = address if value is None else value, 0
+            return self.origin
         if name == "LOC":
-            return self.locate(parts, source, address, value)
+            return self.locate(parts, address, value)
         if name == "USE":
-            self.use(source, address)
+            self.use(parts, address)
             return address
         if address is not None and parts.address:
             _, load = self.places(parts, None)
@@ -303,69 +298,59 @@ class PrintedReading:
         elif value is None or self.origin is None:
             self.origin = None
         elif name == "BSSZ":
-            self.put_zeros(value)
+            count = max(0, min(value, CELLS))
+            if count:
+                self.entries.append(Printed(self.number, "", self.location or 0, self.origin, ("0000",) * count))
+            self.origin += count
         else:
             self.origin += value
         return address
 
-    def organize(self, parts: Parts, address: Optional[int], value: Optional[int]) -> Optional[int]:
-        """Performs ORG, whose line may have its operand or the address before it."""
-        self.check_move("ORG", parts, address, value)
-        self.origin, self.moved = address if value is None else value, 0
-        return self.origin
-
-    def locate(self, parts: Parts, source: PrintedSource, address: Optional[int], value: Optional[int]) -> Optional[int]:
+    def locate(self, parts: Parts, address: Optional[int], value: Optional[int]) -> Optional[int]:
         """Performs LOC: code for another place goes where it is."""
         if parts.load and parts.load is not parts.address:
             self.check_order(octal_number(parts.load.text[1:]) or 0, parts.load)
-        if source.operand[:2].upper() == "*O":
+        if parts.operand[:2].upper() == "*O":
             value = self.origin
-        self.check_move("LOC", parts, address, value)
+        self.check_move(parts, address, value)
         self.moved = None if value is None or self.origin is None else self.origin - value
         return address if value is None else value
 
-    def check_move(self, name: str, parts: Parts, address: Optional[int], value: Optional[int]) -> None:
+    def check_move(self, parts: Parts, address: Optional[int], value: Optional[int]) -> None:
         if address is not None and value is not None and address not in (value, self.origin):
-            self.doubt(parts.address, f"{name} to {value:04o}, and the line has {address:04o}")
+            self.doubt(parts.address, f"{parts.operation} to {value:04o}, and the line has {address:04o}")
 
-    def use(self, source: PrintedSource, address: Optional[int]) -> None:
+    def use(self, parts: Parts, address: Optional[int]) -> None:
         """Performs USE: each block goes on where it was."""
         self.blocks[self.used[-1]] = self.origin
-        block = source.operand.split()[:1] or [""]
-        if block == ["*"]:
+        if parts.expression == "*":
             self.used = self.used[:-1] or [NOMINAL]
         else:
-            self.used.append(block[0].strip("0") if block[0] == "0" else block[0])
+            self.used.append(NOMINAL if parts.expression == "0" else parts.expression)
         self.origin, self.moved = self.blocks.get(self.used[-1], address), 0
 
-    def put_zeros(self, count: int) -> None:
-        """Fills the cells of a BSSZ without words."""
-        load, count = self.origin or 0, max(0, min(count, CELLS))
-        if count:
-            self.entries.append(Printed(self.number, "", self.location or 0, load, ("0000",) * count))
-        self.origin = load + count
-
-    def with_label(self, entry: Printed, parts: Parts, source: PrintedSource, line: str) -> Printed:
+    def with_label(self, entry: Printed, parts: Parts) -> Printed:
         """Returns what a line says that has no words and no operation that is known: a macro, or a label alone."""
         is_line = parts.address is not None and parts.address.address is not None and not parts.words
         labels: Pairs = ()
-        if is_line and (source.label or parts.is_aligned and source.operation):
+        if is_line and (parts.label or parts.is_aligned and parts.operation):
             address, _ = self.places(parts, None)
-            labels = self.labels_at(source, address) if address is not None and address < CELLS else ()
-        return self.named(entry, labels) if labels else self.passed(entry, line)
+            labels = self.labels_at(parts, address) if address is not None and address < CELLS else ()
+        return self.named(entry, labels) if labels else self.passed(entry, parts)
 
-    def passed(self, entry: Printed, line: str) -> Printed:
+    def passed(self, entry: Printed, parts: Parts) -> Printed:
         """Returns an entry of a line that says nothing."""
         columns = self.printout.columns
-        return entry._replace(is_passed=re.search("[0-9]", line[columns.address:columns.text] if columns else line) is not None)
+        numbers = parts.line[columns.address:columns.text] if columns else parts.line
+        return entry._replace(is_passed=re.search("[0-9]", numbers) is not None)
 
     # -- names and operands
 
     @staticmethod
-    def labels_at(source: PrintedSource, address: int) -> Pairs:
+    def labels_at(parts: Parts, address: int) -> Pairs:
         """Returns the names that a label gives to addresses."""
-        name = source.label
-        if name and source.operation == SUBR:
+        name = parts.label
+        if name and parts.operation == SUBR:
             return (name, (address + 1) % CELLS), (f"{name}X", address)
         return ((name, address),) if name else ()
 
@@ -375,9 +360,9 @@ class PrintedReading:
             self.names[name.upper()] = None if is_other else number
         return entry._replace(labels=labels, equates=equates)
 
-    def value(self, source: PrintedSource) -> Optional[int]:
+    def value(self, parts: Parts) -> Optional[int]:
         """Returns the number of an operand; None if it has names that are not known."""
-        return Told(self.known, self.base, self.origin, self.origin and self.location).number(source.statement)
+        return Told(self.known, self.base, self.origin, self.origin and self.location).number(parts.statement)
 
     def check_statement(self) -> None:
         """Compares the words of a statement with what the assembler makes of it."""
@@ -385,10 +370,10 @@ class PrintedReading:
         words = [int(word, 8) for entry in statement for word in entry.words if word]
         if not statement or not self.known or any(None in entry.words for entry in statement):
             return
-        first, parts, source = statement[0], *self.printout.fields[statement[0].number - 1]
-        wanted = told_by(Told(self.known, self.base, first.load, first.address), source.operation, source.statement, words)
+        first, parts = statement[0], self.printout.parts[statement[0].number - 1]
+        wanted = told_by(Told(self.known, self.base, first.load, first.address), parts.operation, parts.statement, words)
         if wanted is not None and wanted != words:
             shown = [" ".join(f"{word:04o}" for word in some) for some in (words, wanted)]
-            said = " ".join([source.operation, *source.operand.split()[:1]])
+            said = f"{parts.operation} {parts.expression}".rstrip()
             column = parts.words[0].start + 1 if parts.words else parts.column + 1
             self.doubts.append(Message(first.number, column, f"the line has {shown[0]}, and {said} makes {shown[1]}"))

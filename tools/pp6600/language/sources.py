@@ -12,14 +12,13 @@ from ..run.forms import Place
 from ..run.tape import SourceLine
 from ..run.turn import TWO_WORDS, places_of_setting
 from ..shell.text_files import named, read_lines
-from .listed_words import statement_in
 from .listing import Listing, is_printed, shown_messages, without_mark
 from .names import FARTHEST, AddressNames, Names
 from .source.forms import set_lines
 from .source.machine import CELLS, CODES
 from .source.passes import Program, Texts, assembled
-from .source.state import Cell, Row
-from .source.statements import TAB, Line
+from .source.scope import FilledCell, ListingRow
+from .source.statements import TAB, Line, statement_or_none
 from .source.symbols import Symbol, Symbols
 
 
@@ -60,17 +59,11 @@ def unit_of(program: Program, name: str) -> Program:
     return program._replace(cells=unit.cells, start=unit.start, literals=unit.literals)
 
 
-def path_and_unit(path: str) -> Tuple[str, str]:
-    """Returns a file and the name of the unit that is after a # in a word FILE#NAME."""
-    file, _, unit = path.rpartition("#")
-    return (file, unit) if file and not os.path.exists(path) else (path, "")
-
-
 class Word(NamedTuple):
     """A word that a source makes: its row of the listing, its number there, from 0, and its number among the words that the line of
     the file makes in a row, from 1."""
 
-    row: Row
+    row: ListingRow
     at: int
     number: int
 
@@ -94,7 +87,7 @@ class CellLine(NamedTuple):
     at: int  # which of the words of its row it is, from 0
     is_there: bool
     second: Optional[str]
-    row: Row
+    row: ListingRow
 
     @property
     def note(self) -> str:
@@ -128,7 +121,8 @@ class Source(AddressNames):
     @classmethod
     def of_file(cls, path: str, texts: Optional[Texts] = None) -> "Source":
         """Returns the source in a file, or the one that a printed listing has; of FILE#NAME the unit with this name is loaded."""
-        path, unit = path_and_unit(path)
+        file, _, unit = path.rpartition("#")
+        path, unit = (file, unit) if file and not os.path.exists(path) else (path, "")
         lines = source_lines(path)
         program = program_of(Listing.of_file(path)) if is_printed(lines) else assembled(lines, texts)
         if program.messages:
@@ -149,7 +143,7 @@ class Source(AddressNames):
         """Returns the place in the source from which the number at a place of the machine comes."""
         if place.kind == "P":
             end = next(row for row in reversed(self.program.rows)
-                       if (statement := statement_in(row.line.text)) and statement.operation.text == "END")
+                       if (statement := statement_or_none(row.line)) and statement.operation.text == "END")
             return f"{self.path}:{end.line.number}"
         word = self.at_origin[place.numbers[1]]
         return f"{self.path}:{word.row.line.number} WORD {word.number}"
@@ -208,22 +202,22 @@ def program_of(listing: Listing) -> Program:
     for entry in listing.entries:
         load, address = (entry.load, entry.address) if entry.words else (origin, origin)
         words = tuple(int(word, 8) for word in entry.words if word is not None)
-        rows.append(Row(Line(entry.number, entry.source), load, address, words, bool(words)))
+        rows.append(ListingRow(Line(entry.number, entry.source), load, address, words, bool(words)))
         origin = load + len(words)
         symbols.seen.update({name: Symbol(number, entry.number, True) for name, number in entry.labels})
         symbols.seen.update({name: Symbol(number, entry.number, False) for name, number in entry.equates})
-    cells = {address: Cell(int(word, 8), line.number) for address, (word, line) in listing.cells.items()}
+    cells = {address: FilledCell(int(word, 8), line.number) for address, (word, line) in listing.cells.items()}
     return Program(cells, listing.start, symbols, rows, [])
 
 
-def jumps_back(rows: Sequence[Row]) -> Dict[int, int]:
+def jumps_back(rows: Sequence[ListingRow]) -> Dict[int, int]:
     """Returns the second words of LJM that an RJM names, by the addresses of the LJM."""
     pairs = [(row.location, *row.words) for row in rows if len(row.words) == 2]
     named_by_rjm = {m for _, word, m in pairs if word == CODES["RJM"] << 6}
     return {jump: jump + 1 for jump, word, _ in pairs if word == CODES["LJM"] << 6 and jump + 1 in named_by_rjm}
 
 
-def words_of(rows: Sequence[Row]) -> Iterator[Word]:
+def words_of(rows: Sequence[ListingRow]) -> Iterator[Word]:
     for _, rows_of_line in groupby(rows, key=lambda row: row.line.number):
         places = ((row, at) for row in rows_of_line for at in range(len(row.words)))
         yield from (Word(row, at, number) for number, (row, at) in enumerate(places, 1))
@@ -239,7 +233,7 @@ def names_of(program: Program) -> Names:
     return names
 
 
-def text_of(row: Row) -> str:
+def text_of(row: ListingRow) -> str:
     return row.line.text.expandtabs(TAB).strip()
 
 

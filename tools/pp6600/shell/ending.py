@@ -1,6 +1,7 @@
 """How a tool ends: whatever goes wrong is one line on standard error and status 2, never a traceback."""
 
 import codecs
+import contextlib
 import os
 import signal
 import sys
@@ -76,9 +77,9 @@ def write_bytes(data: bytes) -> None:
     """Writes bytes to standard output."""
     try:
         sys.stdout.buffer.write(data)
-        sys.stdout.buffer.flush()
     except OSError as error:
         raise unwritten(error) from None
+    flush()
 
 
 def write_lines(lines: Iterable[str], otherwise: Optional[str] = None, at_once: bool = False) -> None:
@@ -92,9 +93,8 @@ def write_lines(lines: Iterable[str], otherwise: Optional[str] = None, at_once: 
 
 def open_streams() -> None:
     """Opens each closed standard stream to nowhere, so that no other file takes its number; and lets any text be written."""
-    closed = [stream is None for stream in (sys.stdin, sys.stdout, sys.stderr)]
-    for is_closed in closed:
-        if is_closed:
+    for stream in (sys.stdin, sys.stdout, sys.stderr):
+        if stream is None:
             os.open(os.devnull, os.O_RDWR)
     if sys.stderr is None:
         sys.stderr = open(os.devnull, "w", encoding="utf-8")
@@ -129,15 +129,8 @@ def run(main: Callable[[], Any]) -> NoReturn:
         message = "out of memory"
     except Exception as error:  # a fault that is the tool's own
         message = f"this is a fault of the tool; please report it: {type(error).__name__}: {error}"
-    end_with(message)
-
-
-def end_with(message: object) -> NoReturn:
-    """Writes what can still be written, then the message, and ends with status 2."""
-    try:
+    with contextlib.suppress(BrokenPipeError, Failure):
         if sys.stdout is not None:
             flush()
-    except (BrokenPipeError, Failure):
-        pass
     complain(message)
     sys.exit(FAILED)

@@ -12,8 +12,7 @@ from ..failure import Failure
 from ..run.device import DeviceFailure
 from ..run.session import Session
 from .ending import complain, flush, write
-from .script import Refusals
-from .shown import answer, show_answer
+from .script import Refusals, answer, show_answer
 from .text_files import input_lines, shown
 
 PROMPT = "> "  # after the number of turns

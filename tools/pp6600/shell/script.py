@@ -1,13 +1,16 @@
-"""A script that is performed: the tape of what is in effect at its end, and the lines that were refused."""
+"""A script that is performed: its lines with their answers, those that were refused, and the tape of what is in effect at its end."""
 
+import sys
 from argparse import Namespace
 from typing import Any, Callable, Iterable, List, Optional, Sequence, Tuple
 
+from ..failure import naming_line
 from ..run.console import Console
 from ..run.forms import is_refusal
+from ..run.reasons import reason
 from ..run.session import Session
 from ..run.tape import History, Position, Tape, counted, room_of
-from .ending import complain, flush
+from .ending import complain, flush, shown_text, write
 from .options import simulator
 from .text_files import script_lines, shown
 
@@ -36,6 +39,37 @@ class Refusals:
             complain(f"{self.count} lines (decimal) were refused, the first is {self.first}" if self.count > 1
                      else f"one line was refused: {self.first}")
         return 1 if self.count else 0
+
+
+def answer(run: Session, line: str, number: int = 0, refusals: Optional[Refusals] = None) -> bool:
+    """Performs a line, and shows its answer. Returns whether the line was refused."""
+    lines = run.act(line)
+    show_answer(run, line, lines)
+    return (refusals or Refusals()).note(number, line, lines)
+
+
+def show_answer(run: Session, line: str, lines: List[str]) -> None:
+    """Shows the lines of an answer, at a terminal also why the line was refused."""
+    for text in lines:
+        write(text)
+    if lines and lines[0].startswith("ERR ") and sys.stdout is not None and sys.stdout.isatty():
+        why = reason(line, lines[0], run.central_size)
+        if why:
+            write(f"  {shown_text(why)}")
+
+
+def show_lines(run: Session, lines: Iterable[str], stop: bool = False) -> int:
+    """Shows lines with their answers, to the first one that is refused if it is to stop there. Returns the exit status."""
+    refusals = Refusals()
+    for number, line in counted(lines):
+        write(f"> {shown(line)}".rstrip(), at_once=True)
+        with naming_line(number):
+            refused = answer(run, line, number, refusals)
+        if stop and refused:
+            flush()
+            complain(f"stopped at line {number} (decimal), which was refused")
+            return 1
+    return refusals.status()
 
 
 class Script:

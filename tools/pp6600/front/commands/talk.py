@@ -4,7 +4,7 @@ from ...language.symbol_options import add_sources, symbols_of
 from ...shell.command_line import Failure, arguments, script_lines, simulator, words_after
 from ...shell.device_options import add_devices, devices_of, timeline
 from ...shell.keyboard import converse, edit_lines
-from ...shell.shown import show_lines
+from ...shell.script import show_lines
 
 DESCRIPTION = """Shows a script with its answers, then goes on with the lines that are typed. At a terminal it has a
 prompt, with the number of turns that are in effect, octal, and a history of lines, through rlwrap if it is there; Ctrl-D ends

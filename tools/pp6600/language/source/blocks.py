@@ -7,7 +7,7 @@ from typing import TYPE_CHECKING, Any, Callable, Dict, List, NamedTuple, Optiona
 
 from .macros import arguments_of, define, replaced, short_enough
 from .messages import Fault
-from .statements import Field, Line, Statement, parts_of
+from .statements import Field, Line, Statement, parts_of, statement_or_none
 from .texts import CODE_OF
 
 if TYPE_CHECKING:
@@ -27,12 +27,12 @@ STRINGS = re.compile(r"(-?)([A-Z]{2}),(.)(.*?)\3(.*?)\3(?:,\s*(\S+))?")  # of IF
 
 
 class Body(NamedTuple):
-    """The lines of a statement: those up to ELSE, those after it, and how many there are with the last one."""
+    """The lines of a statement: those up to ELSE, those after it, and the one that ends them; and how many these are."""
 
     first: Sequence[Line]
     second: Sequence[Line]
+    end: Sequence[Line]  # none if the lines are counted
     size: int
-    has_end: bool = True  # a line that ends them
     is_closed: bool = True
 
 
@@ -68,10 +68,10 @@ def body_of(state: "Pass", statement: Statement, lines: Sequence[Line]) -> Body:
     return found or unclosed(state, statement, lines, f"no {ENDS[statement.operation.text]}")
 
 
-def unclosed(state: "Pass", statement: Statement, lines: Sequence[Line], lack: str, has_end: bool = True) -> Body:
+def unclosed(state: "Pass", statement: Statement, lines: Sequence[Line], lack: str) -> Body:
     """Returns all lines, for a statement whose lines do not end, which is reported."""
     state.report(Fault(statement.operation.column, f"{statement.operation.text} has {lack}"))
-    return Body(lines, [], len(lines), has_end, False)
+    return Body(lines, [], [], len(lines), False)
 
 
 def counted(state: "Pass", statement: Statement, lines: Sequence[Line], count: int) -> Body:
@@ -83,21 +83,20 @@ def counted(state: "Pass", statement: Statement, lines: Sequence[Line], count: i
         if is_note:
             state.warn("notes", statement.operation.column, "the notes among counted lines are not counted")
         if left == count:
-            return Body(lines[:at], [], at, False)
-    return unclosed(state, statement, lines, f"fewer than {count} (decimal) lines", False)
+            return Body(lines[:at], [], [], at)
+    return unclosed(state, statement, lines, f"fewer than {count} (decimal) lines")
 
 
 def up_to(state: "Pass", statement: Statement, lines: Sequence[Line]) -> Optional[Body]:
     """Returns the lines up to the first ENDM or RMT; None if there is none."""
     end = ENDS[statement.operation.text]
-    at = next((at for at, line in enumerate(lines) if word_of(state, line)[0] == end), None)
-    return None if at is None else Body(lines[:at], [], at + 1)
+    ends = (at for at, line in enumerate(lines) if statement_in(state, line).operation.text == end)
+    return next((Body(lines[:at], [], lines[at:at + 1], at + 1) for at in ends), None)
 
 
-def word_of(state: "Pass", line: Line) -> Tuple[str, str, Optional[Statement]]:
-    """Returns the operation of a line and its label, and the statement."""
-    statement = state.read(line)
-    return (statement.operation.text, statement.location.text, statement) if statement else ("", "", None)
+def statement_in(state: "Pass", line: Line) -> Statement:
+    """Returns the statement of a line; one without fields of a line that has none, or a wrong one."""
+    return statement_or_none(line, state.macros) or Statement(*[Field("", 0)] * len(Statement._fields))
 
 
 def nested(state: "Pass", statement: Statement, lines: Sequence[Line]) -> Optional[Body]:
@@ -105,21 +104,18 @@ def nested(state: "Pass", statement: Statement, lines: Sequence[Line]) -> Option
     name, one without that of the last one that is open."""
     end, middle, open_names = ENDS[statement.operation.text], None, [statement.location.text]
     for at, line in enumerate(lines):
-        word, name, inner = word_of(state, line)
-        if ENDS.get(word) == end and inner and not has_count(inner):
+        inner = statement_in(state, line)
+        word, name = inner.operation.text, inner.location.text
+        if ENDS.get(word) == end and not has_count(inner):
             open_names.append(name)
-        elif word == "ELSE" and end == "ENDIF" and middle is None and is_own(open_names, name):
+        elif word == "ELSE" and end == "ENDIF" and middle is None and (name == open_names[0] if name else len(open_names) == 1):
             middle = at
         elif word == end:
             del open_names[(open_names.index(name) if name in open_names and name else len(open_names) - 1):]
         if not open_names:
-            return Body(lines[:at], [], at + 1) if middle is None else Body(lines[:middle], lines[middle + 1:at], at + 1)
+            first, second = (lines[:at], []) if middle is None else (lines[:middle], lines[middle + 1:at])
+            return Body(first, second, lines[at:at + 1], at + 1)
     return None
-
-
-def is_own(open_names: Sequence[str], name: str) -> bool:
-    """Returns whether an ELSE is that of the outermost statement."""
-    return name == open_names[0] if name else len(open_names) == 1
 
 
 def has_count(statement: Statement) -> bool:
@@ -133,11 +129,12 @@ def has_count(statement: Statement) -> bool:
 
 def goes_on(state: "Pass", statement: Statement, body: Body) -> bool:
     """Returns whether the next line is the first one that a condition counts. These may end with a SKIP of others."""
-    return body.is_closed and not body.has_end and statement.operation.text in CONDITIONS and holds(state, statement)
+    return body.is_closed and not body.end and statement.operation.text in CONDITIONS and holds(state, statement)
 
 
 def perform_body(state: "Pass", statement: Statement, body: Body) -> None:
-    """Performs a statement with its lines. Of an IF or DUP without end the lines are performed once."""
+    """Performs a statement with its lines; the listing has those that it leaves out too. Of an IF or DUP without end the lines are
+    performed once."""
     name = statement.operation.text
     if name == "RMT":
         state.remote.setdefault(statement.location.text, []).extend(body.first)
@@ -155,13 +152,9 @@ def perform_body(state: "Pass", statement: Statement, body: Body) -> None:
     elif name == "ECHO":
         echo(state, statement, body.first)
     else:
-        choose(state, body, holds(state, statement))
-
-
-def choose(state: "Pass", body: Body, is_first: bool) -> None:
-    """Performs the lines before ELSE or those after it; the listing has the others too."""
-    for lines, perform in ((body.first, is_first), (body.second, not is_first)):
-        (state.run if perform else state.show)(lines)
+        is_first = holds(state, statement)
+        for lines, is_performed in ((body.first, is_first), (body.second, not is_first)):
+            (state.run if is_performed else state.show)(lines)
 
 
 def echo(state: "Pass", statement: Statement, lines: Sequence[Line]) -> None:

@@ -5,7 +5,7 @@ from typing import Callable, Dict, List, Optional, Tuple
 
 from .machine import CELLS, LAST
 from .messages import Fault, Follows
-from .state import NOMINAL, WORD_BITS, Scope
+from .scope import NOMINAL, WORD_BITS, Scope
 from .statements import Field, Statement, parts_of
 from .symbols import SYMBOL
 from .texts import codes_of, words_of

@@ -5,7 +5,7 @@ from typing import List
 
 from .machine import CELLS, CODES, LAST, MNEMONICS, NEAR, Form, form_of, size_of
 from .messages import Fault, octal
-from .state import Scope
+from .scope import Scope
 from .statements import Field, Statement, parts_of
 
 OPPOSITE = {"ZJN": "NJN", "NJN": "ZJN", "PJN": "MJN", "MJN": "PJN"}

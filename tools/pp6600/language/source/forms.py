@@ -5,7 +5,7 @@ from typing import Callable, Dict, Iterator, List, Mapping, Sequence, Tuple
 from ...failure import Failure
 from .machine import CELLS, COLUMNS_OF_CARD, ROW
 from .passes import Program
-from .state import Row, Words
+from .scope import ListingRow, Words
 from .statements import TAB
 
 PANEL = range(0o1, 0o15)  # the cells of PP 00 that a dead start fills from the panel
@@ -60,13 +60,12 @@ def listing(program: Program) -> Iterator[str]:
     """Yields the lines of the listing: the address, the words and the source line. If code is assembled for another place, its
     address there comes first, and then > with that to which it is loaded."""
     for row in program.rows:
-        text = row.line.text.expandtabs(TAB)
-        yield f"{address_of(row)} {shown(row.words[:WORDS_OF_LINE], value_of(row))}{text}".rstrip()
+        yield f"{address_of(row)} {value_of(row) or shown(row.words):{WIDTH_OF_WORDS}}{row.line.text.expandtabs(TAB)}".rstrip()
         for at in range(WORDS_OF_LINE, len(row.words), WORDS_OF_LINE):
-            yield f"{address_of(row, at)} {shown(row.words[at:at + WORDS_OF_LINE])}".rstrip()
+            yield f"{address_of(row, at)} {shown(row.words[at:])}".rstrip()
 
 
-def address_of(row: Row, at: int = 0) -> str:
+def address_of(row: ListingRow, at: int = 0) -> str:
     """Returns the columns of the address of a word, or of the number that a line names."""
     named = row.value if row.value is not None and 0 <= row.value < CELLS and not row.is_set else None
     number = row.location + at if row.has_address else named
@@ -74,14 +73,14 @@ def address_of(row: Row, at: int = 0) -> str:
     return f"{'' if number is None else digits(number):4} {load:5}"
 
 
-def value_of(row: Row) -> str:
+def value_of(row: ListingRow) -> str:
     """Returns a number that a line names and that is no address."""
     return "" if row.value is None or address_of(row).strip() else f"{'-' if row.value < 0 else ''}{abs(row.value):o}"
 
 
-def shown(words: Words, value: str = "") -> str:
-    """Returns the columns of words, or of a number that a line names."""
-    return f"{value or ' '.join(map(digits, words)):{WIDTH_OF_WORDS}}"
+def shown(words: Words) -> str:
+    """Returns as many of the first words as a line has."""
+    return " ".join(map(digits, words[:WORDS_OF_LINE]))
 
 
 FORMS: Dict[str, Callable[[Program], Iterator[str]]] = {"words": words, "listing": listing, "panel": panel, "deck": deck}

@@ -10,8 +10,8 @@ from .encoding import instruction
 from .machine import CODES
 from .macros import SUBR, Macro, call
 from .messages import REFUSED, Fault, Follows, Message, TooMuch, nearest
-from .state import Cell, Row, Scope, Unit
-from .statements import Call, Field, Line, Statement, joined, statement_of
+from .scope import FilledCell, ListingRow, Scope, Unit
+from .statements import Call, Field, Line, Statement, joined, statement_of, statement_or_none
 from .symbols import Symbols
 
 MOST_STATEMENTS = 100000
@@ -26,10 +26,10 @@ class Program(NamedTuple):
     """What a source makes: the cells of its first unit by their addresses, where a processor begins, its names, its listing, what is
     wrong, what is to be known, and all its units."""
 
-    cells: Dict[int, Cell]
+    cells: Dict[int, FilledCell]
     start: Optional[int]
     symbols: Symbols
-    rows: List[Row]
+    rows: List[ListingRow]
     messages: List[Message]
     warnings: Sequence[Message] = ()
     units: Sequence[Unit] = ()
@@ -65,16 +65,9 @@ class Pass(Scope):
     def pass_over(self, lines: Sequence[Line]) -> None:
         """Keeps the names of lines that a fault leaves out, so that these are not said to be missing too."""
         for line in lines:
-            statement = self.read(line)
+            statement = statement_or_none(line, self.macros)
             if statement:
                 self.symbols.passed_over |= {statement.location.text, f"{statement.location.text}X"}
-
-    def read(self, line: Line) -> Optional[Statement]:
-        """Returns the statement of a line; None also if it is wrong."""
-        try:
-            return statement_of(line, self.macros)
-        except Fault:
-            return None
 
     def show(self, lines: Sequence[Line]) -> None:
         """Puts lines that make nothing into the listing."""
@@ -100,7 +93,7 @@ class Pass(Scope):
         if self.performed > MOST_STATEMENTS:
             raise TooMuch(f"more than {MOST_STATEMENTS} (decimal) statements")
         if self.texts and self.line.capitals.startswith(TO_READ):
-            self.read_deck(self.line.capitals.split()[1:2], 0)
+            self.read_deck(" ".join(self.line.capitals.split()[1:2]), 0)
             return 0
         statement = self.statement()
         if not statement:
@@ -147,8 +140,7 @@ class Pass(Scope):
             self.pass_over([*body.first, *body.second])
             if isinstance(fault, Fault):
                 self.report(fault)
-        if body.is_closed and body.has_end:
-            self.show(lines[body.size - 1:body.size])
+        self.show(body.end)
         return body.size
 
     def one(self, statement: Statement) -> None:
@@ -187,10 +179,10 @@ class Pass(Scope):
         return f"{name} is no instruction, directive or macro{nearest(name, [*known, *self.macros, *ENDS])}"
 
     # -- lines from elsewhere
-    def read_deck(self, names: Sequence[str], column: int) -> None:
+    def read_deck(self, name: str, column: int) -> None:
         """Performs the lines of a common deck."""
         self.row()
-        name, line = names[0] if names else "", self.line
+        line = self.line
         if not self.texts:
             raise Fault(column, f"{name or 'XTEXT'} is a common deck: name the folder that has it by --text DIR")
         text = self.texts(name)
@@ -227,10 +219,6 @@ WITH_WORDS: Dict[str, Callable[[Scope, Statement], List[int]]] = {
     **dict.fromkeys(LONG_FORMS, lambda state, statement: instruction(state, long_form(state, statement))), **MAKERS}
 
 
-def xtext(state: Pass, statement: Statement) -> None:
-    state.read_deck([statement.operand.text or statement.location.text], statement.operand.column)
-
-
 def here(state: Pass, statement: Statement) -> None:
     """HERE performs the lines of RMT without a name, or with the name that it has."""
     state.row()
@@ -263,7 +251,8 @@ def end(state: Pass, statement: Statement) -> None:
 
 
 OF_LINES: Dict[str, Callable[[Pass, Statement], None]] = {
-    "XTEXT": xtext, "HERE": here, "OPSYN": opsyn, "PURGMAC": purge, "END": end}
+    "XTEXT": lambda state, statement: state.read_deck(statement.operand.text or statement.location.text, statement.operand.column),
+    "HERE": here, "OPSYN": opsyn, "PURGMAC": purge, "END": end}
 
 
 def assembled(text: Sequence[str], texts: Optional[Texts] = None) -> Program:

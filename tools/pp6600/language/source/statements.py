@@ -63,13 +63,23 @@ def statement_of(line: Line, macros: Container[str] = ()) -> Optional[Statement]
         return None
     if text[0] == ",":
         raise Fault(0, "a line that begins with a , continues a statement, and there is none before it")
-    location = location_of(text)
+    column = 1 if text[0] == " " and not is_blank(text, 1) else 0  # in which the label begins
+    label = WORD.match(text, column)
+    location = Field(label[0] if label else "", column)
     end = location.column + len(location.text)
     found = WORD.search(text, end)
     if not found:
         return Statement(location, Field("", end), Field("", end))
     operation = Field(found[0], found.start())
     return Statement(location, operation, operand_of(line, operation, macros))
+
+
+def statement_or_none(line: Line, macros: Container[str] = ()) -> Optional[Statement]:
+    """Returns the statement of a line; None also if it is wrong."""
+    try:
+        return statement_of(line, macros)
+    except Fault:
+        return None
 
 
 def joined(lines: Iterable[Line]) -> List[Line]:
@@ -92,13 +102,6 @@ def without_sequence(line: Line, is_text: bool) -> str:
         return text
     goes_on = text[LAST_COLUMN - 1] != " " and text[LAST_COLUMN] != " "
     return text if goes_on and not is_text else text[:LAST_COLUMN]
-
-
-def location_of(text: str) -> Field:
-    """Returns the label, which begins in the first or the second column."""
-    column = 1 if text[0] == " " and not is_blank(text, 1) else 0
-    label = WORD.match(text, column)
-    return Field(label[0] if label else "", column)
 
 
 def operand_of(line: Line, operation: Field, macros: Container[str]) -> Field:

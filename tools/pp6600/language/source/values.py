@@ -8,7 +8,7 @@ from .symbols import SYMBOL
 from .texts import codes_of, number_of, text_at
 
 if TYPE_CHECKING:
-    from .state import Scope
+    from .scope import Scope
 
 NUMBER = re.compile("([0-9]+)([BDO]?)(?:S([0-9]{1,2}))?(?![A-Z0-9.$])")  # with S and a number of bits to which it is shifted
 QUALIFIED = re.compile(f"/[^/\\s,]*/(?:{SYMBOL.pattern})", re.A)
@@ -19,7 +19,7 @@ NOT_TAKEN = {'"': "; no MICRO above has this name",
              "=": "; a = begins an operand that is alone; a symbol of another program is not taken: use EQU"}
 
 
-class Value(NamedTuple):
+class ExpressionValue(NamedTuple):
     """A number, and how many addresses more are added than subtracted: 1 in an address."""
 
     number: int
@@ -41,16 +41,16 @@ class Expression:
     def symbol(self) -> str:
         return self.text[self.at:self.at + 1]
 
-    def value(self) -> Value:
+    def value(self) -> ExpressionValue:
         """Returns the value of the whole text."""
         if not self.text:
             raise self.fault("an operand is missing")
-        total = Value(0)
+        total = ExpressionValue(0)
         while self.symbol or not self.at:
             operator = self.operator()
             term, sign = self.term(), -1 if operator == "-" else 1
-            total = Value(total.number ^ term.number) if operator == "^" else \
-                Value(total.number + sign * term.number, total.addresses + sign * term.addresses)
+            total = ExpressionValue(total.number ^ term.number) if operator == "^" else \
+                ExpressionValue(total.number + sign * term.number, total.addresses + sign * term.addresses)
         if abs(total.number) >> MOST_BITS:
             raise Fault(self.column, f"this has more than {MOST_BITS} (decimal) bits")
         return total
@@ -72,14 +72,14 @@ class Expression:
             raise self.fault(f"nothing follows the {operator}", back=1)
         return operator
 
-    def term(self) -> Value:
+    def term(self) -> ExpressionValue:
         value = self.element()
         while operator := self.one_of("*/"):
             other = self.element().number
-            value = Value(value.number * other if operator == "*" else quotient(value.number, other))
+            value = ExpressionValue(value.number * other if operator == "*" else quotient(value.number, other))
         return value
 
-    def element(self) -> Value:
+    def element(self) -> ExpressionValue:
         """Returns the value of a name, a number, a counter or a text."""
         name = SYMBOL.match(self.text, self.at) or QUALIFIED.match(self.text, self.at)
         digits = NUMBER.match(self.text, self.at)
@@ -88,11 +88,12 @@ class Expression:
             return self.text_element()
         if name:
             symbol = self.scope.look_up(name[0], self.column + self.at, self.from_above)
-            value = Value(symbol.value or 0, int(symbol.is_address))
+            value = ExpressionValue(symbol.value or 0, int(symbol.is_address))
         elif digits:
-            value = Value(self.number(digits[1], digits[2]) << int(digits[3] or "0"))
+            value = ExpressionValue(self.number(digits[1], digits[2]) << int(digits[3] or "0"))
         else:
-            value = Value(0) if found[0] == "**" else Value(self.scope.origin if found[1] == "O" else self.scope.location, 1)
+            counter = self.scope.origin if found[1] == "O" else self.scope.location
+            value = ExpressionValue(0) if found[0] == "**" else ExpressionValue(counter, 1)
         self.at = found.end()
         return value
 
@@ -109,7 +110,7 @@ class Expression:
             raise self.fault(f"{digits} is no octal number; {digits}D is decimal")
         return int(digits, base or 8)
 
-    def text_element(self) -> Value:
+    def text_element(self) -> ExpressionValue:
         start = self.at
         found = text_at(self.text, start, False)
         if not found:
@@ -117,7 +118,7 @@ class Expression:
         if found.kind != "R":
             raise self.fault(f"in a sum a text is 1R or 2R, not {found.kind}")
         self.at = found.end
-        return Value(number_of("R", codes_of(found.symbols, self.column + start), len(found.symbols)))
+        return ExpressionValue(number_of("R", codes_of(found.symbols, self.column + start), len(found.symbols)))
 
 
 def quotient(number: int, other: int) -> int:

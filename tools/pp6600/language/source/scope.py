@@ -9,7 +9,7 @@ from .messages import Fault, Follows, Message, TooMuch, octal
 from .statements import FORCED, Field, Line
 from .symbols import Symbol, Symbols
 from .texts import codes_of, number_of, text_at, words_of
-from .values import Expression, Value
+from .values import Expression, ExpressionValue
 
 WORD_BITS, SYMBOL_BITS = 12, 6
 MOST_WORDS = 100000  # that a source makes, though only as many as a memory has can be right
@@ -21,14 +21,14 @@ NOMINAL, LITERALS = "", "LITERALS*"  # the blocks that USE does not name
 Words = Tuple[int, ...]
 
 
-class Cell(NamedTuple):
+class FilledCell(NamedTuple):
     """A word that the source puts into a cell, and the number of its line."""
 
     word: int
     line: int
 
 
-class Row(NamedTuple):
+class ListingRow(NamedTuple):
     """What the listing shows of a line: its words, and the counters before it if it has an address; or the number that it names."""
 
     line: Line
@@ -45,7 +45,7 @@ class Unit(NamedTuple):
     literals are called."""
 
     name: str
-    cells: Dict[int, Cell]
+    cells: Dict[int, FilledCell]
     start: Optional[int]
     literals: Dict[int, str]
 
@@ -88,7 +88,7 @@ class Scope:
         self.bases: List[Optional[int]] = []  # that BASE * goes back to
         self.qualifier, self.qualifiers = "", [""]
         self.micros: Dict[str, str] = {}
-        self.rows: List[Row] = []
+        self.rows: List[ListingRow] = []
         self.messages: Set[Message] = set()
         self.warnings: Dict[str, Message] = {}  # by what they are about, each once
         self.made = 0  # words
@@ -105,7 +105,7 @@ class Scope:
         """Begins a program, whose blocks are where the pass before has found room for them."""
         number = len(self.units)
         self.placed: Dict[str, int] = self.before[number] if number < len(self.before) else {}
-        self.unit_name, self.start, self.cells = name, None, {}  # type: str, Optional[int], Dict[int, Cell]
+        self.unit_name, self.start, self.cells = name, None, {}  # type: str, Optional[int], Dict[int, FilledCell]
         self.blocks: Dict[str, Block] = {NOMINAL: Block(0)}
         self.used = [NOMINAL]
         self.origin = self.location = 0
@@ -199,7 +199,7 @@ class Scope:
         if location.text and location.text not in FORCED:
             self.define(location, self.location)
 
-    def value(self, operand: Field, from_above: bool = False) -> Value:
+    def value(self, operand: Field, from_above: bool = False) -> ExpressionValue:
         return Expression(operand.text, operand.column, self, from_above).value()
 
     def count(self, operand: Field, least: int = 0) -> int:
@@ -260,7 +260,7 @@ class Scope:
     # -- words
     def row(self, words: Words = (), has_address: bool = False, value: Optional[int] = None, is_set: bool = False) -> None:
         """Adds the present line to the listing."""
-        self.rows.append(Row(self.line, self.origin, self.location, words, has_address, value, is_set))
+        self.rows.append(ListingRow(self.line, self.origin, self.location, words, has_address, value, is_set))
 
     def put(self, words: Sequence[int]) -> None:
         """Puts words into the cells from here on. Of lines that follow one another only the first is reported if they can't be."""
@@ -271,7 +271,7 @@ class Scope:
         for cell, word in enumerate(words, self.origin):
             wrong = self.why_not_into(cell)
             if not wrong:
-                self.cells[cell] = Cell(word, self.line.number)
+                self.cells[cell] = FilledCell(word, self.line.number)
                 continue
             if self.wrong_from != cell:
                 self.report(Fault(0, wrong))
