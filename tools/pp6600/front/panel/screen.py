@@ -4,7 +4,7 @@ import textwrap
 from typing import NamedTuple, Optional, Sequence
 
 from ...language.names import AllSymbols
-from ...run.forms import CELLS, ROW, Place
+from ...run.forms import CELLS, PROCESSORS, ROW, Place
 from ...run.state import State
 from .rows_pane import WIDTH, rows_pane, sentence_line
 from .text import CHANGED, CHOSEN, CURSOR, HEAD, HERE, REFUSED, SLOT, TITLE, WATCHED, MarkedLine, beside, in_height
@@ -100,11 +100,6 @@ def processor_line(shown, number):
     return line.add(f"  {now.waits_for(state.states())}")
 
 
-def processor_lines(shown):
-    head = MarkedLine(" PP P    AT P          A      Q    PHASE  WAITS FOR", HEAD)
-    return [head] + [processor_line(shown, number) for number in range(len(shown.state.processors))]
-
-
 def channel_part(shown, number):
     """Returns a channel: its number, state and register."""
     now, was = shown.state.channels[number], shown.before.channels[number]
@@ -170,8 +165,9 @@ def machine_lines(shown, rows, width):
     else:
         cells = rows_pane(shown, rows, WIDTH) if view.is_by_rows else memory_lines(shown, rows)
         memory = beside(cells, central_lines(shown, rows), CENTRAL_FROM)
-    upper = beside(processor_lines(shown), channel_lines(shown), CHANNELS_FROM)
-    return upper + memory + ([sentence_line(shown)] if view.is_by_rows else [])
+    processors = [processor_line(shown, number) for number in range(PROCESSORS)]
+    head = MarkedLine(" PP P    AT P          A      Q    PHASE  WAITS FOR", HEAD)
+    return beside([head, *processors], channel_lines(shown), CHANNELS_FROM) + memory + ([sentence_line(shown)] if view.is_by_rows else [])
 
 
 # ---- watches, paper and the lines typed
