@@ -244,8 +244,10 @@ class Adapter(Requests, Setting):
                 return
             if stop:
                 self.report(stop)
+            elif self.is_paused:
+                self.stopped("pause", self.paused)
             else:
-                self.stopped("pause" if self.is_paused else otherwise, self.paused, "" if self.machine.position else BEGINNING)
+                self.stopped(otherwise, self.paused, "" if self.machine.position else BEGINNING)
 
         self.after = run
 

@@ -74,7 +74,6 @@ def layout(columns, rows, is_by_rows=False):
 
 # ---- the parts of the machine
 
-
 def is_idle(now, was, number):
     """Returns whether a processor only passed through words 0000 between two states. The clock grows by 1 in a round, so that
     it and the slot say how many turns the processor had."""
@@ -172,7 +171,6 @@ def machine_lines(shown, rows, width):
 
 # ---- watches, paper and the lines typed
 
-
 def watch_parts(shown):
     """Returns each watched place with its number."""
     return [MarkedLine(f"{place.text} ").add_number(shown.state.number_at(place), shown.before.number_at(place))
@@ -224,7 +222,6 @@ def log_lines(log):
 
 
 # ---- the whole screen
-
 
 def title_line(shown, width):
     """Returns the line at the top."""
