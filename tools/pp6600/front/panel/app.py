@@ -88,21 +88,17 @@ class Panel:
     def memory_rows(self):
         return layout(self.columns, self.rows, self.view.is_by_rows).memory
 
-    def source(self):
-        """Returns the source of the chosen processor; None if it has none."""
-        return dict(self.symbols.sources()).get(self.view.processor)
-
-    def needed_source(self):
-        """As `source`, of an action that needs one."""
-        source, number = self.source(), self.view.processor
-        if source is None:
+    def source(self, is_needed=True):
+        """Returns the source of the chosen processor, if it has one; else None, or a failure if an action needs it."""
+        number, sources = self.view.processor, dict(self.symbols.sources())
+        if is_needed and number not in sources:
             raise Failure(f"PP {number:02o} has no source: the option --source {number:o} FILE loads one")
-        return source
+        return sources.get(number)
 
     def see(self):
         """Moves the windows to their cursors."""
         if not is_too_small(self.columns, self.rows):
-            self.view.source = self.source() if self.view.as_source else None
+            self.view.source = self.source(False) if self.view.as_source else None
             self.view.scroll(self.session.state, self.memory_rows(), self.session.size)
 
     def screen(self):
@@ -178,11 +174,11 @@ class Panel:
 
     def toggle_source(self):
         """Shows the source, or the cells."""
-        self.view.as_source = bool(self.needed_source()) and not self.view.as_source
+        self.view.as_source = bool(self.source()) and not self.view.as_source
 
     def toggle_central(self):
         """Shows central memory beside the source, or no longer."""
-        if self.needed_source() and self.view.source is None:
+        if self.source() and self.view.source is None:
             raise Failure("central memory is beside the cells; m shows the source")
         self.view.toggle_central()
 
@@ -213,7 +209,7 @@ class Panel:
 
     def show_calls(self):
         """Opens the page of the subroutines that the chosen processor is in."""
-        number, source = self.view.processor, self.needed_source()
+        number, source = self.view.processor, self.source()
         with self.session.search() as run:
             found = calls(run, number, source, self.session.simulator.position)
             lines = [MarkedLine(sentence(run, number, call, self.symbols)) for call in found]
@@ -307,7 +303,7 @@ class Panel:
     def go_by_lines(self, find, count):
         """Goes on to where the chosen processor begins another line of its source; or back to where it began the line that it is
         in, or the one before."""
-        source = self.needed_source()
+        source = self.source()
         turn = find(self.session, self.view.processor, source, count, self.report_search)
         self.send(to_turn(self.session.history, turn))
 

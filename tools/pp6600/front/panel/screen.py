@@ -150,11 +150,6 @@ def central_line(shown, address):
     return MarkedLine(f"{address:06o}").add("*" if changed else "w" if WATCHED in marks else " ", changed).add(now, changed, *marks)
 
 
-def central_lines(shown, rows):
-    top = central_top(shown.view.central_top, shown.view.word, rows, shown.size)
-    return [MarkedLine("CENTRAL MEMORY", HEAD)] + [central_line(shown, top + row) for row in range(rows)]
-
-
 def machine_lines(shown, rows, width):
     """Returns processors, channels, devices, and so many rows of memory: that of the chosen processor with central memory beside it, or a
     source in the whole width."""
@@ -163,7 +158,9 @@ def machine_lines(shown, rows, width):
         memory = rows_pane(shown, rows, width)
     else:
         cells = rows_pane(shown, rows, WIDTH) if view.is_by_rows else memory_lines(shown, rows)
-        memory = beside(cells, central_lines(shown, rows), CENTRAL_FROM)
+        top = central_top(view.central_top, view.word, rows, shown.size)
+        central = [MarkedLine("CENTRAL MEMORY", HEAD), *(central_line(shown, top + row) for row in range(rows))]
+        memory = beside(cells, central, CENTRAL_FROM)
     processors = [processor_line(shown, number) for number in range(PROCESSORS)]
     head = MarkedLine(" PP P    AT P          A      Q    PHASE  WAITS FOR", HEAD)
     return beside([head, *processors], channel_lines(shown), CHANNELS_FROM) + memory + ([sentence_line(shown)] if view.is_by_rows else [])

@@ -87,11 +87,9 @@ class View:
             self.go_to_cell(self.cell + (steps if is_across else down * ROW))
         elif self.pane == "central":
             self.word = max(min(self.word + (steps * ROW if is_across else down), size - 1), 0)
-        elif self.pane == "channels" and not is_across:
-            self.channel = (self.channel + steps) % (CLOCK + 1)
-        elif self.pane == "channels":  # to the other column, if there is a channel
-            channel = self.channel + steps * CHANNELS_IN_COLUMN
-            self.channel = channel if 0 <= channel <= CLOCK else self.channel
+        elif self.pane == "channels":  # across to the other column, if there is a channel
+            channel = self.channel + steps * (CHANNELS_IN_COLUMN if is_across else 1)
+            self.channel = self.channel if is_across and not 0 <= channel <= CLOCK else channel % (CLOCK + 1)
         elif is_across:
             self.register = REGISTERS[(REGISTERS.index(self.register) + steps) % len(REGISTERS)]
         else:
