@@ -36,24 +36,23 @@ class Requests:
         processor, memory = state.processors[number], state.memories[number]
         waits = processor.waits_for(state.states())
         name = f"P {processor.registers['P']} {'in ' if processor.phase else ''}{processor.text}{f' waits for {waits}' if waits else ''}"
-        frames = [self.one_frame(threadId, name, ProcessorCell(number, processor.p), self.own.line_at_p(number, processor))]
+        frames = [self.one_frame(threadId, name, ProcessorCell(number, processor.p), not processor.phase)]
         begun = processor.address(memory.number) if processor.phase else None
         if begun is not None:
-            line = self.own.line(number, begun, [memory.word(begun), memory.word(begun + 1)])
-            frames.append(self.one_frame(threadId + PROCESSORS, f"begun at {begun:04o}", ProcessorCell(number, begun), line))
+            frames.append(self.one_frame(threadId + PROCESSORS, f"begun at {begun:04o}", ProcessorCell(number, begun)))
         return {"stackFrames": frames[startFrame:startFrame + levels if levels else None], "totalFrames": len(frames)}
 
-    def one_frame(self, frame, name, cell, line):
-        """Returns a frame at a cell, which is of a line of the user's own source or of none."""
+    def one_frame(self, frame, name, cell, is_code=True):
+        return {"id": frame, "name": name, "column": self.base, "instructionPointerReference": cell.reference, **self.where(cell, is_code)}
+
+    def where(self, cell, is_code=True):
+        """Returns where a cell is shown: in the user's own source if it has the instruction of a line, or in the listing."""
+        memory, (number, address) = self.machine.state.memories[cell.number], cell
+        line = self.own.line(number, address, [memory.word(address), memory.word(address + 1)]) if is_code else None
         if line:
             self.notice(line.file)
-        return {"id": frame, "name": name, "column": self.base, "instructionPointerReference": cell.reference, **self.where(cell, line)}
-
-    def where(self, cell, line):
-        """Returns where a cell is shown: in the user's own source, or in the listing."""
-        if line:
             return {"line": line.number - 1 + self.base, "source": line.file.source}
-        return {"line": cell.address + self.base, "source": self.listings.source(cell.number)}
+        return {"line": address + self.base, "source": self.listings.source(number)}
 
     def do_source(self, source=None, sourceReference=0, **_):
         number = self.listings.number_of(source) if source else None
@@ -190,8 +189,7 @@ class Requests:
 
     def instruction(self, number, address):
         """Returns a cell as an instruction, and where its line is."""
-        memory = self.machine.state.memories[number]
-        cell = ProcessorCell(number, address)
-        found = self.where(cell, self.own.line(number, address, [memory.word(address), memory.word(address + 1)]))
+        memory, cell = self.machine.state.memories[number], ProcessorCell(number, address)
+        found = self.where(cell)
         return {"address": cell.reference, "instructionBytes": memory.word(address),
                 "instruction": instruction(memory, address), "location": found["source"], "line": found["line"]}
