@@ -48,7 +48,7 @@ class Printer(NamedTuple):
 
 
 class Memory:
-    """The cells of a processor."""
+    """The cells of a processor, or the words of central memory."""
 
     def __init__(self, numbers: Sequence[int]) -> None:
         self.numbers = numbers
@@ -73,8 +73,8 @@ class Memory:
 
     def find(self, words: Sequence[str], first: int) -> Optional[int]:
         """Returns the first address, from `first` on and round to it, at which the words are; or None."""
-        wanted, cells = [int(word, 8) for word in words], [*self.numbers, *self.numbers]
-        return next((at % CELLS for at in range(first % CELLS, first % CELLS + CELLS) if cells[at:at + len(wanted)] == wanted), None)
+        wanted, cells, size = [int(word, 8) for word in words], [*self.numbers, *self.numbers], len(self.numbers)
+        return next((at % size for at in range(first % size, first % size + size) if cells[at:at + len(wanted)] == wanted), None)
 
 
 class State:

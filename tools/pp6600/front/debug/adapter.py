@@ -15,7 +15,6 @@ from .breakpoints import DATA, Breakpoints
 from .debugged import MachineWithDevices, MachineWithoutDevices
 from .listings import Listings
 from .own import OwnSources
-from .protocol import BadRequest
 from .requests import Requests
 from .running import Runner
 from .setting import Setting
@@ -133,11 +132,11 @@ class Adapter(Requests, Setting):
         """Returns what does a request."""
         method = getattr(self, f"do_{command}", None)
         if method is None:
-            raise BadRequest(f"{command[:MOST_SHOWN]} is not supported")
+            raise Failure(f"{command[:MOST_SHOWN]} is not supported")
         if self.machine is None and command not in BEFORE_LAUNCH:
-            raise BadRequest("no simulator runs: launch one first")
+            raise Failure("no simulator runs: launch one first")
         if self.is_running and command not in WHILE_RUNNING:
-            raise BadRequest("the machine runs: pause it first")
+            raise Failure("the machine runs: pause it first")
         return method
 
     def stopped(self, reason, number, text="", ids=()):
@@ -164,7 +163,8 @@ class Adapter(Requests, Setting):
 
     def do_launch(self, **arguments):
         given = {name: str(value) for name, value in arguments.items() if value not in (None, "")}
-        words = [given.get("program") or default_engine(), *(word for name in OPTIONS if name in given for word in (f"--{name}", given[name]))]
+        words = [given.get("program") or default_engine()]
+        words += [word for name in OPTIONS if name in given for word in (f"--{name}", given[name])]
         number = processor(given["processor"]) if "processor" in given else None
         lines = script_lines(given["script"]) if "script" in given else []
         symbols = symbols_from(*(pairs(arguments, name) for name in ("symbols", "sources")), given.get("text"))
@@ -223,7 +223,7 @@ class Adapter(Requests, Setting):
 
     def number(self, thread):
         if not isinstance(thread, int) or not 1 <= thread <= PROCESSORS:
-            raise BadRequest(f"{thread} is no thread: they are 1 to {PROCESSORS}")
+            raise Failure(f"{thread} is no thread: they are 1 to {PROCESSORS}")
         return thread - 1
 
     def do_threads(self, **_):
@@ -244,8 +244,10 @@ class Adapter(Requests, Setting):
                 return
             if stop:
                 self.report(stop)
+            elif self.is_paused:
+                self.stopped("pause", self.paused)
             else:
-                self.stopped("pause" if self.is_paused else otherwise, self.paused, "" if self.machine.position else BEGINNING)
+                self.stopped(otherwise, self.paused, "" if self.machine.position else BEGINNING)
 
         self.after = run
 
@@ -289,7 +291,7 @@ def of_kind(kind, arguments, name, what):
     """Returns an argument of a launch; an empty one of this kind if it is not given."""
     asked = arguments.get(name)
     if asked is not None and not isinstance(asked, kind):
-        raise BadRequest(f"{name} is no {what}")
+        raise Failure(f"{name} is no {what}")
     return asked or kind()
 
 

@@ -1,11 +1,11 @@
 """The breakpoints that an editor has set."""
 
 import re
+from itertools import chain
 from typing import TYPE_CHECKING, Dict, FrozenSet, NamedTuple, Optional, Tuple
 
 from ...failure import Failure
 from ...run.forms import CELLS, PROCESSORS, Place
-from .protocol import BadRequest
 from .terms import Terms
 
 if TYPE_CHECKING:
@@ -31,36 +31,33 @@ class ProcessorCell(NamedTuple):
         try:
             at = int(reference, 0) + offset
         except (TypeError, ValueError):
-            raise BadRequest(f"{reference} is no reference to a cell") from None
+            raise Failure(f"{reference} is no reference to a cell") from None
         number, byte = at >> 16, at & 0xFFFF
         if byte % 2 or not 0 <= number < PROCESSORS or byte >= 2 * CELLS:
-            raise BadRequest(f"{reference} with {offset} is no reference to a cell")
+            raise Failure(f"{reference} with {offset} is no reference to a cell")
         return cls(number, byte // 2)
 
     @property
     def bits(self):
-        return self.number << 12 | self.address
+        return CELLS * self.number + self.address
 
 
 def checked(place):
     """Returns a place, if there is one of these numbers."""
     if not place.exists:
-        raise BadRequest(f"{place.short} is out of range")
+        raise Failure(f"{place.short} is out of range")
     return place
 
 
 def places_of(text):
     """Returns the places of a text: one, or a range of cells as M 0 100 103."""
-    try:
-        place, rest = Place.first_of(text.split())
-        if place.kind != "M" or not rest:
-            return [checked(Place.parse(text))]
-    except Failure as failure:
-        raise BadRequest(str(failure)) from None
+    place, rest = Place.first_of(text.split())
+    if place.kind != "M" or not rest:
+        return [checked(Place.parse(text))]
     last = int(rest[0], 8) if len(rest) == 1 and re.fullmatch("[0-7]{1,5}", rest[0]) else -1
     number, first = checked(place).numbers
     if not first <= last < CELLS:
-        raise BadRequest(f"{text} is no range of cells")
+        raise Failure(f"{text} is no range of cells")
     return [Place("M", (number, at)) for at in range(first, last + 1)]
 
 
@@ -83,22 +80,21 @@ class Point(NamedTuple):
 
 
 class Breakpoints:
-    """Those on lines of listings, by processor, those on lines of sources, by file, those on addresses, and data breakpoints."""
+    """All that are set, by a key: the processor of a listing, the path of a source, or the reason of those on addresses and places."""
 
     def __init__(self):
-        self.lines, self.own, self.instructions, self.data = {}, {}, [], []
+        self.of = {}
 
     @property
     def all(self):
         """All, those on lines first."""
-        on_lines = [point for points in (*self.lines.values(), *self.own.values()) for point in points]
-        return (*on_lines, *self.instructions, *self.data)
+        return sorted(chain.from_iterable(self.of.values()), key=lambda point: point.reason != LINE)
 
     @property
     def in_a_step(self):
         """Those that count in a step: data breakpoints, and log points, which end nothing."""
-        return tuple(point for point in self.all if point.places or point.terms.log)
+        return [point for point in self.all if point.places or point.terms.log]
 
     def places(self):
         """Returns the places of all data breakpoints, each once."""
-        return list(dict.fromkeys(place for point in self.data for place in point.places))
+        return list(dict.fromkeys(place for point in self.all for place in point.places))

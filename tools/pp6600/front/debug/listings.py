@@ -6,14 +6,11 @@ only what has changed is written, in place: editors take a file that is replaced
 
 import functools
 import os
-import re
 import shutil
 import tempfile
 
 from ...run.forms import CELLS, PROCESSORS
 from ...run.turn import NAMES, TWO_WORDS
-
-NAME = re.compile(r"PP(0[0-7]|1[01])\.pplist")
 
 
 @functools.lru_cache(maxsize=1 << 16)
@@ -75,9 +72,8 @@ class Listings:
     def number_of(self, source):
         """Returns the processor whose listing a source is; None if it is another one."""
         path = source.get("path")
-        found = isinstance(path, str) and os.path.dirname(path) in (self.folder, os.path.realpath(self.folder)) and \
-            NAME.fullmatch(os.path.basename(path))
-        return int(found[1], 8) if found else None
+        real = os.path.realpath(path) if isinstance(path, str) else None
+        return next((number for number in self.files if os.path.realpath(self.path(number)) == real), None)
 
     def source(self, number):
         return {"name": f"PP{number:02o}.pplist", "path": self.path(number)}

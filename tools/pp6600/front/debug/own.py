@@ -43,9 +43,6 @@ class SourceFile:
         except Failure:
             return None
 
-    def is_at(self, path):
-        return isinstance(path, str) and (path == self.path or os.path.realpath(path) == os.path.realpath(self.path))
-
     def cells(self, line):
         """Returns the cells at which a line begins, each time that it makes words, with the numbers of the lines that they are of."""
         found = {}
@@ -81,7 +78,8 @@ class OwnSources:
 
     def file(self, path):
         """Returns the file with this path; None if it is no source."""
-        return next((file for file in self.files if file.is_at(path)), None)
+        real = os.path.realpath(path) if isinstance(path, str) else None
+        return next((file for file in self.files if os.path.realpath(file.path) == real), None)
 
     def line(self, number, address, words):
         """Returns the line of which the instruction in a cell of a processor is, with its words; None if it is of no line."""

@@ -15,10 +15,6 @@ LONGEST_HEADER = 4096  # bytes of a line before a message
 LENGTH = re.compile(rb"^[ \t]*content-length[ \t]*:[ \t]*([0-9]{1,8})[ \t\r]*$", re.I | re.M)  # at most 8 digits
 
 
-class BadRequest(Failure):
-    """A request that can't be done; the text says why."""
-
-
 class Wire:
     """The client at the other end. A thread reads its requests, so that they can be taken between the parts of a run."""
 

@@ -3,12 +3,12 @@
 import base64
 import binascii
 
+from ...failure import Failure
 from ...convert.cells import set_lines
 from ...language.calls import calls, sentence
 from ...run.forms import CELLS, PROCESSORS, hit_of
 from .breakpoints import ProcessorCell
 from .listings import instruction
-from .protocol import BadRequest
 from .running import Runner
 from .variables import CALL_SCOPE, place_of, scope_and_number, scopes, set_line, value_of, variable, variables
 
@@ -28,7 +28,7 @@ class Requests:
     def frame(self, frame):
         """Returns the processor of a frame: each has one, and one more in a block transfer."""
         if not isinstance(frame, int) or not 1 <= frame <= 2 * PROCESSORS:
-            raise BadRequest(f"{frame} is no frame")
+            raise Failure(f"{frame} is no frame")
         return (frame - 1) % PROCESSORS
 
     def do_stackTrace(self, threadId, startFrame=0, levels=0, **_):
@@ -36,30 +36,29 @@ class Requests:
         processor, memory = state.processors[number], state.memories[number]
         waits = processor.waits_for(state.states())
         name = f"P {processor.registers['P']} {'in ' if processor.phase else ''}{processor.text}{f' waits for {waits}' if waits else ''}"
-        frames = [self.one_frame(threadId, name, ProcessorCell(number, processor.p), self.own.line_at_p(number, processor))]
+        frames = [self.one_frame(threadId, name, ProcessorCell(number, processor.p), not processor.phase)]
         begun = processor.address(memory.number) if processor.phase else None
         if begun is not None:
-            line = self.own.line(number, begun, [memory.word(begun), memory.word(begun + 1)])
-            frames.append(self.one_frame(threadId + PROCESSORS, f"begun at {begun:04o}", ProcessorCell(number, begun), line))
+            frames.append(self.one_frame(threadId + PROCESSORS, f"begun at {begun:04o}", ProcessorCell(number, begun)))
         return {"stackFrames": frames[startFrame:startFrame + levels if levels else None], "totalFrames": len(frames)}
 
-    def one_frame(self, frame, name, cell, line):
-        """Returns a frame at a cell, which is of a line of the user's own source or of none."""
+    def one_frame(self, frame, name, cell, is_code=True):
+        return {"id": frame, "name": name, "column": self.base, "instructionPointerReference": cell.reference, **self.where(cell, is_code)}
+
+    def where(self, cell, is_code=True):
+        """Returns where a cell is shown: in the user's own source if it has the instruction of a line, or in the listing."""
+        memory, (number, address) = self.machine.state.memories[cell.number], cell
+        line = self.own.line(number, address, [memory.word(address), memory.word(address + 1)]) if is_code else None
         if line:
             self.notice(line.file)
-        return {"id": frame, "name": name, "column": self.base, "instructionPointerReference": cell.reference, **self.where(cell, line)}
-
-    def where(self, cell, line):
-        """Returns where a cell is shown: in the user's own source, or in the listing."""
-        if line:
             return {"line": line.number - 1 + self.base, "source": line.file.source}
-        return {"line": cell.address + self.base, "source": self.listings.source(cell.number)}
+        return {"line": address + self.base, "source": self.listings.source(number)}
 
     def do_source(self, source=None, sourceReference=0, **_):
         number = self.listings.number_of(source) if source else None
         number = sourceReference - 1 if number is None else number
         if number not in range(PROCESSORS):
-            raise BadRequest("no listing of this session")
+            raise Failure("no listing of this session")
         return {"content": self.listings.text(number, self.machine.state.memories[number]), "mimeType": "text/plain"}
 
     def do_gotoTargets(self, source, line, **_):
@@ -70,9 +69,9 @@ class Requests:
                              "instructionPointerReference": cell.reference} for cell in cells]}
 
     def do_goto(self, threadId, targetId, **_):
-        number, target = self.number(threadId), ProcessorCell(targetId >> 12, targetId & 0o7777)
+        number, target = self.number(threadId), ProcessorCell(*divmod(targetId, CELLS))
         if target.number != number:
-            raise BadRequest(f"that is a cell of PP {target.number:02o}" if target.number < PROCESSORS else "that is no target")
+            raise Failure(f"that is a cell of PP {target.number:02o}" if target.number < PROCESSORS else "that is no target")
         self.set_number(f"SET P {number:o} {target.address:o}")
         self.after = lambda: self.stopped("goto", number)
 
@@ -107,7 +106,7 @@ class Requests:
         """Performs a line that sets numbers."""
         answer = self.act(line)
         if answer != ["OK"]:
-            raise BadRequest(f"{answer[0] if answer else 'nothing'}: {line}")
+            raise Failure(f"{answer[0] if answer else 'nothing'}: {line}")
         self.look()
 
     def do_setVariable(self, variablesReference, name, value, **_):
@@ -125,7 +124,7 @@ class Requests:
         text = text[len(PREFIX):].strip() if is_line else text
         try:
             return {"result": self.value(text, number), "variablesReference": 0}
-        except BadRequest:
+        except Failure:
             if not is_line and context not in LINE_CONTEXTS:
                 raise
         answers = []
@@ -160,10 +159,9 @@ class Requests:
     def do_readMemory(self, memoryReference, count, offset=0, **_):
         cell = ProcessorCell.of(memoryReference, offset)
         if not isinstance(count, int) or count < 0:
-            raise BadRequest(f"{count} is no count of bytes: it is 0 or more")
-        memory = self.machine.state.memories[cell.number]
-        last = min(cell.address + (count + 1) // 2, CELLS)
-        data = b"".join(int(memory.word(at), 8).to_bytes(2, "big") for at in range(cell.address, last))[:count]
+            raise Failure(f"{count} is no count of bytes: it is 0 or more")
+        numbers = self.machine.state.memories[cell.number].numbers[cell.address:cell.address + (count + 1) // 2]
+        data = b"".join(number.to_bytes(2, "big") for number in numbers)[:count]
         return {"address": cell.reference, "data": base64.b64encode(data).decode("ascii"), "unreadableBytes": count - len(data)}
 
     def do_writeMemory(self, memoryReference, data, offset=0, **_):
@@ -171,30 +169,27 @@ class Requests:
         try:
             data = base64.b64decode(data, validate=True)
         except binascii.Error as error:
-            raise BadRequest(f"what is to be written is not base64: {error}") from None
+            raise Failure(f"what is to be written is not base64: {error}") from None
         if len(data) % 2 or any(byte > 0o17 for byte in data[::2]):
-            raise BadRequest("a cell is two bytes, the upper bits first, and has 12 bits (decimal)")
+            raise Failure("a cell is two bytes, the upper bits first, and has 12 bits (decimal)")
         words = [f"{int.from_bytes(data[at:at + 2], 'big'):04o}" for at in range(0, len(data), 2)]
         if cell.address + len(words) > CELLS:
-            raise BadRequest("that goes past cell 7777")
+            raise Failure("that goes past cell 7777")
         for line in set_lines(cell.number, cell.address, words):
             self.set_number(line)
         return {"bytesWritten": len(data)}
 
     def do_disassemble(self, memoryReference, instructionCount, offset=0, instructionOffset=0, **_):
         if instructionCount > MOST_INSTRUCTIONS:
-            raise BadRequest(f"{instructionCount} instructions are too many: {MOST_INSTRUCTIONS} at most")
+            raise Failure(f"{instructionCount} instructions are too many: {MOST_INSTRUCTIONS} at most")
         cell = ProcessorCell.of(memoryReference, offset)
         first = cell.address + instructionOffset
-        last = first + instructionCount
-        before, after = range(first, min(last, 0)), range(max(first, CELLS), last)
-        found = [self.instruction(cell.number, at) for at in range(max(first, 0), min(last, CELLS))]
-        return {"instructions": [NO_INSTRUCTION] * len(before) + found + [NO_INSTRUCTION] * len(after)}
+        return {"instructions": [self.instruction(cell.number, at) if 0 <= at < CELLS else NO_INSTRUCTION
+                                 for at in range(first, first + instructionCount)]}
 
     def instruction(self, number, address):
         """Returns a cell as an instruction, and where its line is."""
-        memory = self.machine.state.memories[number]
-        cell = ProcessorCell(number, address)
-        found = self.where(cell, self.own.line(number, address, [memory.word(address), memory.word(address + 1)]))
+        memory, cell = self.machine.state.memories[number], ProcessorCell(number, address)
+        found = self.where(cell)
         return {"address": cell.reference, "instructionBytes": memory.word(address),
                 "instruction": instruction(memory, address), "location": found["source"], "line": found["line"]}

@@ -35,9 +35,9 @@ class Runner:
     # ---- forward
 
     def forward(self, shown, aim=None, last=math.inf, kind="all"):
-        """Runs to the next stop at breakpoints of a kind, or at an aim, or else to a position, over what is ahead first. The processor that
-        is shown has been seen at its breakpoint; any other whose turn is next is reported. Returns the stop; None at the aim, at the position,
-        or if the client ended it."""
+        """Runs to the next stop at breakpoints of a kind, or at an aim, or else to a position, over what is ahead first. A processor at a
+        breakpoint is reported if it is not the one that is shown. Returns the stop; None at the aim or the position, or if the client
+        ended it."""
         machine, stop = self.machine, None
         with suppress(Ended):
             stop = self.next_stop(lambda: self.search(getattr(self.points, kind), aim), shown, last)
@@ -133,7 +133,7 @@ class Runner:
 
     def due(self, stop, say):
         """Returns a stop with what ends a run there; None if nothing does. What log points write there is said."""
-        met = [point for point in stop.met if not point.terms.hits or point.terms.hits.hold(self.hits(point, stop.position))]
+        met = [point for point in stop.met if not point.terms.hits or point.terms.hits(self.hits(point, stop.position))]
         for point in met:
             if point.terms.log:
                 say(stop, point)

@@ -1,11 +1,8 @@
 """The requests that set breakpoints."""
 
-import itertools
-
 from ...failure import Failure
 from ...run.forms import CELLS, MOST_WATCHES
 from .breakpoints import DATA, DATA_ID, INSTRUCTION, INSTRUCTION_ID, LINE, LINE_ID, SOURCE_ID, Point, ProcessorCell, places_of
-from .protocol import BadRequest
 from .terms import Terms
 from .variables import place_of, scope_and_number, value_of
 
@@ -20,71 +17,69 @@ class Setting:
             try:
                 self.machine.number_at(place)
             except Failure:
-                raise BadRequest(f"ERR 04 RANGE: {place.text} is not there") from None
+                raise Failure(f"ERR 04 RANGE: {place.text} is not there") from None
         return terms
+
+    def set_points(self, key, asked, point_of):
+        """Sets what is asked for in place of the breakpoints with this key, and returns the answers. The function `point_of` returns an
+        answer with its breakpoint, or refuses."""
+        answers, self.points.of[key] = [], []
+        for one in asked:
+            known = {"id": one["id"]} if "id" in one else {}
+            try:
+                answer, point = point_of(one)
+                self.points.of[key].append(point)
+                answers.append({"verified": True, **answer, **known})
+            except Failure as refused:
+                known.update({"line": one["line"]} if "line" in one else {})
+                answers.append({"verified": False, "message": str(refused), **known})
+        return {"breakpoints": answers}
+
+    # ---- on lines
 
     def do_setBreakpoints(self, source, breakpoints=(), **_):
         asked = breakpoints or []
         for one in asked:
             if type(one["line"]) is not int:
-                raise BadRequest(f"{one['line']} is no line")
+                raise Failure(f"{one['line']} is no line")
         number, file = self.listings.number_of(source), self.own.file(source.get("path"))
-        if number is not None:
-            answers, self.points.lines[number] = self.set_points(asked, lambda one: self.listing_point(number, one))
-        elif file:
-            self.own_asked[file.path] = [({"id": SOURCE_ID | next(self.numbers)}, one) for one in asked]
-            answers = self.set_own(file)
-        else:
-            text = f"{source.get('name') or source.get('path')} is no source and no listing of this session"
-            answers = [{"verified": False, "line": one["line"], "message": text} for one in asked]
-        return {"breakpoints": answers}
+        if not file:
+            return self.set_points(number, asked, lambda one: self.listing_point(number, source, one))
+        self.own_asked[file.path] = [{**one, "id": SOURCE_ID | next(self.numbers)} for one in asked]
+        return self.set_own(file)
 
-    def set_points(self, asked, point_of):
-        """Returns the answers to what is asked for, and the breakpoints that can be set. The function `point_of` returns an answer with
-        its breakpoint, or refuses."""
-        answers, points = [], []
-        for one in asked:
-            try:
-                answer, point = point_of(one)
-                answers.append({"verified": True, **answer})
-                points.append(point)
-            except BadRequest as refused:
-                answers.append({"verified": False, "message": str(refused), **{name: one[name] for name in {"line"} & {*one}}})
-        return answers, points
-
-    def listing_point(self, number, one):
+    def listing_point(self, number, source, one):
         """Returns the answer and the breakpoint on a line of a listing."""
         address = one["line"] - self.base
+        if number is None:
+            raise Failure(f"{source.get('name') or source.get('path')} is no source and no listing of this session")
         if not 0 <= address < CELLS:
-            raise BadRequest("no line of the listing")
+            raise Failure("no line of the listing")
         cell = ProcessorCell(number, address)
         point = Point(LINE_ID | cell.bits, LINE, {cell: None}, terms=self.terms(one, [number]))
         return {"id": point.number, "line": one["line"], "source": self.listings.source(number),
                 "instructionReference": cell.reference}, point
 
-    # ---- in the user's own source
-
     def set_own(self, file):
-        """Sets what was asked for in a file. Returns the answers."""
+        """Sets what was asked for in a source of the user. Returns the answers."""
         self.notice(file)
-        asked = [{**one, **own} for own, one in self.own_asked.get(file.path, ())]
-        answers, self.points.own[file.path] = self.set_points(asked, lambda one: self.own_point(file, one))
-        return [{**answer, "id": one["id"]} for answer, one in zip(answers, asked)]
+        return self.set_points(file.path, self.own_asked.get(file.path, ()), lambda one: self.own_point(file, one))
 
     def own_point(self, file, one):
         """Returns the answer and the breakpoint on a line of a file, or on the next one that makes words."""
         line = file.next_line(one["line"] - self.base + 1)
         if line is None:
-            raise BadRequest("no line from here on makes a word")
+            raise Failure("no line from here on makes a word")
         cells = file.cells(line)
         point = Point(one["id"], LINE, cells, (), self.terms(one, sorted({cell.number for cell in cells})), file, line)
         return {"line": line - 1 + self.base, "source": file.source, "instructionReference": min(cells).reference}, point
 
     def set_own_again(self):
         """Sets the breakpoints in the user's sources after a restart, which has assembled them again, and says where they are now."""
-        self.points.own = {}
+        for path in self.own_asked:
+            self.points.of.pop(path, None)
         for file in self.own.files:
-            for answer in self.set_own(file):
+            for answer in self.set_own(file)["breakpoints"]:
                 self.wire.event("breakpoint", reason="changed", breakpoint=answer)
 
     def notice(self, file):
@@ -95,8 +90,7 @@ class Setting:
     # ---- on addresses and places
 
     def do_setInstructionBreakpoints(self, breakpoints, **_):
-        answers, self.points.instructions = self.set_points(breakpoints, self.instruction_point)
-        return {"breakpoints": answers}
+        return self.set_points(INSTRUCTION, breakpoints, self.instruction_point)
 
     def instruction_point(self, one):
         cell = ProcessorCell.of(one.get("instructionReference"), one.get("offset", 0))
@@ -122,19 +116,16 @@ class Setting:
             value_of(self.machine, place)
 
     def do_setDataBreakpoints(self, breakpoints, **_):
-        self.points.data, numbers = [], itertools.count(DATA_ID)
-        answers, _ = self.set_points(breakpoints, lambda one: self.data_point(next(numbers), one))
-        return {"breakpoints": [{"id": DATA_ID | at, **answer} for at, answer in enumerate(answers)]}
+        found = self.set_points(DATA, [{**one, "id": DATA_ID | at} for at, one in enumerate(breakpoints)], self.data_point)
+        return {"breakpoints": [{"id": one["id"], **one} for one in found["breakpoints"]]}
 
-    def data_point(self, number, one):
-        """Returns an answer, which has its number elsewhere, and a data breakpoint, which is set."""
+    def data_point(self, one):
+        """Returns an answer, and a data breakpoint."""
         places = places_of(str(one.get("dataId")))
         if one.get("accessType", "write") != "write":
-            raise BadRequest("only changes are seen")
+            raise Failure("only changes are seen")
         if len({*self.machine.state.watched, *self.points.places(), *places}) > MOST_WATCHES:
-            raise BadRequest("at most eight places are watched, those of WATCH among them")
+            raise Failure("at most eight places are watched, those of WATCH among them")
         self.check(places)
         terms = self.terms({**one, "logMessage": None}, [])  # the protocol has no such log points
-        point = Point(number, DATA, places=tuple(places), terms=terms)
-        self.points.data.append(point)
-        return {}, point
+        return {}, Point(one["id"], DATA, places=tuple(places), terms=terms)

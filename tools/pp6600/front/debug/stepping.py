@@ -86,8 +86,8 @@ class Stepper:
     # ---- back
 
     def back(self, is_by_lines):
-        """Goes back to before the latest turn of the processor; by lines to where it came to the line of that turn, if it is at one now. If it
-        has made no turn, that is the beginning."""
+        """Goes back to before the latest turn of the processor; by lines to where it came to the line of that turn, if it is at one now. If
+        it has made no turn, that is the beginning."""
         at = self.latest_turn(self.machine.position)
         if at is not None and is_by_lines and self.own.line_at_p(self.number, self.processor):
             at = self.before_line(self.before_call(at))
@@ -95,7 +95,7 @@ class Stepper:
             self.machine.goto(at or 0)
 
     def before_line(self, first):
-        """Returns the position at which the processor came to the line of the turn after a position; if it was at no line, that position."""
+        """Returns the position at which the processor came to the line of the turn after one; if it was at no line, that position."""
         line, end = None, first + 1
         while (at := self.latest_turn(end)) is not None and self.runner.goes_on():
             processor = self.processor_at(at)

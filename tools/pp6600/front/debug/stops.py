@@ -53,7 +53,7 @@ class StopSearch:
     """A search for the stops at breakpoints, and at the aim of a step."""
 
     def __init__(self, machine, points, aim=None, scout="looks"):
-        self.machine, self.scout, self.tape = machine, machine.scout(scout), machine.tape
+        self.machine, self.name, self.scout, self.tape = machine, scout, machine.scout(scout), machine.tape
         self.points = [*points, *([aim] if aim else [])]
         self.places = list(dict.fromkeys(place for point in points for place in point.places))
         self.numbers = [place.number for place in self.places]
@@ -93,8 +93,8 @@ class StopSearch:
             scout.goto(here)
 
     def by_watches(self, first, last):
-        """As `by_turns`, of changes alone: a scout watches the places, which is faster."""
-        scout, watched = self.machine.scout("watches"), [place.short for place in self.places]
+        """As `by_turns`, of changes alone: a scout of its own watches the places, which is faster."""
+        scout, watched = self.machine.scout(f"watches of {self.name}"), [place.short for place in self.places]
         scout.goto(first)
         if scout.watched != watched:
             scout.unwatch()

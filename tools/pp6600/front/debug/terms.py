@@ -8,12 +8,11 @@ import re
 from array import array
 from bisect import bisect_right
 from itertools import chain
-from typing import NamedTuple, Optional
+from typing import Callable, NamedTuple, Optional
 
 from ...failure import Failure
 from ...run.conditions import first_place, parsed
 from ...run.search import Column, Condition
-from .protocol import BadRequest
 
 SIGNS = {"=": operator.eq, "==": operator.eq, ">": operator.gt, ">=": operator.ge, "<": operator.lt, "<=": operator.le,
          "%": lambda count, number: count % number == 0}
@@ -22,26 +21,17 @@ EXPRESSION = re.compile(r"\{([^{}]*)\}")
 REGISTERS = ("A", "P", "Q")
 
 
-class Hits(NamedTuple):
-    """Which hits count, by their numbers."""
-
-    sign: str
-    number: int
-
-    @classmethod
-    def parse(cls, text):
-        found = COUNT.fullmatch(text)
-        if not found:
-            raise BadRequest(f"{text} is no count of hits: it is a number, or one of = > >= < <= % and a number")
-        if not re.fullmatch("[0-7]+", found[2]):
-            raise BadRequest(f"{found[2]} is not octal")
-        number = int(found[2], 8)
-        if not number and found[1] == "%":
-            raise BadRequest("no number is a multiple of 0")
-        return cls(found[1] or "=", number)
-
-    def hold(self, number):
-        return SIGNS[self.sign](number, self.number)
+def hits_of(text):
+    """Returns a function that says of a hit, by its number, whether it counts."""
+    found = COUNT.fullmatch(text)
+    if not found:
+        raise Failure(f"{text} is no count of hits: it is a number, or one of = > >= < <= % and a number")
+    if not re.fullmatch("[0-7]+", found[2]):
+        raise Failure(f"{found[2]} is not octal")
+    sign, number = found[1] or "=", int(found[2], 8)
+    if not number and sign == "%":
+        raise Failure("no number is a multiple of 0")
+    return lambda count: SIGNS[sign](count, number)
 
 
 class Log:
@@ -64,7 +54,7 @@ class Terms(NamedTuple):
     """The terms of a breakpoint."""
 
     condition: Optional[Condition] = None
-    hits: Optional[Hits] = None
+    hits: Optional[Callable[[int], bool]] = None  # whether one counts, by its number
     log: Optional[Log] = None
     text: str = ""  # of the condition
 
@@ -72,13 +62,10 @@ class Terms(NamedTuple):
     def of(cls, asked, numbers, symbols):
         """Returns the terms that an editor has asked for, of a breakpoint that some processors may come to."""
         condition, hits, log = (str(asked.get(name) or "").strip() for name in ("condition", "hitCondition", "logMessage"))
-        try:
-            tests = parsed(condition, symbols) if condition else None
-            if tests and tests.remembers:
-                raise BadRequest("returns wrongly is about a whole run, so it is for until, and for no breakpoint")
-            return cls(tests, Hits.parse(hits) if hits else None, Log(log, numbers, symbols) if log else None, condition)
-        except Failure as failure:
-            raise BadRequest(str(failure)) from None
+        tests = parsed(condition, symbols) if condition else None
+        if tests and tests.remembers:
+            raise Failure("returns wrongly is about a whole run, so it is for until, and for no breakpoint")
+        return cls(tests, hits_of(hits) if hits else None, Log(log, numbers, symbols) if log else None, condition)
 
     def places(self):
         """Returns all places that they are about."""
@@ -96,7 +83,7 @@ def place_of(text, number, symbols):
     """Returns the place that an expression names."""
     place, rest = first_place(of_processor(text.split(), number), symbols)
     if rest or not place.exists:
-        raise BadRequest(f"{{{text}}} is no place")
+        raise Failure(f"{{{text}}} is no place")
     return place
 
 

@@ -7,7 +7,6 @@ from ...language.names import AllSymbols
 from ...run.forms import KINDS, PROCESSORS, REGISTERS, Place
 from ...run.search import Column
 from .breakpoints import ProcessorCell, checked
-from .protocol import BadRequest
 from .terms import of_processor
 
 SCOPES = ("Registers", "Channels and clock", "Devices", "Watches", "History", "Calls")
@@ -17,7 +16,7 @@ REGISTER_SCOPE, CHANNEL_SCOPE, DEVICE_SCOPE, WATCH_SCOPE, HISTORY_SCOPE, CALL_SC
 def scope_and_number(asked):
     """Returns the scope and the processor of a reference."""
     if not isinstance(asked, int) or not 0 < asked >> 8 <= len(SCOPES) or not 0 <= asked & 0xFF < PROCESSORS:
-        raise BadRequest(f"{asked} is no reference to variables")
+        raise Failure(f"{asked} is no reference to variables")
     return asked >> 8, asked & 0xFF
 
 
@@ -36,7 +35,7 @@ def variables(machine, scope, number, places):
     """Returns the variables of a scope; the places are those that are watched."""
     state = machine.state
     if scope == REGISTER_SCOPE:
-        return [register(state, number, name) for name in REGISTERS]
+        return [register(state.processors[number], number, name) for name in REGISTERS]
     if scope == CHANNEL_SCOPE:
         return [variable(f"H {one.number}", f"{one.state} {one.register}", f"H {one.number}") for one in state.channels]
     if scope == DEVICE_SCOPE:
@@ -47,12 +46,10 @@ def variables(machine, scope, number, places):
     return [variable(name, f"{count:o}") for name, count in counts.items()]
 
 
-def register(state, number, name):
-    """Returns a register; P leads to the memory."""
-    digits = state.processors[number].registers[name]
-    place = f"{name} {number:o}" if name in KINDS else ""
-    memory = {"memoryReference": ProcessorCell(number, int(digits, 8)).reference} if name == "P" else {}
-    return {**variable(name, digits, place), **memory}
+def register(processor, number, name):
+    """Returns a register of a processor; P leads to the memory."""
+    memory = {"memoryReference": ProcessorCell(number, processor.p).reference} if name == "P" else {}
+    return {**variable(name, processor.registers[name], f"{name} {number:o}" if name in KINDS else ""), **memory}
 
 
 def devices(state):
@@ -63,7 +60,7 @@ def devices(state):
 def value_of(machine, place):
     """Returns the digits of the number at a place; of a channel the state too."""
     if place.kind == "C" and place.numbers[0] >= machine.central_size:
-        raise BadRequest(f"ERR 04 RANGE: {place.short} is not in central memory")
+        raise Failure(f"ERR 04 RANGE: {place.short} is not in central memory")
     return Column(place).shown(machine)[0][1]
 
 
@@ -75,15 +72,15 @@ def place_of(text, number=None, symbols=AllSymbols()):
         words = symbols.place_in_digits(words)
         return checked(Place.parse(" ".join(words)))
     except Failure as failure:
-        raise BadRequest(f"{text} is no place: {failure}") from None
+        raise Failure(f"{text} is no place: {failure}") from None
 
 
 def set_line(scope, number, name, value):
     if not re.fullmatch("[0-7A-Za-z ]+", value):
-        raise BadRequest(f"{value} is not octal")
+        raise Failure(f"{value} is not octal")
     if scope == REGISTER_SCOPE and name == "PHASE":
-        raise BadRequest("PHASE can't be set; to set P ends a block transfer")
+        raise Failure("PHASE can't be set; to set P ends a block transfer")
     if scope in (DEVICE_SCOPE, HISTORY_SCOPE, CALL_SCOPE):
-        raise BadRequest(f"{name} can't be set")
+        raise Failure(f"{name} can't be set")
     place = place_of(name, number if scope == REGISTER_SCOPE else None)
     return place, f"SET {place.short} {value}"

@@ -13,6 +13,7 @@ from ...run.forms import KINDS
 from ...run.origin_text import MOST_STEPS, origin_rows
 from ...run.searches import Stopped, last_before, next_found, turn_of_line_before, turn_of_next_line
 from ...run.session import REPLAYED
+from ...run.state import Memory
 from ...shell.keyboard import FIRST_WORDS, card
 from ..keys import ARROWS, PAGES, PANEL
 from .key_lines import LINES, help_lines, to_turn
@@ -28,14 +29,6 @@ MOST_COUNT_DIGITS = 10
 LONG_ANSWER = 2  # lines; a longer answer is shown on a page
 MOVES = {*ARROWS.values(), *PAGES}  # actions that move the cursor
 NEW_ACTIONS = (["SET"], ["STEP"], ["WATCH"], ["UNWATCH"], ["DEADSTART"])  # the first words of their lines
-
-
-def words_to_find(text, kind):
-    """Returns the words of a search, each with all digits of a word of this kind of places."""
-    words, digits = text.split(), KINDS[kind].digits
-    if not words or any(not re.fullmatch("[0-7]+", word) or len(word.lstrip("0")) > digits for word in words):
-        raise Failure(f"{text or 'nothing'} can't be searched: give octal words, as 7512 0100")
-    return [f"{int(word, 8):0{digits}o}" for word in words]
 
 
 class Panel:
@@ -95,21 +88,17 @@ class Panel:
     def memory_rows(self):
         return layout(self.columns, self.rows, self.view.is_by_rows).memory
 
-    def source(self):
-        """Returns the source of the chosen processor; None if it has none."""
-        return dict(self.symbols.sources()).get(self.view.processor)
-
-    def needed_source(self):
-        """As `source`, of an action that needs one."""
-        source, number = self.source(), self.view.processor
-        if source is None:
+    def source(self, is_needed=True):
+        """Returns the source of the chosen processor, if it has one; else None, or a failure if an action needs it."""
+        number, sources = self.view.processor, dict(self.symbols.sources())
+        if is_needed and number not in sources:
             raise Failure(f"PP {number:02o} has no source: the option --source {number:o} FILE loads one")
-        return source
+        return sources.get(number)
 
     def see(self):
         """Moves the windows to their cursors."""
         if not is_too_small(self.columns, self.rows):
-            self.view.source = self.source() if self.view.as_source else None
+            self.view.source = self.source(False) if self.view.as_source else None
             self.view.scroll(self.session.state, self.memory_rows(), self.session.size)
 
     def screen(self):
@@ -185,11 +174,11 @@ class Panel:
 
     def toggle_source(self):
         """Shows the source, or the cells."""
-        self.view.as_source = bool(self.needed_source()) and not self.view.as_source
+        self.view.as_source = bool(self.source()) and not self.view.as_source
 
     def toggle_central(self):
         """Shows central memory beside the source, or no longer."""
-        if self.needed_source() and self.view.source is None:
+        if self.source() and self.view.source is None:
             raise Failure("central memory is beside the cells; m shows the source")
         self.view.toggle_central()
 
@@ -215,11 +204,12 @@ class Panel:
                 raise Failure(f"nothing wrote it: {text.strip()}")
             self.send([f"BACK {history.over(position - step.position + 1):o}"])
 
-        self.page = TextPage(f"Where the number at {place.text} came from", [MarkedLine(text) for _, text in rows], choose=go_before, closes="c")
+        title, lines = f"Where the number at {place.text} came from", [MarkedLine(text) for _, text in rows]
+        self.page = TextPage(title, lines, choose=go_before, closes="c")
 
     def show_calls(self):
         """Opens the page of the subroutines that the chosen processor is in."""
-        number, source = self.view.processor, self.needed_source()
+        number, source = self.view.processor, self.source()
         with self.session.search() as run:
             found = calls(run, number, source, self.session.simulator.position)
             lines = [MarkedLine(sentence(run, number, call, self.symbols)) for call in found]
@@ -299,28 +289,21 @@ class Panel:
         more = [f"{REPLAYED} in a fresh simulator"] if self.session.simulator.replays > replays else []
         self.message = in_width([*said, *more], self.columns)
 
-    def go_on_to(self, text):
-        """Goes to the next turn at which a condition comes to hold; without a text, that typed before."""
-        turns, last = self.session.history.turns, self.session.history.last_turn + self.session.most_new
-        self.go_to_found(next_found, text, f"in turns {turns + 1:o} to {last:o}")
-
-    def go_back_to(self, text):
-        """As `go_on_to`, but to the last turn before."""
-        self.go_to_found(last_before, text, f"before turn {self.session.history.turns:o}")
-
-    def go_to_found(self, find, text, where):
-        text = text or (self.typed["until"] or [""])[-1]
+    def go_to_found(self, text, find=next_found):
+        """Goes to the next turn at which a condition comes to hold, or the last one before; without a text, that typed before."""
+        history, text = self.session.history, text or (self.typed["until"] or [""])[-1]
         if not text:
             raise Failure("give a condition, as P 0 = 105 or M 0 106 changes")
         found = find(self.session, text, self.symbols, self.report_search)
         if found is None:
-            raise Failure(f"NONE: {text}, {where}")
+            new = f"in turns {history.turns + 1:o} to {history.last_turn + self.session.most_new:o}"
+            raise Failure(f"NONE: {text}, {new if find is next_found else f'before turn {history.turns:o}'}")
         self.show_turn(found.turn, found.text(self.symbols))
 
     def go_by_lines(self, find, count):
         """Goes on to where the chosen processor begins another line of its source; or back to where it began the line that it is
         in, or the one before."""
-        source = self.needed_source()
+        source = self.source()
         turn = find(self.session, self.view.processor, source, count, self.report_search)
         self.send(to_turn(self.session.history, turn))
 
@@ -335,14 +318,15 @@ class Panel:
 
     def search(self, text):
         """Moves the cursor to the next words of this kind; without a text, of the kind that was searched before."""
-        text = text or (self.typed["search"] or [""])[-1]
-        view, session = self.view, self.session
-        is_central = view.pane == "central"
-        words = words_to_find(text, "C" if is_central else "M")
+        text, view, state = text or (self.typed["search"] or [""])[-1], self.view, self.session.state
+        words, is_central = text.split(), view.pane == "central"
+        most = KINDS["C" if is_central else "M"].digits
+        if not words or any(not re.fullmatch("[0-7]+", word) or len(word.lstrip("0")) > most for word in words):
+            raise Failure(f"{text or 'nothing'} can't be searched: give octal words, as 7512 0100")
         if is_central and len(words) > 1:
             raise Failure("in central memory one word is searched at a time")
-        found = session.find_central(int(words[0], 8), view.word + 1) if is_central \
-            else session.state.memories[view.processor].find(words, view.cell + 1)
+        memory = Memory(state.central) if is_central else state.memories[view.processor]
+        found = memory.find(words, 1 + (view.word if is_central else view.cell))
         if found is None:
             raise Failure(f"{text} is not there")
         view.go_to_place(*(("C", found) if is_central else ("M", view.processor, found)))
@@ -360,21 +344,21 @@ class Panel:
 
 # Of each action that begins a line what is asked, and what is done with the line that is typed.
 PROMPTS = {"line": ("> ", Panel.take_console_line), "place": ("go to ", Panel.go_to), "turn": ("turn ", Panel.go_to_turn),
-           "until": ("until ", Panel.go_on_to), "back-until": ("back until ", Panel.go_back_to), "search": ("search ", Panel.search),
-           "save": ("w ", Panel.save), "keys": ("keys ", Panel.press_keys)}
+           "until": ("until ", Panel.go_to_found), "back-until": ("back until ", lambda panel, text: panel.go_to_found(text, last_before)),
+           "search": ("search ", Panel.search), "save": ("w ", Panel.save), "keys": ("keys ", Panel.press_keys)}
 # What the others do, with the count before their key.
 ACTIONS = {
-    "again": lambda panel, count: panel.go_on_to(""), "back-again": lambda panel, count: panel.go_back_to(""),
-    "next-change": lambda panel, count: panel.go_on_to(f"{panel.view.place()} changes"),
-    "change-before": lambda panel, count: panel.go_back_to(f"{panel.view.place()} changes"),
+    "again": lambda panel, count: panel.go_to_found(""), "back-again": lambda panel, count: panel.go_to_found("", last_before),
+    "next-change": lambda panel, count: panel.go_to_found(f"{panel.view.place()} changes"),
+    "change-before": lambda panel, count: panel.go_to_found(f"{panel.view.place()} changes", last_before),
     "next-line": lambda panel, count: panel.go_by_lines(turn_of_next_line, count),
     "line-before": lambda panel, count: panel.go_by_lines(turn_of_line_before, count),
     "next-part": lambda panel, count: panel.view.next_pane(1), "part-before": lambda panel, count: panel.view.next_pane(-1),
     "processor-before": lambda panel, count: panel.view.choose_processor(panel.view.processor - count),
     "next-processor": lambda panel, count: panel.view.choose_processor(panel.view.processor + count),
     "processor-in-slot": lambda panel, count: panel.view.choose_processor(panel.session.state.slot),
-    "follow": lambda panel, count: panel.view.follow(), "instructions": lambda panel, count: panel.view.toggle_program(),
-    "display-code": lambda panel, count: panel.view.toggle_display_code(), "source": lambda panel, count: panel.toggle_source(),
+    "follow": lambda panel, count: setattr(panel.view, "following", True), "instructions": lambda panel, count: panel.view.toggle_program(),
+    "display-code": lambda panel, count: panel.view.toggle_program(True), "source": lambda panel, count: panel.toggle_source(),
     "central": lambda panel, count: panel.toggle_central(), "origin": lambda panel, count: panel.show_origin(),
     "calls": lambda panel, count: panel.show_calls(), "pictures": lambda panel, count: panel.show_pictures(),
     "log": lambda panel, count: panel.show_log(), "help": lambda panel, count: panel.show_keys(),

@@ -30,11 +30,6 @@ def kind_of(answer):
     return answer[0].split()[0] if answer else ""
 
 
-def is_action(line):
-    """Returns whether a line may be an action, BACK or FORWARD."""
-    return not has_no_answer(line) and line.upper().split()[:1] != ["DUMP"]
-
-
 def never(done, total):
     return False
 
@@ -74,11 +69,6 @@ class LoggedSession:
 
     def watched(self):
         return [place.short for place in self.state.watched]
-
-    def find_central(self, word, first):
-        """Returns the first address, from `first` on and round to it, of a central word; or None."""
-        words = [*self.state.central[first:], *self.state.central[:first]]
-        return (words.index(word) + first) % self.size if word in words else None
 
     def would_refuse(self, line):
         """Returns whether a new action would be refused: whether another simulator, which watches the same places, refuses it."""
@@ -136,7 +126,8 @@ class LoggedSession:
     def perform_script(self, lines, stops=never):
         """Performs a script, whatever is refused; `stops` is asked before each line. What the last action changed is marked. Returns
         whether all was performed."""
-        last = max((number for number, line in enumerate(lines) if is_action(line)), default=None)
+        acting = (number for number, line in enumerate(lines) if not has_no_answer(line) and line.upper().split()[:1] != ["DUMP"])
+        last = max(acting, default=None)
         for number, line in enumerate(lines):
             if stops(number, len(lines)):
                 self.look_again()
@@ -151,17 +142,15 @@ class LoggedSession:
 
     # ---- the file of what was sent
 
-    def note(self):
-        """Returns a line that says how the session was begun, if a note can say it."""
-        note, options = "* A session of panel.", self.simulator.words[1:]
-        whole = " ".join([note, "Its options:", *options])
-        return whole if options and whole.isascii() and has_no_answer(whole) else note
-
     def save(self, path, over=False):
-        """Writes all that was sent into a file, a script that gives the same session again."""
+        """Writes all that was sent into a file, a script that gives the same session again. It begins with the options, if a note can say
+        them."""
         if over and os.path.exists(path) and not os.path.isfile(path):  # a FIFO would wait for a reader
             raise Failure(f"can't write {path}: it is not a file")
-        text = "".join(f"{line}\n" for line in [self.note(), *self.sent]).encode("latin-1")
+        options = self.simulator.words[1:]
+        note = " ".join(["* A session of panel.", *(["Its options:", *options] if options else [])])
+        note = note if note.isascii() and has_no_answer(note) else "* A session of panel."
+        text = "".join(f"{line}\n" for line in [note, *self.sent]).encode("latin-1")
         try:
             with open(path, "wb" if over else "xb") as file:
                 file.write(text)

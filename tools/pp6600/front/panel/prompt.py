@@ -30,9 +30,9 @@ class Prompt:
             return
         text, before, after = self.text, self.text[:self.place], self.text[self.place:]
         typed = before + key if len(key) == 1 else before
-        parts = {"Left": (before[:-1], before[-1:] + after), "Right": (before + after[:1], after[1:]), "Home": ("", text), "End": (text, ""),
-                 "Backspace": (before[:-1], after), "Delete": (before, after[1:]), "Ctrl-U": ("", after), "Ctrl-K": (before, ""),
-                 "Ctrl-W": (LAST_WORD.sub("", before), after)}
+        parts = {"Left": (before[:-1], before[-1:] + after), "Right": (before + after[:1], after[1:]), "Home": ("", text),
+                 "End": (text, ""), "Backspace": (before[:-1], after), "Delete": (before, after[1:]), "Ctrl-U": ("", after),
+                 "Ctrl-K": (before, ""), "Ctrl-W": (LAST_WORD.sub("", before), after)}
         before, after = parts.get(SAME.get(key, key), (typed, after))
         self.lines[self.at], self.place = before + after, len(before)
 

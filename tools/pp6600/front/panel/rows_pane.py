@@ -53,9 +53,7 @@ class Notes:
         return self.at.get(address, []) + (self.before[line.row] if begins(line) else [])
 
 
-@functools.lru_cache(maxsize=None)
-def notes_of(source):
-    return Notes(source.program.rows)
+notes_of = functools.lru_cache(maxsize=None)(lambda source: Notes(source.program.rows))
 
 
 def begins(line):
@@ -108,8 +106,8 @@ class Cells:
 # ---- the lines of the pane
 
 def cells_line(shown, row):
-    """Returns the beginning of the line of a row: > for the cell at P, r where a block transfer goes on, or w for a watched cell; the address,
-    and the words."""
+    """Returns the beginning of the line of a row: > for the cell at P, r where a block transfer goes on, or w for a watched cell; the
+    address, and the words."""
     number, cells = shown.view.processor, shown.view.rows
     is_watched = any(map(row.has, shown.state.watched_cells(number)))
     sign = ">" if row.address == cells.processor.p else "r" if row.address == cells.back else "w" if is_watched else " "
@@ -137,13 +135,8 @@ def source_line(shown, entry, width):
     line = (MarkedLine() if entry.note else cells_line(shown, entry.row)).fit(TEXT_FROM)
     line.add(f"{'>' if mark else ' '}{source.number:{notes_of(cells.source).digits}}{'+' if source.call else ' '}", mark)
     room = width - len(line.text) - len(note)
-    return line.add_line(MarkedLine(text, mark).fit(min(len(text), room))).add(note, OVERWRITTEN if cell and cell.second is not None else None)
-
-
-def entry_line(shown, entry, width):
-    """Returns the line of an entry."""
-    is_source = entry.note or entry.line and entry.line.is_there
-    return (source_line(shown, entry, width) if is_source else instruction_line(shown, entry)).fit(width)
+    has_other_word = cell and cell.second is not None
+    return line.add_line(MarkedLine(text, mark).fit(min(len(text), room))).add(note, OVERWRITTEN if has_other_word else None)
 
 
 def head_line(shown):
@@ -158,7 +151,9 @@ def head_line(shown):
 def rows_pane(shown, count, width):
     """Returns so many lines of the memory by rows, around P or the cursor, below a head."""
     entries, _ = shown.view.rows.window(shown.view.top_of_rows, shown.view.cell, count)
-    return [head_line(shown).fit(width), *(entry_line(shown, entry, width) for entry in entries)]
+    lines = (source_line(shown, entry, width) if entry.note or entry.line and entry.line.is_there else instruction_line(shown, entry)
+             for entry in entries)
+    return [line.fit(width) for line in (head_line(shown), *lines)]
 
 
 def sentence_line(shown):

@@ -4,7 +4,7 @@ import textwrap
 from typing import NamedTuple, Optional, Sequence
 
 from ...language.names import AllSymbols
-from ...run.forms import CELLS, ROW, Place
+from ...run.forms import CELLS, PROCESSORS, ROW, Place
 from ...run.state import State
 from .rows_pane import WIDTH, rows_pane, sentence_line
 from .text import CHANGED, CHOSEN, CURSOR, HEAD, HERE, REFUSED, SLOT, TITLE, WATCHED, MarkedLine, beside, in_height
@@ -74,7 +74,6 @@ def layout(columns, rows, is_by_rows=False):
 
 # ---- the parts of the machine
 
-
 def is_idle(now, was, number):
     """Returns whether a processor only passed through words 0000 between two states. The clock grows by 1 in a round, so that
     it and the slot say how many turns the processor had."""
@@ -98,11 +97,6 @@ def processor_line(shown, number):
     for register in ("A", "Q", "PHASE"):
         shown.add(line, register, number)
     return line.add(f"  {now.waits_for(state.states())}")
-
-
-def processor_lines(shown):
-    head = MarkedLine(" PP P    AT P          A      Q    PHASE  WAITS FOR", HEAD)
-    return [head] + [processor_line(shown, number) for number in range(len(shown.state.processors))]
 
 
 def channel_part(shown, number):
@@ -156,11 +150,6 @@ def central_line(shown, address):
     return MarkedLine(f"{address:06o}").add("*" if changed else "w" if WATCHED in marks else " ", changed).add(now, changed, *marks)
 
 
-def central_lines(shown, rows):
-    top = central_top(shown.view.central_top, shown.view.word, rows, shown.size)
-    return [MarkedLine("CENTRAL MEMORY", HEAD)] + [central_line(shown, top + row) for row in range(rows)]
-
-
 def machine_lines(shown, rows, width):
     """Returns processors, channels, devices, and so many rows of memory: that of the chosen processor with central memory beside it, or a
     source in the whole width."""
@@ -169,13 +158,15 @@ def machine_lines(shown, rows, width):
         memory = rows_pane(shown, rows, width)
     else:
         cells = rows_pane(shown, rows, WIDTH) if view.is_by_rows else memory_lines(shown, rows)
-        memory = beside(cells, central_lines(shown, rows), CENTRAL_FROM)
-    upper = beside(processor_lines(shown), channel_lines(shown), CHANNELS_FROM)
-    return upper + memory + ([sentence_line(shown)] if view.is_by_rows else [])
+        top = central_top(view.central_top, view.word, rows, shown.size)
+        central = [MarkedLine("CENTRAL MEMORY", HEAD), *(central_line(shown, top + row) for row in range(rows))]
+        memory = beside(cells, central, CENTRAL_FROM)
+    processors = [processor_line(shown, number) for number in range(PROCESSORS)]
+    head = MarkedLine(" PP P    AT P          A      Q    PHASE  WAITS FOR", HEAD)
+    return beside([head, *processors], channel_lines(shown), CHANNELS_FROM) + memory + ([sentence_line(shown)] if view.is_by_rows else [])
 
 
 # ---- watches, paper and the lines typed
-
 
 def watch_parts(shown):
     """Returns each watched place with its number."""
@@ -228,7 +219,6 @@ def log_lines(log):
 
 
 # ---- the whole screen
-
 
 def title_line(shown, width):
     """Returns the line at the top."""

@@ -1,4 +1,4 @@
-"""The terminal of the panel: keys in, screens out. All that is shown and all that a key does is decided elsewhere."""
+"""The terminal of the panel: keys in, screens out. All that is shown and all that a key does the panel decides."""
 
 import curses
 import functools
@@ -18,12 +18,12 @@ from .text import CHANGED, CHOSEN, CURSOR, CUT, CUT_IN_ASCII, HEAD, HERE, OVERWR
 ESCAPE_DELAY = 20  # milliseconds in which the rest of a key's sequence comes
 IN_ASCII = {ord(CUT): CUT_IN_ASCII, **dict.fromkeys(range(BRAILLE, BRAILLE + 0o400), ".")}
 BETWEEN_DRAWINGS = 0.03  # seconds, while more keys are waiting
-CODES = {
-    curses.KEY_UP: "Up", curses.KEY_DOWN: "Down", curses.KEY_LEFT: "Left", curses.KEY_RIGHT: "Right",
-    curses.KEY_PPAGE: "Page Up", curses.KEY_NPAGE: "Page Down", curses.KEY_HOME: "Home", curses.KEY_END: "End",
-    curses.KEY_BTAB: "Shift-Tab", curses.KEY_BACKSPACE: "Backspace", curses.KEY_DC: "Delete", curses.KEY_ENTER: "Enter",
-    8: "Backspace", 9: "Tab", 10: "Enter", 13: "Enter", 27: "Escape", 127: "Backspace"}
-FIRST_CODE = 256  # of keys that are no characters
+# The names of keys by their codes: of characters, and of keys that curses knows.
+KEYS = {**{code: f"Ctrl-{chr(code + 64)}" for code in range(1, 32)}, **{code: chr(code) for code in range(32, 256)},
+        curses.KEY_UP: "Up", curses.KEY_DOWN: "Down", curses.KEY_LEFT: "Left", curses.KEY_RIGHT: "Right",
+        curses.KEY_PPAGE: "Page Up", curses.KEY_NPAGE: "Page Down", curses.KEY_HOME: "Home", curses.KEY_END: "End",
+        curses.KEY_BTAB: "Shift-Tab", curses.KEY_BACKSPACE: "Backspace", curses.KEY_DC: "Delete", curses.KEY_ENTER: "Enter",
+        8: "Backspace", 9: "Tab", 10: "Enter", 13: "Enter", 27: "Escape", 127: "Backspace"}
 SUSPEND, REDRAW, INTERRUPT, RESIZE = "Ctrl-Z", "Ctrl-L", "Ctrl-C", "Resize"
 OF_TERMINAL = (SUSPEND, REDRAW, RESIZE)  # keys that the panel does not know
 # The keys that signals are as; others end the panel.
@@ -35,15 +35,6 @@ LOOKS = {TITLE: curses.A_REVERSE, HEAD: curses.A_BOLD, SLOT: curses.A_BOLD, CHOS
 COLOURS = {SLOT: (curses.COLOR_GREEN, curses.A_BOLD), HERE: (curses.COLOR_GREEN, curses.A_BOLD), CHANGED: (curses.COLOR_RED, curses.A_BOLD),
            REFUSED: (curses.COLOR_RED, curses.A_BOLD), HEAD: (curses.COLOR_CYAN, curses.A_BOLD),
            OVERWRITTEN: (curses.COLOR_YELLOW, curses.A_NORMAL)}
-
-
-def key_name(code):
-    """Returns the name of a key of curses; None if it has none here."""
-    if code in CODES:
-        return CODES[code]
-    if 0 < code < 32:
-        return f"Ctrl-{chr(code + 64)}"
-    return chr(code) if 32 <= code < FIRST_CODE else None
 
 
 def check():
@@ -61,10 +52,15 @@ def check():
 
 
 class Terminal:
-    """A terminal under curses. Use it in a `with` statement, which puts the terminal back whatever happens."""
+    """A terminal under curses, with a panel. Use it in a `with` statement, which puts the terminal back whatever happens."""
+
+    def __init__(self, panel):
+        self.panel = panel
+        self.signalled, self.pending = [], []  # keys of signals, and keys that are still to be performed
+        self.drawn = 0.0
+        panel.is_stopped, panel.show = self.is_stopped, self.draw
 
     def __enter__(self):
-        self.signalled = []  # keys
         self.reading, self.writing = os.pipe()
         for end in (self.reading, self.writing):
             os.set_blocking(end, False)
@@ -100,8 +96,8 @@ class Terminal:
         signal.signal(signal.SIGTSTP, self.take_signal)
         self.window.refresh()
 
-    def take_size(self):
-        """Tells curses the terminal's columns and rows, and returns them. All is drawn anew then."""
+    def resize(self):
+        """Tells curses and the panel the terminal's columns and rows. All is to be drawn anew then."""
         try:
             size = os.get_terminal_size(sys.stdout.fileno())
         except OSError as error:
@@ -109,17 +105,19 @@ class Terminal:
         columns, rows = size.columns or 80, size.lines or 24
         curses.resizeterm(rows, columns)
         self.window.clear()
-        return columns, rows
+        self.panel.resize(columns, rows)
 
     # ---- out
 
-    def draw(self, screen):
+    def draw(self):
+        screen = self.panel.screen()
         self.window.erase()
         for row, line in enumerate(screen.lines):
             self.draw_line(row, line)
         with suppress(curses.error):  # the terminal has just become smaller
             self.window.move(*screen.cursor)
         self.window.refresh()
+        self.drawn = time.monotonic()
 
     def draw_line(self, row, line):
         """Draws a line. A part of it has the looks of all its marks."""
@@ -132,35 +130,57 @@ class Terminal:
 
     # ---- in
 
-    def keys(self, seconds):
-        """Returns the names of the keys that come in so many seconds (None: however long), or an empty list."""
+    def run(self):
+        """Performs keys until one ends the panel. While more of them wait, not every state is drawn."""
+        self.draw()
+        while not self.panel.is_ended:
+            self.take_keys(None)
+            while self.pending and not self.panel.is_ended:
+                self.panel.press(self.pending.pop(0))
+                self.take(self.typed_keys())
+                if not self.pending or time.monotonic() - self.drawn > BETWEEN_DRAWINGS:
+                    self.draw()
+
+    def take_keys(self, seconds):
+        """Takes the keys that come in so many seconds (None: however long)."""
         keys = self.typed_keys()
         if not keys:
             self.wait(seconds)
-            keys = self.typed_keys()
-        return keys
+        self.take(keys or self.typed_keys())
 
     def typed_keys(self):
         """Returns the keys that were typed so far, those of signals first."""
         keys, self.signalled = self.signalled, []
         while (code := self.window.getch()) != -1:
-            keys.append(key_name(code))
-        return list(filter(None, keys))
+            keys += [KEYS[code]] if code in KEYS else []
+        return keys
+
+    def take(self, keys):
+        """Performs those keys that are the terminal's own, and keeps the others."""
+        self.pending += [key for key in keys if key not in OF_TERMINAL]
+        if SUSPEND in keys:
+            self.suspend()
+        if not set(OF_TERMINAL).isdisjoint(keys):
+            self.resize()
+            self.draw()
+
+    def is_stopped(self):
+        """Returns whether Ctrl-C was typed while the simulator is busy; keeps the other keys."""
+        self.take_keys(0)
+        is_stopped = INTERRUPT in self.pending
+        self.pending = [] if is_stopped else self.pending
+        return is_stopped
 
     def wait(self, seconds):
         """Waits for a key or a signal."""
-        ready, _, _ = select.select([sys.stdin.fileno(), self.reading], [], [], seconds)
+        poll = select.poll()
+        for number in (sys.stdin.fileno(), self.reading):
+            poll.register(number, select.POLLIN)
+        ready = dict(poll.poll(None if seconds is None else 1000 * seconds))
         if self.reading in ready:
             os.read(self.reading, 4096)
-        if sys.stdin.fileno() in ready and is_hung_up(sys.stdin.fileno()):
+        if ready.get(sys.stdin.fileno(), 0) & (select.POLLHUP | select.POLLERR | select.POLLNVAL):  # it was closed at its other end
             raise Failure("the terminal is gone")
-
-
-def is_hung_up(number):
-    """Returns whether a terminal was closed at its other end."""
-    poll = select.poll()
-    poll.register(number, select.POLLIN)
-    return any(events & (select.POLLHUP | select.POLLERR | select.POLLNVAL) for _, events in poll.poll(0))
 
 
 def looks():
@@ -189,51 +209,9 @@ def has_colours():
     return curses.has_colors() and curses.COLORS >= 8
 
 
-class Loop:
-    """The loop between a terminal and a panel."""
-
-    def __init__(self, terminal, panel):
-        self.terminal, self.panel = terminal, panel
-        self.pending = []  # keys that are still to be performed
-        self.drawn = 0.0
-        panel.is_stopped, panel.show = self.is_stopped, self.draw
-
-    def run(self):
-        """Performs keys until one ends the panel. While more of them wait, not every state is drawn."""
-        self.draw()
-        while not self.panel.is_ended:
-            self.take(self.terminal.keys(None))
-            while self.pending and not self.panel.is_ended:
-                self.panel.press(self.pending.pop(0))
-                self.take(self.terminal.typed_keys())
-                if not self.pending or time.monotonic() - self.drawn > BETWEEN_DRAWINGS:
-                    self.draw()
-
-    def take(self, keys):
-        """Performs those keys that are the terminal's own, and keeps the others."""
-        self.pending += [key for key in keys if key not in OF_TERMINAL]
-        if SUSPEND in keys:
-            self.terminal.suspend()
-        if not set(OF_TERMINAL).isdisjoint(keys):
-            self.panel.resize(*self.terminal.take_size())
-            self.draw()
-
-    def draw(self):
-        self.terminal.draw(self.panel.screen())
-        self.drawn = time.monotonic()
-
-    def is_stopped(self):
-        """Returns whether Ctrl-C was typed while the simulator is busy; keeps the other keys."""
-        self.take(self.terminal.keys(0))
-        is_stopped = INTERRUPT in self.pending
-        self.pending = [] if is_stopped else self.pending
-        return is_stopped
-
-
 def run(panel, script, turn=None):
     """Shows a panel that performs a script, goes to a turn, and then performs keys."""
-    with Terminal() as terminal:
-        panel.resize(*terminal.take_size())
-        loop = Loop(terminal, panel)
+    with Terminal(panel) as terminal:
+        terminal.resize()
         panel.perform_script(script, turn)
-        loop.run()
+        terminal.run()

@@ -40,8 +40,8 @@ class View:
     @property
     def cursor(self):
         """The place of the cursor."""
-        return {"processors": Place(self.register, (self.processor,)), "channels": Place("H", (self.channel,)),
-                "memory": Place("M", (self.processor, self.cell)), "central": Place("C", (self.word,))}[self.pane]
+        return Place(*{"processors": (self.register, (self.processor,)), "channels": ("H", (self.channel,)),
+                       "memory": ("M", (self.processor, self.cell)), "central": ("C", (self.word,))}[self.pane])
 
     def place(self):
         """Returns the place of the cursor, as the lines of the console have it."""
@@ -60,21 +60,10 @@ class View:
         panes = PANES if self.shows_central else PANES[:-1]
         self.pane = panes[(panes.index(self.pane) + steps) % len(panes)]
 
-    def follow(self):
-        self.following = True
-
-    def toggle_program(self):
-        """Shows the cells as instructions, or as numbers again."""
-        self.as_program = self.source is not None or not self.as_program
-        self.leave_source()
-
-    def toggle_display_code(self):
-        """Shows the cells as instructions, with display code or without."""
-        self.has_display_code = not self.has_display_code
-        self.as_program = True
-        self.leave_source()
-
-    def leave_source(self):
+    def toggle_program(self, is_display_code=False):
+        """Shows the cells as instructions, or as numbers again; or as instructions, with display code or without."""
+        self.has_display_code ^= is_display_code
+        self.as_program = is_display_code or self.source is not None or not self.as_program
         if self.source is not None:
             self.as_source, self.source = False, None
 
@@ -98,11 +87,9 @@ class View:
             self.go_to_cell(self.cell + (steps if is_across else down * ROW))
         elif self.pane == "central":
             self.word = max(min(self.word + (steps * ROW if is_across else down), size - 1), 0)
-        elif self.pane == "channels" and not is_across:
-            self.channel = (self.channel + steps) % (CLOCK + 1)
-        elif self.pane == "channels":  # to the other column, if there is a channel
-            channel = self.channel + steps * CHANNELS_IN_COLUMN
-            self.channel = channel if 0 <= channel <= CLOCK else self.channel
+        elif self.pane == "channels":  # across to the other column, if there is a channel
+            channel = self.channel + steps * (CHANNELS_IN_COLUMN if is_across else 1)
+            self.channel = self.channel if is_across and not 0 <= channel <= CLOCK else channel % (CLOCK + 1)
         elif is_across:
             self.register = REGISTERS[(REGISTERS.index(self.register) + steps) % len(REGISTERS)]
         else:
