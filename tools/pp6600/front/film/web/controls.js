@@ -267,7 +267,9 @@ const HANDLERS = {
 };
 
 // The same of the page as a whole.
+const hold = ({ buttons }) => { engine.isHeld = buttons > 0; };
 const LISTENERS = {
+  pointerdown: hold, pointermove: hold, pointerup: hold, pointercancel: hold,
   resize: show, beforeprint: show, afterprint: show, hashchange: followAddress, keydown: pressed,
   dragover: (event) => event.preventDefault(), drop: takeFiles,
   dblclick: ({ target }) => target.closest("button.number") && edit(),
@@ -281,9 +283,6 @@ function build() {
     }
   }
   for (const [kind, act] of Object.entries(LISTENERS)) window.addEventListener(kind, act);
-  for (const kind of ["pointerdown", "pointermove", "pointerup", "pointercancel"]) {
-    window.addEventListener(kind, (event) => { engine.isHeld = event.buttons > 0; }, true);
-  }
   fillSelect("memory-of", ["", ...range(PROCESSORS).map((n) => `PP ${two(n)}`)], ["", ...range(PROCESSORS)]);
   for (const part of [buildKeys, buildSource, buildExercises, buildMeanings, buildAssembler, showFiles, placeSections]) part();
   for (const box of document.querySelectorAll(".wide")) {

@@ -23,8 +23,7 @@ const REGISTERS = [layout.P, layout.A, layout.Q, layout.phase];
 const register = (processor, index) => REGISTERS[index] + processor; // P, A, Q, phase
 
 const isFrame = (place) => place >= layout.frame && place < layout.reader;
-const isCentral = (place) => place >= layout.central && place < layout.high;
-const isWord = (place) => isFrame(place) || isCentral(place); // whether its number has 60 bits
+const isWord = (place) => isFrame(place) || (place >= layout.central && place < layout.high); // whether its number has 60 bits
 const isUpper = (place) => place >= layout.high && place < layout.deck;
 const upperOf = (place) => layout.high + (isFrame(place) ? place - layout.frame : FRAME_WORDS + place - layout.central);
 const wordOfUpper = (place) => (place - layout.high < FRAME_WORDS ? layout.frame + place - layout.high : place - FRAME_WORDS - layout.size);

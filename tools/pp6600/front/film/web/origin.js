@@ -19,8 +19,7 @@ function writesOf(moment) {
 // Whether a device changed a place in a turn, and not the processor.
 const isByDevice = (moment, place) => writesOf(moment).some((write) => write.place === place && write.what & BY_DEVICE);
 
-// The latest write of a place in effect at a moment, and its moment; null for the clock. The moment is 0 if nothing wrote it, and -1 if what
-// wrote it may be in turns that were not recorded.
+// The latest write of a place in effect at a moment (null of the clock), and its moment: 0 if none, -1 if it may be in skipped turns.
 function lastWrite(place, moment) {
   const { writeStarts, writes } = film;
   let at = resolve(moment);
@@ -44,8 +43,7 @@ function sourcesOf({ place, what, sources }, wanted) {
 const isTurnStep = ({ moment, write }) => moment > 0 && isTurn(moment) && write !== null;
 const isDevice = (step) => isTurnStep(step) && (step.write.what & BY_DEVICE) !== 0;
 
-// Whether the write before it of its place was by the same instruction, which computes the place from itself alone; in a block transfer by
-// a turn of the same one. Returns it, or null.
+// The write before it, if by the same instruction (in a block, of the same one), which computes the place from itself alone; or null.
 function isAgain({ moment, write }) {
   const isComputed = (step) => isTurnStep(step) && !(step.write.what & (MOVED | BY_DEVICE));
   const isOfItself = write && write.sources.length === 1 && write.sources[0].place === write.place;

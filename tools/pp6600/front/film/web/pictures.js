@@ -1,7 +1,5 @@
 // ---- what devices of one's own show in the script of the file, at each of its moments
 
-const pictures = []; // of each device the description of what is seen, and its text
-
 // Whether a script begins with the one whose pictures are in this file.
 const hasPictures = (script) => Boolean(engine.about.pictures)
   && script.startsWith(filesOf(engine.about).script.slice(0, engine.about.pictures.script));
@@ -14,11 +12,10 @@ function showPictures() {
   document.body.style.setProperty("--pictures", film.pictures.devices.length);
   const moment = resolve(film.at), isOwn = hasPictures(engine.given.script), isBeyond = isOwn && moment >= film.pictures.moments;
   const why = !isOwn ? "it is known for the script of the file alone" : isBeyond ? "this is what it showed at the end of the script" : "";
-  fill(byId("pictures"), film.pictures.devices.map(({ name, channel, shown: all }, at) => {
+  fill(byId("pictures"), film.pictures.devices.map(({ name, channel, shown: all }) => {
     const [, seen] = (isOwn && all.findLast(([from]) => from <= moment)) || [0, []];
-    const html = seen.map((line) => film.pictures.lines[line]).join("");
-    if (!pictures[at] || pictures[at].html !== html) pictures[at] = { html, picture: make("div", { innerHTML: html }) };
     return make("figure", {}, make("figcaption", {}, `${name} on channel ${two(channel)}`),
-      make("p", {}, why && `this page has no ${name}: ${why}`), pictures[at].picture);
+      make("p", {}, why && `this page has no ${name}: ${why}`),
+      make("div", { innerHTML: seen.map((line) => film.pictures.lines[line]).join("") }));
   }));
 }

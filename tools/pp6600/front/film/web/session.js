@@ -36,8 +36,7 @@ class Tape {
 }
 
 class Session {
-  // `control` has pause(), which waits until messages were taken, and then whether to stop: isStopped(). `wanted` are parts of the tape,
-  // each a first and a last position, that are recorded also in a long STEP.
+  // `control` has pause(), which lets messages come, and isStopped(). `wanted` are first and last positions that a long STEP records too.
   constructor(calls, about, control, wanted = []) {
     Object.assign(this, { calls, about, control, wanted });
     turning.open(about);

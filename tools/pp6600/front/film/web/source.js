@@ -24,8 +24,7 @@ function buildSource() {
 
 // ---- words
 
-// Makes the tables of a source from its words, each with its line, its location, its origin, its number in the line, itself, and if an
-// instruction begins there that has two words the second one, else null.
+// Makes the tables of a source from its words, each with its line, location, origin, number in the line, itself, and second word or null.
 function indexOfWords(words) {
   const made = { atLocation: new Map(), atOrigin: new Map(), ofLine: new Map() };
   const add = (map, key, word) => map.set(key, [...(map.get(key) || []), word]);
