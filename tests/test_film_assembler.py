@@ -85,7 +85,7 @@ class InBrowser(PageCase):
         self.browser.click("#load-source")
         self.browser.wait_for("film.sources && film.sources[2]")
         self.browser.wait_for("!engine.isBusy")
-        script = self.value("ask('script').then(({ script }) => script)")
+        script = self.value("givenNow().script")
         self.assertEqual("STEP 3\nSET M 2 100 1405 3420 300\nSET P 2 100\n", script)
         self.assertIn("START", self.value("document.querySelector('#source .present').textContent"))
         self.value("engine.act(['STEP 24'])")

@@ -16,7 +16,7 @@ from ...language.display_code import SYMBOLS
 from ...language.names import AllSymbols
 from ...language.sources import Source, words_of
 from ...language.source.statements import TAB
-from ...run import sentences
+from ...run import conditions, sentences
 from ...run.forms import MODES
 from ...run.turn import (
     AT_END_OF_BLOCK, AT_END_OF_INPUT, IN_BLOCK, INSTRUCTIONS, NAMES, RELATIVE_JUMPS, STATE_LETTERS, TWO_WORDS, WAITS_FOR)
@@ -65,7 +65,7 @@ def tables() -> Dict[str, Any]:
             "modes": {"reader": MODES["CR MODE"], "printer": MODES["LP MODE"]},
             "states": [(letter, name) for name, letter in STATE_LETTERS.items()], "waits_for": WAITS_FOR,
             "table": INSTRUCTIONS, "blocks": IN_BLOCK, "ends": {"block": AT_END_OF_BLOCK, "input": AT_END_OF_INPUT},
-            "meanings": meanings(), "keys": for_page(),
+            "meanings": meanings(), "keys": for_page(), "condition": conditions.FORM,
             "sentences": {"of": {code.rjust(2, "0") if code[0] != "b" else f"b{code[1:]:>02}": rows
                                  for code, rows in sentences.ROWS.items()},
                           "waits": sentences.WAITS, "waits_ever": sentences.WAITS_EVER}}

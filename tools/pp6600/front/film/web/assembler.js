@@ -115,7 +115,9 @@ async function loadTyped() {
   if (!(await engine.act(calls.written("load_lines", text, n).lines))) return;
   engine.about.sources = film.sources = { ...film.sources, [n]: sourceOf(name, lines, rows) };
   engine.about.labels = film.labels = { ...film.labels, [n]: labels };
-  rebuildSource(n);
+  buildSource();
+  growSource(0);
   placeSections();
+  source.processor = n;
   chooseMemory(n);
 }

@@ -1,7 +1,6 @@
 // ---- the barrel: the ten processors around the slot, the channels with their devices, and what the action of this moment did
 
-// Lengths in heights of a letter: the radius of a processor's circle, a channel's box, how far apart two of them are, and how far at most
-// from the ring.
+// Lengths in heights of a letter: the radius of a circle and of the ring, a channel's box, and how far boxes are apart and from the ring.
 const CIRCLE = 2.2, RING = 7.3, BOX_WIDTH = 7.6, BOX_HEIGHT = 1.75, BOX_APART = 2, BELOW_BOX = 1.2, FROM_RING = 10, LETTER = 0.6;
 const STATE_CLASSES = ["inactive", "empty", "full", "function"];
 const barrel = { folded: false, all: [], channels: [], used: new Set() }; // channels: those of all used ones that have room
@@ -69,8 +68,6 @@ function boxOf(c, { width, height, boxes, cx, rx }) {
 
 // ---- the drawing
 
-const shape = (kind, properties, ...parts) => make(kind, { class: "", ...properties }, ...parts);
-
 function showBarrel() {
   const svg = byId("barrel-picture");
   byId("barrel-fold").setAttribute("aria-expanded", !barrel.folded);
@@ -82,10 +79,10 @@ function showBarrel() {
   const words = { height: height * unit, viewBox: `0 0 ${width * unit} ${height * unit}`, "aria-label": barrelText() };
   for (const [name, value] of Object.entries(words)) svg.setAttribute(name, value);
   fill(svg, make("g", { transform: `scale(${unit})` },
-    shape("rect", { x: cx - rx, y: cy - ry, width: 2 * rx, height: 2 * ry, rx: ry, class: "ring" }), make("g", {}, linesOfBarrel(sizes)),
+    make("rect", { x: cx - rx, y: cy - ry, width: 2 * rx, height: 2 * ry, rx: ry, class: "ring" }), make("g", {}, linesOfBarrel(sizes)),
     range(PROCESSORS).map((n) => circleOf(n, sizes)), make("g", {}, middleOf(sizes)), markOfSlot(numberOf("SLOT"), sizes),
     barrel.channels.map((c) => channelBox(c, boxOf(c, sizes))),
-    left ? shape("text", { x: width - BOX_WIDTH / 2, y: (height + sizes.boxes) / 2 + 1 }, `${octal(left)} more`) : null));
+    left ? make("text", { x: width - BOX_WIDTH / 2, y: (height + sizes.boxes) / 2 + 1 }, `${octal(left)} more`) : null));
 }
 
 // A circle names what its processor did in the turn of this moment; else what it does next.
@@ -94,28 +91,28 @@ function circleOf(n, sizes) {
   const kind = classes({ processor: true, acted, waits: next.waits, quiet: lanes.all[n].quiet });
   const texts = [[two(n), -0.75, ""], [(acted ? turnOf(film.at) : next).name.slice(0, 3), 0.4, "strong"],
     [four(acted ? film.p[film.at] : numberOf("P", n)), 1.5, ""]];
-  return shape("g", { class: kind, transform: `translate(${x} ${y})`, "data-processor": n, onclick: () => chooseMemory(n) },
-    make("circle", { r: CIRCLE }), texts.map(([text, down, name]) => shape("text", { y: down, class: name }, text)));
+  return make("g", { class: kind, transform: `translate(${x} ${y})`, "data-processor": n, onclick: () => chooseMemory(n) },
+    make("circle", { r: CIRCLE }), texts.map(([text, down, name]) => make("text", { y: down, class: name }, text)));
 }
 
 // The mark of the processor whose turn comes next, at the inner side of its circle.
 function markOfSlot(n, sizes) {
   const { x, y } = processorAt(n, sizes), degrees = Math.atan2(sizes.cy - y, sizes.isFlat && n % 5 ? 0 : sizes.cx - x) * 180 / Math.PI;
   const transform = `translate(${x} ${y}) rotate(${degrees})`;
-  return shape("path", { class: "slot", d: `M ${CIRCLE + 0.15} 0 l 0.55 -0.45 v 0.9 Z`, transform, "data-processor": n });
+  return make("path", { class: "slot", d: `M ${CIRCLE + 0.15} 0 l 0.55 -0.45 v 0.9 Z`, transform, "data-processor": n });
 }
 
 // The middle of the ring: the action, what it was, and the first cell or word that it changed.
 function middleOf({ cx, cy, isFlat }) {
   const lines = middleLines(isFlat), step = lines.length > 4 ? 1.15 : 1.3, first = cy + 0.35 - ((lines.length - 1) / 2) * step;
-  return lines.map((text, at) => shape("text", { x: cx, y: first + at * step, class: at ? "middle" : "middle strong" }, text));
+  return lines.map((text, at) => make("text", { x: cx, y: first + at * step, class: at ? "middle" : "middle strong" }, text));
 }
 
 // After a turn also A and Q of its processor. A flat ring has room for longer lines.
 function middleLines(isFlat) {
   const change = changesOf(film.at).find(({ name }) => /^(M|C|XP) /.test(name)), kind = film.kinds[film.at];
   const changed = change ? [change.name, change.name[0] === "M" ? change.text : "another word"] : [];
-  if (kind === SKIP) return [`${octal(film.skips.get(film.at))} turns`, "not filmed"];
+  if (kind === SKIP) return [`${octal(turnsIn(film.at))} turns`, "not filmed"];
   if (!isTurn(film.at)) return [inShort(film.at ? lineText(film.at) : "the beginning", 17), ...changed];
   const { name, isBlock } = turnOf(film.at), n = film.processor[film.at];
   const registers = ["A", "Q"].map((one) => `${one} ${textAt(placeWith(one, n))}`);
@@ -131,10 +128,10 @@ function channelBox(c, { x, y }) {
   const state = channelState(c), word = placeWith("H", c);
   const did = c < CHANNELS && [word.places[0], layout.states + c].some((place) => isByDevice(film.at, place));
   const kind = classes({ channel: true, [STATE_CLASSES[state]]: true, changed: hasChanged(c) });
-  return shape("g", { class: kind, transform: `translate(${x} ${y})`, "data-channel": c, onclick: () => choose(word) },
-    make("rect", { width: BOX_WIDTH, height: BOX_HEIGHT, rx: BOX_HEIGHT / 2 }), shape("text", { x: 2.1, y: 1.27 }, `H ${two(c)}`),
-    shape("text", { x: 5.4, y: 1.27, class: "strong" }, state > 1 ? textAt(word) : state ? "empty" : ""),
-    shape("text", { x: BOX_WIDTH / 2, y: BOX_HEIGHT + 1, class: did ? "acted" : "" }, deviceOf(c)));
+  return make("g", { class: kind, transform: `translate(${x} ${y})`, "data-channel": c, onclick: () => choose(word) },
+    make("rect", { width: BOX_WIDTH, height: BOX_HEIGHT, rx: BOX_HEIGHT / 2 }), make("text", { x: 2.1, y: 1.27 }, `H ${two(c)}`),
+    make("text", { x: 5.4, y: 1.27, class: "strong" }, state > 1 ? textAt(word) : state ? "empty" : ""),
+    make("text", { x: BOX_WIDTH / 2, y: BOX_HEIGHT + 1, class: did ? "acted" : "" }, deviceOf(c)));
 }
 
 // A dashed line from each processor that waits to its channel, and a line with the word that this turn moved.
@@ -150,9 +147,9 @@ function linesOfBarrel(sizes) {
   if (!moved) return drawn;
   const { x, y } = boxOf(moved.channel, sizes), transform = `translate(${x - 2.4} ${y + BOX_HEIGHT / 2})`;
   return [...drawn, make("path", { class: "moved", d: lineTo(film.processor[film.at], moved.channel) }),
-    shape("g", { class: "word", transform, "data-channel": moved.channel },
+    make("g", { class: "word", transform, "data-channel": moved.channel },
       make("rect", { x: -1.9, y: -0.85, width: 3.8, height: 1.7, rx: 0.3 }),
-      shape("text", { y: 0.37 }, moved.isOutput ? `${four(moved.word)}→` : `←${four(moved.word)}`))];
+      make("text", { y: 0.37 }, moved.isOutput ? `${four(moved.word)}→` : `←${four(moved.word)}`))];
 }
 
 // The picture in words, for those who do not see it.

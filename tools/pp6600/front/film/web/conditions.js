@@ -1,26 +1,19 @@
 // ---- conditions on the machine, as P 0 = 105 and PP 3 waits: the observer of a simulator that says after each action whether they hold
 
-const FORM_OF_CONDITION = "a condition is PLACE = 105 (also != < > <= >=), PLACE outside 100 117, PLACE inside 100 117, PLACE changes, "
-  + "M 0 100 117 changes, H 12 is F, H 12 changes state, PP 3 waits, PP 3 in a block, PP 3 not in a block or PP 3 returns wrongly; "
-  + "conditions are joined by and";
 const COMPARES = { "=": (a, b) => a === b, "!=": (a, b) => a !== b, "<": (a, b) => a < b, ">": (a, b) => a > b, "<=": (a, b) => a <= b,
   ">=": (a, b) => a >= b, outside: (a, first, last) => a < first || a > last, inside: (a, first, last) => a >= first && a <= last };
-const ignore = () => {};
 
 // The number at a place; one of 60 bits is a BigInt.
 const numberAt = (numbers, place) => (isWord(place) ? (BigInt(numbers[upperOf(place)]) << 30n) | BigInt(numbers[place]) : numbers[place]);
 
-// A test is an observer: begin(n, numbers) before an action, by a processor or by none, tell(place) for each change, and end(n, numbers)
-// after it, which returns whether what is asked for holds. An event holds anew each time. This is whether a number is as it must be.
-const numberTest = (place, isRight) => ({ begin: ignore, tell: ignore, end: (n, numbers) => isRight(numberAt(numbers, place)) });
+// A test is an observer: begin(n, numbers), if it has it, before an action, by a processor or by none, tell(place) for each change, and
+// end(n, numbers) after it, which returns whether what is asked for holds. An event holds anew each time. Here a number is to be right.
+const numberTest = (place, isRight) => ({ end: (n, numbers) => isRight(numberAt(numbers, place)) });
 
-// Whether a number has changed in an action at one of these places, each a first and a last one.
-function changeTest(...places) {
+// Whether a number has changed in an action at a place that is one of those wanted.
+function changeTest(isWanted) {
   let changed;
-  const tell = (place) => {
-    const one = isUpper(place) ? wordOfUpper(place) : place;
-    if (places.some(([first, last]) => one >= first && one <= last)) changed = true;
-  };
+  const tell = (place) => { if (isWanted(isUpper(place) ? wordOfUpper(place) : place)) changed = true; };
   return { isEvent: true, begin: () => { changed = false; }, tell, end: () => changed };
 }
 
@@ -34,10 +27,12 @@ function waitTest(processor) {
   };
 }
 
-// Whether a subroutine of a processor has returned to another address than its return jump stored; entries has the cell of the return
-// address by the address of the jump back.
-function returnTest(processor, entries) {
-  const stored = new Map(), jumpOf = new Map([...entries].map(([jump, cell]) => [cell + 1, jump]));
+// Whether a subroutine has returned to another address than was stored; labels have the jump back with the cell of the return address.
+function returnTest({ n: processor, name, own }) {
+  if (!own || !own.entries.length) {
+    throw new Error(`${name} returns wrongly needs labels of a subroutine: NAMEX, and NAME at the cell after it`);
+  }
+  const entries = new Map(own.entries), stored = new Map(), jumpOf = new Map(own.entries.map(([jump, cell]) => [cell + 1, jump]));
   let one = null;
   const end = (n, numbers) => {
     if (!one || one.phase) return false;
@@ -46,11 +41,10 @@ function returnTest(processor, entries) {
     const wanted = stored.get(p);
     return entries.has(p) && stored.delete(p) && wanted !== now;
   };
-  return { isEvent: true, begin: (n, numbers) => { one = n === processor ? turning.processor(numbers, n) : null; }, tell: ignore, end };
+  return { isEvent: true, begin: (n, numbers) => { one = n === processor ? turning.processor(numbers, n) : null; }, end };
 }
 
-// A condition is one of several lists of tests, and the tests of a list must hold together. As an observer it notes after how many actions
-// one came to hold the first time and the last time.
+// A condition is one of several lists of tests, which hold together. It notes after how many actions one held the first and the last time.
 class Condition {
   constructor(lists) {
     this.lists = lists.map((tests) => ({ tests, holds: false, isEvent: tests.some(({ isEvent }) => isEvent) }));
@@ -67,10 +61,10 @@ class Condition {
 
   begin(n) {
     this.at++;
-    for (const test of this.tests) test.begin(n, this.numbers);
+    for (const test of this.tests) test.begin?.(n, this.numbers);
   }
 
-  tell(place) { for (const test of this.tests) test.tell(place); }
+  tell(place) { for (const test of this.tests) test.tell?.(place); }
 
   end(n) {
     for (const list of this.lists) {
@@ -87,21 +81,23 @@ class Condition {
 
 const PLACE = "(M \\S+ \\S+|[APQCH] \\S+)";
 const FORMS = [
-  ["(PP \\S+) (waits|in a block|not in a block|returns wrongly)", processorTest],
+  ["(PP \\S+) waits", ({ n }) => waitTest(n)], ["(PP \\S+) returns wrongly", returnTest],
+  ["(PP \\S+) (not )?in a block", ({ n }, not) => numberTest(register(n, 3), (phase) => (phase === 0) === Boolean(not))],
   [`${PLACE} (=|!=|<|>|<=|>=) (\\S+)`, compareTest], [`${PLACE} (outside|inside) (\\S+) (\\S+)`, compareTest],
-  ["(M \\S+ \\S+) (\\S+) changes", cellsTest], [`${PLACE} changes`, ({ at }) => changeTest([at, at])],
-  ["(H \\S+) changes state", (place) => changeTest(Array(2).fill(stateOfChannel(place)))], ["(H \\S+) is (\\S+)", stateTest],
+  ["(M \\S+ \\S+) (\\S+) changes", cellsTest], [`${PLACE} changes`, ({ at }) => changeTest((place) => place === at)],
+  ["(H \\S+) changes state", (channel) => { const at = stateOfChannel(channel); return changeTest((place) => place === at); }],
+  ["(H \\S+) is (\\S+)", stateTest],
 ].map(([form, make]) => [new RegExp(`^${form}$`, "i"), make]);
 
-// Conditions of which one must hold are joined by or.
-function parseCondition(text, labels) {
-  const testsOf = (list) => list.split(/\s+and\s+/i).map((part) => parseTest(part.replace(/\s+/g, " "), labels));
+// Conditions of which one must hold are joined by or. `forms` is the sentence about what a condition is.
+function parseCondition(text, labels, forms) {
+  const testsOf = (list) => list.split(/\s+and\s+/i).map((part) => parseTest(part.replace(/\s+/g, " "), labels, forms));
   return new Condition(text.trim().split(/\s+or\s+/i).map(testsOf));
 }
 
-function parseTest(text, labels) {
+function parseTest(text, labels, forms) {
   const [form, make] = FORMS.find(([one]) => one.test(text)) || [];
-  if (!form) throw new Error(FORM_OF_CONDITION);
+  if (!form) throw new Error(forms);
   const [, name, ...words] = form.exec(text), place = placeIn(name.replace(/^PP/i, "P"), labels);
   if (!place) throw new Error(`there is no ${name}`);
   const { kind, numbers, places } = place, own = "MAPQ".includes(kind) ? labels[numbers[0]] : null;
@@ -126,7 +122,7 @@ function compareTest({ at, number }, kind, ...words) {
 function cellsTest({ at, name, number }, word) {
   const last = number(word) - (at % CELLS);
   if (last < 0) throw new Error(`${word} is before the first cell of ${name.toUpperCase()}`);
-  return changeTest([at, at + last]);
+  return changeTest((place) => place >= at && place <= at + last);
 }
 
 function stateOfChannel({ n }) {
@@ -138,12 +134,4 @@ function stateTest(place, letter) {
   const state = ["I", "E", "F", "X"].indexOf(letter.toUpperCase());
   if (state < 0) throw new Error("a channel is I, E, F or X");
   return numberTest(stateOfChannel(place), (now) => now === state);
-}
-
-function processorTest({ n, name, own }, text) {
-  const [first] = text.toLowerCase();
-  if (first === "w") return waitTest(n);
-  if (first !== "r") return numberTest(register(n, 3), (phase) => (phase !== 0) === (first === "i"));
-  if (own && own.entries.length) return returnTest(n, new Map(own.entries));
-  throw new Error(`${name} returns wrongly needs labels of a subroutine: NAMEX, and NAME at the cell after it`);
 }

@@ -31,12 +31,13 @@ function recall(_, event) {
 
 const filesOf = (about) => ({ script: "", deck: "", panel: "", ...Object.fromEntries(about.files.map((file) => [file.kind, file.bytes])) });
 const nameOfSession = () => (exercises.now ? exercises.now.name : "session");
-async function saveScript() { const { script } = await ask("script"); saveBytes(bytesOfText(script), nameOfSession()); }
+const givenNow = () => ({ ...engine.given, script: ofLines(linesToSave()) });
+const saveScript = () => saveBytes(bytesOfText(givenNow().script), nameOfSession());
 
 // The page as one file, with the session so far in it.
 async function saveFilm() {
-  const { script } = await ask("script"), files = [{ kind: "script", name: nameOfSession(), bytes: script }];
-  for (const kind of ["deck", "panel"]) if (engine.given[kind]) files.push({ kind, name: kind, bytes: engine.given[kind] });
+  const { script, ...given } = givenNow(), files = [{ kind: "script", name: nameOfSession(), bytes: script }];
+  for (const kind of ["deck", "panel"]) if (given[kind]) files.push({ kind, name: kind, bytes: given[kind] });
   const about = { ...engine.about, ...engine.given.options, files, again: "", opens: null };
   if (!hasPictures(script)) delete about.pictures;
   const text = await packed(new TextEncoder().encode(JSON.stringify(about)), "deflate");
@@ -47,8 +48,8 @@ async function saveFilm() {
 // Files that are dropped take the place of those of the run: rows of octal numbers are a panel if they are twelve, else a deck.
 async function takeFiles(event) {
   event.preventDefault();
-  const files = [...event.dataTransfer.files], { script } = await ask("script"), given = { ...engine.given, script };
-  for (const file of files) {
+  const given = givenNow();
+  for (const file of [...event.dataTransfer.files]) {
     const text = textOfBytes(new Uint8Array(await file.arrayBuffer())), rows = linesOfOctals(text), words = rows.flat();
     const isNumbers = rows.length > 0 && !words.some(Number.isNaN);
     given[!isNumbers ? "script" : words.length === 12 ? "panel" : "deck"] = text;
@@ -69,7 +70,7 @@ const LONGEST_LINK = 8000;
 const deflated = async (text) => (await packed(bytesOfText(text), "deflate-raw")).replace(/\+/g, "-").replace(/\//g, "_").replace(/=+$/, "");
 
 async function copyLink() {
-  const { script } = await ask("script"), given = { ...engine.given, script }, own = { ...filesOf(engine.about), script: null };
+  const given = givenNow(), own = { ...filesOf(engine.about), script: null };
   const kinds = ["script", "deck", "panel"].filter((kind) => given[kind] !== own[kind]);
   const words = await Promise.all(kinds.map(async (kind) => `${kind}=${await deflated(given[kind])}&`));
   const link = `${location.href.split("#")[0]}#${words.join("")}moment=${octal(film.at)}${placeInAddress()}`;
@@ -88,11 +89,8 @@ async function filesOfAddress(given) {
   const words = new URLSearchParams(location.hash.slice(1)), kinds = ["script", "deck", "panel"].filter((kind) => words.has(kind));
   engine.fragment = kinds.map((kind) => `${kind}=${words.get(kind)}&`).join("");
   for (const kind of kinds) {
-    try {
-      given[kind] = textOfBytes(await inflated(words.get(kind).replace(/-/g, "+").replace(/_/g, "/"), "deflate-raw"));
-    } catch {
-      throw new Error(`the link is cut short: its ${kind} can't be read`);
-    }
+    const cut = () => { throw new Error(`the link is cut short: its ${kind} can't be read`); };
+    given[kind] = textOfBytes(await inflated(words.get(kind).replace(/-/g, "+").replace(/_/g, "/"), "deflate-raw").catch(cut));
   }
   return withExercise(given);
 }
@@ -123,7 +121,4 @@ function restoreKept() {
   beginAnew(engine.kept, "the session of the last time");
 }
 
-async function keepTyped() {
-  const { script } = await ask("script");
-  withStorage((storage) => storage.setItem(keyOfPage(), JSON.stringify({ ...engine.given, script })));
-}
+const keepTyped = () => withStorage((storage) => storage.setItem(keyOfPage(), JSON.stringify(givenNow())));

@@ -56,7 +56,13 @@ function findChange(direction) {
 // ---- the page as a whole
 
 const waiting = []; // what reads the layout of the page, when all is written
-const laidOut = (act) => waiting.push(act);
+
+// Scrolls a box if something else is to be seen in it than the last time, to the height that a function then returns.
+function scrollFor(box, seen, topOf) {
+  if (box.seen !== seen) waiting.push(() => { box.scrollTop = topOf(); });
+  box.seen = seen;
+}
+
 const isOpen = (section) => !byId(section).hidden;
 
 // Shows the moment. Parts that read the layout come last, so that the browser lays the page out once.
@@ -95,8 +101,7 @@ function moveTo(moment) {
 
 const placeInAddress = () => (shown.chosen ? `&place=${shown.chosen.name.replace(/ /g, "+")}` : "");
 
-// Keeps the moment and the chosen place in the address, so that a link leads to them; and fills in what was skipped at the moment. Both
-// wait until nothing was asked for a while.
+// Keeps the moment and the place in the address, and fills in what was skipped at the moment, when nothing was asked for a while.
 function setAddress() {
   clearTimeout(shown.timer);
   shown.timer = setTimeout(() => {
@@ -149,8 +154,9 @@ async function goToTurn(turn) {
   const skip = film.turn.includes(turn) ? -1 : film.turn.findIndex(hasIt);
   if (skip >= 0) await engine.unskip(skip, turn);
   else moveTo(momentOfTurn(turn));
+  const text = octal(turn), highest = octal(film.highestTurn);
   if (film.turn.includes(turn)) return "";
-  return turn < film.highestTurn ? `turn ${octal(turn)} was not recorded` : `no turn ${octal(turn)}: the highest is ${octal(film.highestTurn)}`;
+  return turn < film.highestTurn ? `turn ${text} was not recorded` : `no turn ${text}: the highest is ${highest}`;
 }
 
 const goToTyped = (text) => (octalIn(text) === null ? "not an octal number" : goToTurn(octalIn(text)));
@@ -194,7 +200,7 @@ function project() {
   if (!isProjected()) shown.before = { as: memory.as, scrolled: scrollY, scrolledSource: box.scrollTop };
   document.body.classList.toggle("projector");
   memory.as = isProjected() && memory.as === "numbers" ? "instructions" : shown.before.as;
-  if (isProjected()) source.scrolled = "";
+  if (isProjected()) box.seen = null;
   byId("barrel-picture").removeAttribute("viewBox"); // else its old size makes its column wider
   show();
   if (isProjected()) return;
@@ -239,7 +245,7 @@ const fillSelect = (id, texts, values) => fill(byId(id), texts.map((text, at) =>
 const HANDLERS = {
   onclick: {
     stop: () => engine.worker.postMessage({ request: "stop" }), fold: () => { lanes.folded = !lanes.folded; show(); },
-    "previous-time": () => moveToTime(source.of.get(source.processor), -1), "next-time": () => moveToTime(source.of.get(source.processor), 1),
+    "previous-time": () => moveToTime(sourceSeen(), -1), "next-time": () => moveToTime(sourceSeen(), 1),
     "leave-branch": engine.leaveBranch, "save-script": saveScript, "save-film": saveFilm, "copy-link": copyLink, restore: restoreKept,
     check: checkExercise, "edit-source": () => openAssembler(source.processor), "load-source": loadTyped,
   },
@@ -261,7 +267,9 @@ const HANDLERS = {
 };
 
 // The same of the page as a whole.
+const hold = ({ buttons }) => { engine.isHeld = buttons > 0; };
 const LISTENERS = {
+  pointerdown: hold, pointermove: hold, pointerup: hold, pointercancel: hold,
   resize: show, beforeprint: show, afterprint: show, hashchange: followAddress, keydown: pressed,
   dragover: (event) => event.preventDefault(), drop: takeFiles,
   dblclick: ({ target }) => target.closest("button.number") && edit(),
@@ -275,11 +283,8 @@ function build() {
     }
   }
   for (const [kind, act] of Object.entries(LISTENERS)) window.addEventListener(kind, act);
-  for (const kind of ["pointerdown", "pointermove", "pointerup", "pointercancel"]) {
-    window.addEventListener(kind, (event) => { engine.isHeld = event.buttons > 0; }, true);
-  }
   fillSelect("memory-of", ["", ...range(PROCESSORS).map((n) => `PP ${two(n)}`)], ["", ...range(PROCESSORS)]);
-  for (const part of [buildKeys, buildSource, buildPictures, buildExercises, buildMeanings, buildAssembler, showFiles, placeSections]) part();
+  for (const part of [buildKeys, buildSource, buildExercises, buildMeanings, buildAssembler, showFiles, placeSections]) part();
   for (const box of document.querySelectorAll(".wide")) {
     box.insertAdjacentHTML("beforebegin", '<p class="sign"></p>');
     box.addEventListener("scroll", () => showSigns([box]));
@@ -296,10 +301,9 @@ function grew(first) {
 async function openFilm() {
   engine.about = JSON.parse(new TextDecoder().decode(await inflated(byId("film").textContent)));
   const module = await inflated(byId("simulator").textContent), given = await filesOfAddress(filesOf(engine.about));
-  startWorker(module.buffer);
-  openRows({ ...engine.about, deck: [], panel: [] });
+  startWorker();
   say("the script is performed ..", false);
-  const reply = await engine.open(given);
+  const reply = await engine.open(given, "open", { module: module.buffer, about: engine.about }); // which the worker keeps
   if (reply.isFault) throw new Error(reply.said);
   build();
   engine.isBuilt = true;

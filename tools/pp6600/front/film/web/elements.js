@@ -24,8 +24,7 @@ function fill(element, ...parts) {
 
 const newNode = (parent, { kind }) => (kind ? document.createElementNS(kind === "svg" ? SVG : parent.namespaceURI, kind) : new Text());
 
-// Sees that an element has a part for each of some rows, which become more at their end alone. Only new ones are described, and those that
-// are marked or were.
+// Sees that an element has a part for each of some rows, which grow at their end. Described are new ones, and what is or was marked.
 function fillGrowing(element, rows, marked, describe) {
   const isOther = element.rows !== rows, before = isOther ? [] : element.marked;
   if (isOther) fill(element);

@@ -26,11 +26,10 @@ async function packed(bytes, format) {
 }
 
 // Starts the worker, from the scripts of this page.
-function startWorker(module) {
+function startWorker() {
   const text = [byId("shared"), byId("engine")].map((script) => script.textContent).join("\n");
   const address = URL.createObjectURL(new Blob([`"use strict";\n${text}`], { type: "text/javascript" }));
   engine.worker = new Worker(address);
-  engine.module = module;
   engine.worker.onmessage = ({ data }) => received(data);
   engine.worker.onerror = (event) => failed(`the simulator has stopped: ${event.message}`);
 }
@@ -85,8 +84,8 @@ function openAnew({ options, deck, panel }) {
 // Performs a script from the beginning, with the files of a run. The film is that of the new session only if this could be opened.
 engine.open = async (given, request = "open", words = {}) => {
   engine.opening = given;
-  const reply = await ask(request, { given, about: engine.about, module: engine.module, ...words });
-  Object.assign(engine, { module: null, opening: null, given: reply.isFault ? engine.given : given }); // the worker has the module
+  const reply = await ask(request, { given, ...words });
+  Object.assign(engine, { opening: null, given: reply.isFault ? engine.given : given });
   return reply;
 };
 
@@ -102,15 +101,15 @@ const inTurn = (action) => (...words) => {
 
 // Performs lines where the page is, and shows what they led to. If another action has taken the place of that moment, they begin a branch.
 async function act(lines) {
-  const end = lastMoment(), reply = await ask("act", { lines, at: film.at, labels: film.labels });
-  if (reply.isGone) return (await begin(inEffect(film.at))) && act(lines);
+  if (!isKept(film.at)) return (await begin(givenWith(linesInEffect(film.at)))) && act(lines);
+  const end = lastMoment(), reply = await ask("act", { lines, position: film.position[film.at], labels: film.labels });
   const isNew = lastMoment() > end, [, , condition] = UNTIL.exec(lines.at(-1)) || [];
   if (isNew) moveTo(lastMoment());
   else show(); // the line and its answer
   const found = !isNew || reply.isWrong ? null : condition === undefined ? foundBy(film.lines.at(-1)) : changeFound(condition);
   if (found) choose(placeNamed(found.name));
   say(reply.said + (found ? found.text : ""), reply.isWrong);
-  keepTyped();
+  setTimeout(keepTyped);
   return !reply.isWrong;
 }
 
@@ -131,8 +130,7 @@ async function replace(...session) {
 
 // Begins another session. The one before it is kept, to be gone back to.
 async function begin(given) {
-  const { typed: script } = await ask("script");
-  engine.branches.push({ ...engine.given, script, isTrusted: true });
+  engine.branches.push(givenWith(typedLines()));
   const reply = await replace(given);
   if (reply.isFault) engine.branches.pop();
   if (reply.said) say(reply.said, reply.isWrong);
@@ -147,16 +145,27 @@ async function leaveBranch() {
 Object.assign(engine, { act: inTurn(act), begin: inTurn(begin), leaveBranch: inTurn(leaveBranch) });
 engine.until = (texts, back) => engine.act([`${back ? "back " : ""}until ${texts.join(" or ")}`]);
 
-// The session with what is in effect at a moment, without what was taken back.
-const inEffect = (moment) => ({ ...engine.given, script: ofLines(linesInEffect(moment)), isTrusted: true });
+// A session with other lines.
+const givenWith = (lines) => ({ ...engine.given, script: ofLines(lines), isTrusted: true });
 
+// The lines as they were typed, with the turns that they made; and those that give the session in the program, which goes back less.
+const typedLines = () => film.lines.map(({ text, answer }) => (answer[1] === "stopped" ? `STEP ${answer[0].split(" ")[1]}` : text));
+
+function linesToSave() {
+  const lines = typedLines(), at = film.lines.findLastIndex(({ answer }) => answer[1] === "replayed");
+  return at < 0 ? lines : [...linesInEffect(film.lines[at].moment), ...lines.slice(at + 1)];
+}
+
+// The lines that lead to what is in effect at a moment, without what was taken back.
 function linesInEffect(moment) {
-  const parts = []; // from the end: lines, and counts of turns
-  for (let at = resolve(moment); at > 0; at = resolve(at - 1)) {
-    const turns = isTurn(at) ? 1 : film.skips.get(at);
-    if (film.kinds[at] === LINE) parts.push(lineOf(at).text);
+  const { kinds, position } = film, parts = []; // from the end: lines, and counts of turns
+  for (let at = moment, left = position[moment]; left > 0; at--) {
+    const turns = left - position[at - 1];
+    if (kinds[at] === JUMP || turns <= 0) continue;
+    if (kinds[at] === LINE) parts.push(lineOf(at).text);
     else if (typeof parts.at(-1) === "number") parts.push(parts.pop() + turns);
     else parts.push(turns);
+    left -= turns;
   }
   return parts.reverse().flatMap((part) => (typeof part === "number" ? stepsOf(part) : [part]));
 }
@@ -165,7 +174,7 @@ const isAtSkipped = () => film.kinds[film.at] === SKIP;
 
 // Records the last of the turns that were skipped at a moment, or those up to one of them, and shows the last of these.
 engine.unskip = async (at = film.at, turn = film.turn[at]) => {
-  const reply = await replace(engine.given, "unskip", { at, before: film.turn[at] - turn });
-  if (reply.isFault) say(reply.said, true);
-  else moveTo(momentOfTurn(turn));
+  if (!isKept(at)) return say("another action has taken the place of these turns", true);
+  await replace(givenWith(typedLines()), "unskip", { to: film.position[at] - film.turn[at] + turn });
+  return moveTo(momentOfTurn(turn));
 };

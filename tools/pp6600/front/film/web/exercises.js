@@ -1,6 +1,8 @@
 // ---- exercises: each begins a session with its script, and what is checked is performed in a session of its own
 
 const exercises = { all: [], now: null };
+const exerciseNamed = (name) => (engine.about.exercises || []).find((one) => one.name === name);
+const noteIn = (script, kind) => (new RegExp(`^\\* ${kind} (.*?)\\s*$`, "m").exec(script) || [])[1];
 
 function buildExercises() {
   exercises.all = film.exercises || [];
@@ -9,8 +11,6 @@ function buildExercises() {
   showTask(exercises.all[0]);
   showExercise();
 }
-
-const exerciseNamed = (name) => exercises.all.find((one) => one.name === name);
 
 function showTask(exercise) {
   if (!exercise) return;
@@ -22,8 +22,7 @@ function showTask(exercise) {
 
 // The exercise that the session has begun with: its first line is a note that names it.
 function showExercise() {
-  const [, name] = /^\* EXERCISE (\S+)\s*$/m.exec(engine.given.script) || [];
-  exercises.now = exerciseNamed(name) || null;
+  exercises.now = exerciseNamed(noteIn(engine.given.script, "EXERCISE")) || null;
   byId("check").disabled = !exercises.now;
   fill(byId("checked"), "");
   if (!exercises.now) return;
@@ -33,10 +32,8 @@ function showExercise() {
 
 // The files of a run whose script begins an exercise: the deck and the options are those of the exercise.
 function withExercise(given) {
-  const find = (note) => (new RegExp(`^\\* ${note} (.*?)\\s*$`, "m").exec(given.script) || [])[1];
-  const exercise = (engine.about.exercises || []).find((one) => one.name === find("EXERCISE"));
-  if (!exercise) return given;
-  return { ...given, deck: exercise.files.deck, panel: find("PANEL") || given.panel || exercise.files.panel, options: exercise.options };
+  const { files, options } = exerciseNamed(noteIn(given.script, "EXERCISE")) || {};
+  return files ? { ...given, deck: files.deck, panel: noteIn(given.script, "PANEL") || given.panel || files.panel, options } : given;
 }
 
 function beginExercise() {

@@ -9,8 +9,9 @@ const lanes = { all: [], processors: [], channels: [], firstTurn: -1, from: 0, t
 
 // The lanes of no moments. Of those of processors the active moments are turns that do not pass; settings are lines that set a processor.
 function newLanes() {
-  const laneOf = (kind) => (n) => ({ name: `${kind} ${two(n)}`, begins: [0], kinds: [IDLE], seen: new Set(), active: [] });
-  return { processors: range(PROCESSORS).map(laneOf("PP")), channels: range(CHANNELS).map(laneOf("H")), firstTurn: -1, settings: [], ticks: {} };
+  const laneOf = (name) => ({ name, begins: [0], kinds: [IDLE], seen: new Set(), active: [] });
+  const [processors, channels] = [["PP", PROCESSORS], ["H", CHANNELS]].map(([kind, n]) => range(n).map((at) => laneOf(`${kind} ${two(at)}`)));
+  return { processors, channels, firstTurn: -1, settings: [], ticks: {} };
 }
 
 // Notes what the moments from a first one on are: a lane has the stretches of moments that are of one kind.
@@ -54,8 +55,7 @@ function chooseLanes() {
   zoom.value = value;
 }
 
-// Chooses the part of the run that the lanes show, so that the present moment is in it. The whole run has some room at its end, so that
-// the scale stays the same for a while as it grows.
+// Chooses the part of the run that is shown, around this moment. The whole run has room at its end, so that its scale stays a while.
 function setView() {
   const size = Number(byId("zoom").value) || film.count, step = 1 << Math.max(0, 25 - Math.clz32(film.count));
   if (size >= film.count) [lanes.from, lanes.to] = [0, Math.ceil(film.count / step) * step];
@@ -72,7 +72,8 @@ const pixelOf = (moment) => ((moment - lanes.from) / (lanes.to - lanes.from)) * 
 function drag(_, { type, pointerId, clientX }) {
   const picture = byId("picture"), x = clientX - picture.getBoundingClientRect().left - LABEL;
   if (type === "pointerdown") picture.setPointerCapture(pointerId);
-  if (picture.hasPointerCapture(pointerId)) moveTo(Math.min(lastMoment(), lanes.from + Math.floor((x / pictureWidth()) * (lanes.to - lanes.from))));
+  const moment = lanes.from + Math.floor((x / pictureWidth()) * (lanes.to - lanes.from));
+  if (picture.hasPointerCapture(pointerId)) moveTo(Math.min(lastMoment(), moment));
 }
 
 // On a projector the lanes of the processor that is shown and of the one whose turn it was come first, if they are too many.
@@ -111,8 +112,7 @@ function markPath(kind, x, y, width) {
   return [box(1), box(6) + box(4, 1), box(8), box(LANE)][kind];
 }
 
-// For each column of pixels the tallest of what it has, in the picture with this key. What was worked out for it is kept: only stretches that
-// have come since are looked at.
+// The tallest mark of each column of pixels, in the picture with a key. It is kept: only stretches that have come are looked at.
 function tallest(lane, key, width) {
   const scale = width / (lanes.to - lanes.from);
   if (lane.key !== key) Object.assign(lane, { key, columns: new Uint8Array(width), looked: 0, marks: null });
@@ -179,7 +179,7 @@ const tick = (x, y, height, width = 1) => `M${x} ${y}h${width}v${height}h${-widt
 // A tick where each line of the script begins, taller and with < or > where the run goes back or forward again. They are kept too.
 function ticksOfLines(height) {
   const key = keyOfPicture(height), right = LABEL + pictureWidth();
-  if (lanes.ticks.key !== key) lanes.ticks = { key, looked: 0, ticks: "", jumps: "", signs: [], free: 0 }; // free: where there is room for a sign
+  if (lanes.ticks.key !== key) lanes.ticks = { key, looked: 0, ticks: "", jumps: "", signs: [], free: 0 }; // free: from where
   const made = lanes.ticks;
   for (; made.looked < film.lines.length; made.looked++) {
     const { acts, first } = film.lines[made.looked], isJump = film.kinds[first] === JUMP;
@@ -188,7 +188,7 @@ function ticksOfLines(height) {
     if (!isJump) made.ticks += tick(x, GAP + LANE - 6, 6);
     if (!isJump) continue;
     made.jumps += tick(x, GAP, height - GAP);
-    if (left >= made.free) made.signs.push(textOfLanes(left, GAP + LANE / 2, film.jumps.get(first)[0] < first ? "<" : ">"));
+    if (left >= made.free) made.signs.push(textOfLanes(left, GAP + LANE / 2, film.jumps.get(first) < first ? "<" : ">"));
     made.free = Math.max(left, x) + SIGN;
   }
   return made;
@@ -196,8 +196,8 @@ function ticksOfLines(height) {
 
 // A dashed line where turns were skipped, with their number.
 function skipsShown(height) {
-  return [...film.skips].filter(([moment]) => moment >= lanes.from && moment < lanes.to).map(([moment, turns]) => {
-    const x = LABEL + Math.floor(pixelOf(moment)), text = `${octal(turns)} turns`, isLeft = x - LETTER * LETTERS * text.length > LABEL;
+  return film.breaks.filter((at) => film.kinds[at] === SKIP && at >= lanes.from && at < lanes.to).map((at) => {
+    const x = LABEL + Math.floor(pixelOf(at)), text = `${octal(turnsIn(at))} turns`, isLeft = x - LETTER * LETTERS * text.length > LABEL;
     const words = textOfLanes(isLeft ? x - 4 : x + SIGN, GAP + LANE / 2, text, { "text-anchor": isLeft ? "end" : "start" });
     return [path("skip", `M${x} ${GAP}V${height}`), words];
   });

@@ -23,8 +23,7 @@ const REGISTERS = [layout.P, layout.A, layout.Q, layout.phase];
 const register = (processor, index) => REGISTERS[index] + processor; // P, A, Q, phase
 
 const isFrame = (place) => place >= layout.frame && place < layout.reader;
-const isCentral = (place) => place >= layout.central && place < layout.high;
-const isWord = (place) => isFrame(place) || isCentral(place); // whether its number has 60 bits
+const isWord = (place) => isFrame(place) || (place >= layout.central && place < layout.high); // whether its number has 60 bits
 const isUpper = (place) => place >= layout.high && place < layout.deck;
 const upperOf = (place) => layout.high + (isFrame(place) ? place - layout.frame : FRAME_WORDS + place - layout.central);
 const wordOfUpper = (place) => (place - layout.high < FRAME_WORDS ? layout.frame + place - layout.high : place - FRAME_WORDS - layout.size);
@@ -33,41 +32,32 @@ const octal = (number, digits = 1) => number.toString(8).padStart(digits, "0");
 const two = (number) => octal(number, 2);
 const four = (number) => octal(number, 4);
 
-// ---- the kinds of numbers that have a name, in the order of their places: how many there are, by their indices; how many digits these and
-// the number are written with; and which modes the number is one of
+// ---- the kinds of numbers with a name, by their first places: how many there are, how many digits they and indices have, and modes
 
-const kindOfNumber = (first, sizes, widths, digits, modes) => ({ first, sizes, widths, digits, modes });
-const ofProcessors = (first, digits) => kindOfNumber(first, [PROCESSORS], [2], digits);
-const KINDS = {
-  M: kindOfNumber(layout.cells, [PROCESSORS, CELLS], [2, 4], 4),
-  A: ofProcessors(layout.A, 6), P: ofProcessors(layout.P, 4), Q: ofProcessors(layout.Q, 4), PHASE: ofProcessors(layout.phase, 4),
-  STATE: kindOfNumber(layout.states, [CHANNELS], [2], 1), H: kindOfNumber(layout.words, [CHANNELS + 1], [2], 4),
-  XP: kindOfNumber(layout.frame, [FRAME_WORDS], [2], 20),
-  CARD: kindOfNumber(layout.reader, [], [], 4), "CARD-COLUMN": kindOfNumber(layout.reader + 1, [], [], 3),
-  "CARD-MODE": kindOfNumber(layout.reader + 2, [], [], 0, "reader"),
-  SYMBOLS: kindOfNumber(layout.printer, [], [], 6), "PAPER-COLUMN": kindOfNumber(layout.printer + 1, [], [], 3),
-  "PAPER-MODE": kindOfNumber(layout.printer + 2, [], [], 0, "printer"),
-  SLOT: kindOfNumber(layout.slot, [], [], 2), C: kindOfNumber(layout.central, [], [6], 20),
-};
+const KINDS = Object.fromEntries([
+  ["M", layout.cells, [PROCESSORS, CELLS], [2, 4], 4], ["A", layout.A, [PROCESSORS], [2], 6], ["P", layout.P, [PROCESSORS], [2], 4],
+  ["Q", layout.Q, [PROCESSORS], [2], 4], ["PHASE", layout.phase, [PROCESSORS], [2], 4], ["STATE", layout.states, [CHANNELS], [2], 1],
+  ["H", layout.words, [CHANNELS + 1], [2], 4], ["XP", layout.frame, [FRAME_WORDS], [2], 20],
+  ["CARD", layout.reader, [], [], 4], ["CARD-COLUMN", layout.reader + 1, [], [], 3], ["CARD-MODE", layout.reader + 2, [], [], 0, "reader"],
+  ["SYMBOLS", layout.printer, [], [], 6], ["PAPER-COLUMN", layout.printer + 1, [], [], 3],
+  ["PAPER-MODE", layout.printer + 2, [], [], 0, "printer"], ["SLOT", layout.slot, [], [], 2], ["C", layout.central, [], [6], 20],
+].map(([kind, first, sizes, widths, digits, modes]) => [kind, { first, sizes, widths, digits, modes }]));
 const SETTABLE = ["M", "A", "P", "Q", "C", "H"]; // what a SET takes, and what is watched, in the order of the watch entries' kinds
 
 // The place of a number by its kind and its indices.
 const placeOf = (kind, ...indices) => indices.reduce((at, index, one) => at * KINDS[kind].sizes[one] + index, 0) + KINDS[kind].first;
 const nameWith = (kind, indices) => [kind, ...indices.map((index, at) => octal(index, KINDS[kind].widths[at]))].join(" ");
 
-// The kind and the indices of the number at a place, its upper half too; or null if it has no name.
-function kindAt(place) {
+// The number that has a place, of 60 bits also that of its upper half; or null if it has no name.
+function placeAt(place) {
   const word = isUpper(place) ? wordOfUpper(place) : place;
   const [kind, { first, sizes }] = Object.entries(KINDS).findLast(([, one]) => one.first <= word);
   const last = sizes.at(-1), at = word - first, indices = [[], [at], [Math.floor(at / last), at % last]][sizes.length];
-  return at < sizes.reduce((count, size) => count * size, 1) ? { kind, indices } : null;
+  return at < sizes.reduce((count, size) => count * size, 1) ? placeWith(kind, ...indices) : null;
 }
 
 // The name of the number at a place, as M 00 0106; "" of one that has none.
-function nameOf(place) {
-  const found = kindAt(place);
-  return found ? nameWith(found.kind, found.indices) : "";
-}
+const nameOf = (place) => (placeAt(place) || { name: "" }).name;
 
 // A number of the machine by its kind and its indices: its name, and its places, of 60 bits that of the upper half first.
 function placeWith(kind, ...numbers) {
@@ -104,12 +94,12 @@ function watchesIn(numbers) {
 // The kinds of a moment: what a processor did in a turn; another action; a BACK or FORWARD; turns that were not recorded.
 const IDLE = 0, WAITING = 1, BUSY = 2, BLOCK = 3, LINE = 4, JUMP = 5, SKIP = 6;
 
-// What the page gets of the moments: of each its kind, and of a turn its processor, P and the number of its instruction; where its changes
-// begin among the places, with the numbers there before and after it; and where its writes begin, with the places that each read. In what
-// the recorder delivers the starts are those of the next one.
+// What the page gets of the moments: the kind, and how many actions and turns are in effect after it; of a turn its processor, P and the
+// number of its instruction; where its changes begin, each a place with the numbers before and after; and where its writes begin, each a
+// place, what it was, how many places it read, and these. In what the recorder delivers the starts are those of the next moment.
 const ROWS = {
-  kinds: Uint8Array, processor: Uint8Array, p: Uint16Array, turned: Int32Array, starts: Uint32Array, places: Int32Array, was: Int32Array,
-  now: Int32Array, writeStarts: Uint32Array, writes: Int32Array, whats: Int32Array, readStarts: Uint32Array, reads: Int32Array,
+  kinds: Uint8Array, position: Int32Array, turn: Int32Array, processor: Uint8Array, p: Uint16Array, turned: Int32Array,
+  starts: Uint32Array, places: Int32Array, was: Int32Array, now: Int32Array, writeStarts: Uint32Array, writes: Int32Array,
 };
 
 // Returns the first of so many numbers from 0 on for which something no longer holds; it holds for all before.

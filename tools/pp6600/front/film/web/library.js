@@ -3,9 +3,12 @@
 const STATUS = { DONE: 0, ROOM: 1, WATCHED: 2, CLOSED: 3, OPEN: 4, NO_MEMORY: 5, REFUSED: 6, LIMIT: 7 };
 const REASONS = ["", "no room", "", "the session is closed", "the session is open", "no memory", "rejected", "the script is too long"];
 
-// A call failed. If an option or a file was rejected, the text is the program's line.
+// A call failed. If an option or a file was rejected, the text is the program's line, and `exit` is the program's exit status.
 class LibraryError extends Error {
-  constructor(status, line) { super(line || `pp6600.wasm: ${REASONS[status] || `status ${status}`}`); }
+  constructor(status, line, exit) {
+    super(line || `pp6600.wasm: ${REASONS[status] || `status ${status}`}`);
+    Object.assign(this, { status, exit });
+  }
 }
 
 // Returns the calls of the module that these bytes are. One module can have many sessions.
@@ -28,16 +31,17 @@ class Rooms {
   room(use, bytes) {
     const old = this.rooms[use];
     if (old && old.bytes >= bytes) return old.at;
-    if (old) this.release(use);
+    if (old) this.calls.pp6600_end_room(old.at);
+    delete this.rooms[use];
     const at = this.calls.pp6600_room(BigInt(bytes));
     if (!at) throw new LibraryError(STATUS.NO_MEMORY);
     this.rooms[use] = { at, bytes };
     return at;
   }
 
-  release(...uses) {
-    for (const use of uses) this.calls.pp6600_end_room(this.rooms[use].at);
-    for (const use of uses) delete this.rooms[use];
+  release() {
+    for (const { at } of Object.values(this.rooms)) this.calls.pp6600_end_room(at);
+    this.rooms = {};
   }
 
   // Returns a part of the memory. The next call may move it.
@@ -64,15 +68,15 @@ class LibrarySession extends Rooms {
     this.handle = this.given("handle", Uint32Array.of(0, 0))[0];
     const machine = [history, central, reader, printer].map(checked32), line = this.room("line", 128);
     const files = [...this.given("deck", deck), ...this.given("panel", panel)];
-    const status = calls.pp6600_open(...machine, ...files, this.handle, line, 128n, ...this.outs(2)), [size] = this.results(2);
+    const status = calls.pp6600_open(...machine, ...files, this.handle, line, 128n, ...this.outs(2)), [size, exit] = this.results(2);
     if (status === STATUS.DONE) return;
-    const text = status === STATUS.OPEN ? "" : this.text(line, size);
-    this.end();
-    throw new LibraryError(status, text);
+    const error = new LibraryError(status, status === STATUS.OPEN ? "" : this.text(line, size), exit);
+    this.release();
+    throw error;
   }
 
-  end() {
-    this.release(...Object.keys(this.rooms));
+  release() {
+    super.release();
     this.handle = 0n;
   }
 
@@ -122,7 +126,7 @@ class LibrarySession extends Rooms {
     const [kept, ahead, capacity, changed] = this.results(4);
     return { kept, ahead, capacity, changed: changed === 1 };
   }
-  close() { this.call("close"); this.end(); }
+  close() { this.call("close"); this.release(); }
 }
 
 if (typeof module !== "undefined") module.exports = { STATUS, LibraryError, LibrarySession, openLibrary };

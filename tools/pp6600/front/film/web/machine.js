@@ -21,7 +21,8 @@ const heading = (text, more = {}) => cell("name", text, more);
 // ---- processors and channels
 
 function processorRow(n) {
-  const p = numberOf("P", n), next = shown.next[n], is = { next: numberOf("SLOT") === n, acted: hasTurn(n), chosen: n === memory.processor };
+  const p = numberOf("P", n), next = shown.next[n];
+  const is = { next: numberOf("SLOT") === n, acted: hasTurn(n), chosen: n === memory.processor };
   const words = (next.second ? [p, (p + 1) % CELLS] : [p]).map((at) => numberWith("M", n, at));
   const name = instructionCell(next.block ? `${next.name} in its block` : next.name);
   return row(classes(is), is.next ? ">" : "", heading(`PP ${two(n)}`, { onclick: () => chooseMemory(n) }), numberWith("P", n), words, name,
@@ -63,8 +64,8 @@ function followed() {
 
 // The processor whose cell or register a line has set, or -1.
 function processorSet(moment) {
-  const { kind, indices } = (changesIn(moment).length && kindAt(changesIn(moment)[0])) || {};
-  return ["M", "A", "P", "Q", "PHASE"].includes(kind) ? indices[0] : -1;
+  const { kind, numbers } = (changesIn(moment).length && placeAt(changesIn(moment)[0])) || {};
+  return ["M", "A", "P", "Q", "PHASE"].includes(kind) ? numbers[0] : -1;
 }
 
 function showMemory() {
@@ -150,17 +151,15 @@ function showReader() {
     const is = { "next-column": words && at === column, "past-column": at < column, origin: isOriginColumn(card, at) };
     return [make("span", { className: classes(is) }, words ? four(words[at] || 0) : ""), " "];
   }));
-  if (film.cardSeen !== card && words) laidOut(() => { cards.scrollTop = cards.children[card].offsetTop - cards.offsetTop - 20; });
-  film.cardSeen = card;
+  if (words) scrollFor(cards, words, () => cards.children[card].offsetTop - cards.offsetTop - 20);
 }
 
 function showPrinter() {
   const paper = document.querySelector("#printer .paper"), text = paperText();
   const line = `H ${two(film.printer)} SYMBOLS @SYMBOLS COLUMN @PAPER-COLUMN MODE @PAPER-MODE`;
   fill(document.querySelector("#printer .device"), withNumbers(line));
-  if (paper.textContent === text) return;
   fill(paper, text);
-  laidOut(() => { paper.scrollTop = paper.scrollHeight; });
+  scrollFor(paper, text, () => paper.scrollHeight);
 }
 
 function showWatches() {
@@ -174,8 +173,7 @@ function showWatches() {
 function showScript() {
   const list = document.querySelector("#script ol"), at = film.lineAt[film.at];
   fillGrowing(list, film.lines, [at, ...shown.originLines], scriptRow);
-  if (film.lineSeen !== at && at >= 0) laidOut(() => { list.scrollTop = list.children[at].offsetTop - list.clientHeight / 3; });
-  film.lineSeen = at;
+  if (at >= 0) scrollFor(list, film.lines[at], () => list.children[at].offsetTop - list.clientHeight / 3);
 }
 
 function scriptRow(line, at) {
@@ -200,17 +198,15 @@ function saveBytes(bytes, download) {
   setTimeout(() => URL.revokeObjectURL(href), 60000);
 }
 
-// To the line of the script before or after that does something.
+// To the end of the line of the script before or after that does something.
 function moveLine(direction) {
-  const lines = film.lines.filter((line) => line.acts), at = lines.indexOf(lineOf(film.at)), target = lines[at + direction];
-  if (direction < 0 && at >= 0 && film.at > lines[at].first) return moveTo(lines[at].first - 1);
-  if (direction > 0 && at >= 0 && film.at !== lines[at].moment) return moveTo(lines[at].moment);
-  return moveTo(target ? target.moment : direction < 0 ? 0 : lastMoment());
+  const ends = film.lines.filter(({ acts }) => acts).map(({ moment }) => moment);
+  moveTo(direction > 0 ? ends.find((end) => end > film.at) ?? lastMoment() : ends.findLast((end) => end < film.at) ?? 0);
 }
 
 // ---- what is cut
 
-// Above each part that may be wider or higher than its room a line says on which sides there is more. All are looked at before one is changed.
+// Above each part that may be wider or higher than its room a line says on which sides there is more. All are looked at first.
 function showSigns(boxes = [...document.querySelectorAll(".wide")]) {
   const arrows = boxes.map((box) => classes({ "←": box.scrollLeft > 1, "→": box.scrollLeft + box.clientWidth < box.scrollWidth - 1,
     "↑": box.scrollTop > 1, "↓": box.scrollTop + box.clientHeight < box.scrollHeight - 1 }));

@@ -5,29 +5,29 @@ const HAVE_AN_ORIGIN = ["M", "A", "P", "Q", "H", "C", "XP"];
 
 const writtenPlace = (place) => place.places[place.places.length - 1]; // of a number of 60 bits the lower half stands for the whole
 
-// A write by its number: its place, its kind, and its sources, each a place with the parts of a word that it is, as bits; 0 is the whole.
-function writeAt(at) {
-  const { readStarts, reads, writes, whats } = film, read = [...reads.subarray(readStarts[at], readStarts[at + 1])];
-  return { at, place: writes[at], what: whats[at], sources: read.map((one) => ({ place: one % PART, parts: Math.floor(one / PART) })) };
-}
-
+// The writes of a moment: number, place, what it was, and the sources: each a place, and of a word its parts as bits, 0 for all.
 function writesOf(moment) {
-  const [first, end] = film.writeStarts.subarray(moment, moment + 2);
-  return range(end - first).map((at) => writeAt(first + at));
+  const { writes, writeStarts } = film, all = [];
+  for (let at = writeStarts[moment], end; at < writeStarts[moment + 1]; at = end) {
+    end = at + 3 + writes[at + 2];
+    const sources = [...writes.subarray(at + 3, end)].map((one) => ({ place: one % PART, parts: Math.floor(one / PART) }));
+    all.push({ at, place: writes[at], what: writes[at + 1], sources });
+  }
+  return all;
 }
 
 // Whether a device changed a place in a turn, and not the processor.
 const isByDevice = (moment, place) => writesOf(moment).some((write) => write.place === place && write.what & BY_DEVICE);
 
-// The latest write of a place in effect at a moment, and its moment; null for the clock. The moment is 0 if nothing wrote it, and -1 if what
-// wrote it may be in turns that were not recorded.
+// The latest write of a place in effect at a moment (null of the clock), and its moment: 0 if none, -1 if it may be in skipped turns.
 function lastWrite(place, moment) {
   const { writeStarts, writes } = film;
   let at = resolve(moment);
   for (; at > 0; at = resolve(at - 1)) {
-    const one = writes.subarray(writeStarts[at], writeStarts[at + 1]).lastIndexOf(place);
+    const hasIt = writes.subarray(writeStarts[at], writeStarts[at + 1]).includes(place); // or reads it
+    const write = hasIt && writesOf(at).findLast((one) => one.place === place);
     if (film.kinds[at] === SKIP) return { moment: NOT_RECORDED, write: null };
-    if (one >= 0) return { moment: at, write: writeAt(writeStarts[at] + one) };
+    if (write) return { moment: at, write };
     if (place === layout.clock && isTurn(at) && changedIn(at, place)) return { moment: at, write: null };
   }
   return { moment: at, write: null };
@@ -43,23 +43,15 @@ function sourcesOf({ place, what, sources }, wanted) {
 const isTurnStep = ({ moment, write }) => moment > 0 && isTurn(moment) && write !== null;
 const isDevice = (step) => isTurnStep(step) && (step.write.what & BY_DEVICE) !== 0;
 
-// Whether the write before it of its place was by the same instruction, which computes the place from itself alone; in a block transfer by
-// a turn of the same one. Returns it, or null.
+// The write before it, if by the same instruction (in a block, of the same one), which computes the place from itself alone; or null.
 function isAgain({ moment, write }) {
   const isComputed = (step) => isTurnStep(step) && !(step.write.what & (MOVED | BY_DEVICE));
   const isOfItself = write && write.sources.length === 1 && write.sources[0].place === write.place;
   if (!isOfItself || !isComputed({ moment, write }) || write.what >> CONSTANT_FROM) return null;
   const before = lastWrite(write.place, moment - 1), { processor, turned, p } = film;
   if (!isComputed(before) || processor[before.moment] !== processor[moment] || turned[before.moment] !== turned[moment]) return null;
-  const isSame = turnOf(moment).isBlock ? !phaseChanged(before.moment, moment) : p[before.moment] === p[moment];
-  return isSame ? before : null;
-}
-
-// Whether the processor of a turn has begun or ended a block transfer since another turn.
-function phaseChanged(from, to) {
-  const place = register(film.processor[to], 3);
-  for (let at = resolve(to - 1); at > from; at = resolve(at - 1)) if (changedIn(at, place)) return true;
-  return false;
+  const hasBegun = () => changeBefore(film.phases[processor[moment]], moment - 1) > before.moment; // or ended a block transfer since
+  return (turnOf(moment).isBlock ? !hasBegun() : p[before.moment] === p[moment]) ? before : null;
 }
 
 // The step that wrote a place, with the steps of its sources, the latest first, up to so many.

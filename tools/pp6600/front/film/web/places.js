@@ -17,7 +17,7 @@ const numberOf = (kind, ...indices) => film.numbers[placeOf(kind, ...indices)];
 const turnOf = (moment) => instructionOf(film.turned[moment]);
 const lineOf = (moment) => film.lines[film.lineAt[moment]];
 const lineText = (moment) => lineOf(moment).text.trim();
-const skippedText = (moment) => `${octal(film.skips.get(moment))} turns that were not recorded`;
+const skippedText = (moment) => `${octal(turnsIn(moment))} turns that were not recorded`;
 
 function turnText(moment) {
   const n = film.processor[moment], { name, second, isBlock } = turnOf(moment), issued = isBlock ? issuedAt(n, moment - 1) : null;
@@ -35,11 +35,11 @@ function issuedAt(n, moment) {
 function makerText(moment, place) {
   if (film.kinds[moment] === SKIP) return skippedText(moment);
   if (!isTurn(moment)) return `the line ${lineText(moment)}`;
-  const { kind, indices } = kindAt(place) || { kind: "" };
+  const { kind, numbers } = placeAt(place) || { kind: "" };
   if (kind === "SLOT" || place === layout.clock) return `the barrel, after PP ${two(film.processor[moment])}`;
   if (kind.startsWith("CARD")) return "the card reader";
   if (kind === "SYMBOLS" || kind.startsWith("PAPER")) return "the printer";
-  const device = kind === "H" || kind === "STATE" ? film.devices[indices[0]] : "";
+  const device = kind === "H" || kind === "STATE" ? film.devices[numbers[0]] : "";
   return device && isByDevice(moment, place) ? `the ${device}` : turnText(moment);
 }
 
@@ -49,18 +49,18 @@ function actionText(moment) {
   if (isTurn(moment)) return `${turnText(moment)}${kind === WAITING ? ", waits" : ""}`;
   if (kind === SKIP) return skippedText(moment);
   if (kind === LINE) return `The line ${lineText(moment)}`;
-  const where = film.jumps.get(moment)[0] < 0 ? ", in turns that were not recorded" : "";
+  const where = film.jumps.get(moment) < 0 ? ", in turns that were not recorded" : "";
   return `The line ${lineText(moment)}: the answer is ${lineOf(moment).answer[0]}, and the machine is as it was then${where}`;
 }
 
 // The changes of a moment, each with its name and its numbers before and after, but for the slot; none of a line that went back or forward.
 function changesOf(moment) {
-  const found = new Map(), isJump = film.kinds[moment] === JUMP;
+  const found = new Set(), isJump = film.kinds[moment] === JUMP;
   for (let at = film.starts[moment]; moment && !isJump && at < film.starts[moment + 1] && found.size <= 40; at++) {
-    const { kind, indices } = kindAt(film.places[at]) || { kind: "SLOT" };
-    if (kind !== "SLOT") found.set(nameWith(kind, indices), placeWith(kind, ...indices));
+    const place = placeAt(film.places[at]);
+    if (place && place.kind !== "SLOT") found.add(place);
   }
-  return [...found].map(([name, { kind, places }]) => {
+  return [...found].map(({ name, kind, places }) => {
     const [was, now] = [film.was, film.now].map((numbers) => textOf(kind, places.map((place) => numberIn(moment, place, numbers))));
     return { name, text: `${was} → ${now}` };
   });

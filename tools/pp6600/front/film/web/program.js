@@ -30,8 +30,7 @@ function programWindow(n, top, address, count, heads) {
   return more.slice(at - before, at - before + count);
 }
 
-// What the next turn of a processor does: its instruction, in a block transfer where that is if it is still there, and where it
-// goes on; and for which channel it waits.
+// What the next turn of a processor does: its instruction, or where the block transfer is, and where that goes on; what it waits for.
 function nextOf(n) {
   const one = turning.processor(film.numbers, n), address = turning.addressOf(one);
   const block = one.phase ? { address, back: (cellOf(n, 0) + 1) & 0o7777 } : null;

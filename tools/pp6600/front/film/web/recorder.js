@@ -4,7 +4,7 @@
 class Recorder {
   constructor(simulator, about) {
     Object.assign(this, { simulator, reader: about.reader, printer: about.printer, readerModes: about.modes.reader });
-    this.count = 0; // moments
+    Object.assign(this, { count: 0, position: 0, turn: 0 }); // moments, and actions and turns in effect
     this.beginDelivery();
     this.endMoment(LINE, 0, 0, 0);
   }
@@ -23,7 +23,9 @@ class Recorder {
   tell(place, was, now) { this.push({ places: place, was, now }); }
 
   end(n) {
+    this.position++;
     if (n === NO_TURN) return this.endMoment(LINE, 0, 0, 0);
+    this.turn++;
     const { numbers } = this.simulator, { one } = this, kind = turning.kindOf(one, numbers);
     this.addWritesOfDevices(turning.writes(one, numbers, (...write) => this.addWrite(...write)));
     return this.endMoment(kind, n, one.p, numberOfInstruction(one));
@@ -31,13 +33,11 @@ class Recorder {
 
   push(numbers) { for (const name of Object.keys(numbers)) this.rows[name].push(numbers[name]); }
 
-  addWrite(place, what, read) {
-    this.rows.reads.push(...read);
-    this.push({ writes: place, whats: what, readStarts: this.rows.reads.length });
-  }
+  addWrite(place, what, read) { this.rows.writes.push(place, what, read.length, ...read); }
 
-  endMoment(kind, processor, p, turned) {
-    this.push({ kinds: kind, processor, p, turned, starts: this.rows.places.length, writeStarts: this.rows.writes.length });
+  endMoment(kinds, processor, p, turned) {
+    const { position, turn, rows } = this;
+    this.push({ kinds, position, turn, processor, p, turned, starts: rows.places.length, writeStarts: rows.writes.length });
     this.count++;
   }
 
@@ -63,8 +63,12 @@ class Recorder {
   // A line that is one action: what it writes, each place with the number of its word (of the panel at a dead start), or 0.
   addWritesOfLine(words) { for (const [place, word] of placesOfSetting(words)) this.addWrite(place, word, []); }
 
-  // Reads all numbers after a BACK or FORWARD, or after turns that were not recorded.
-  readAll(kind) { this.simulator.readAll((place, was, now) => this.tell(place, was, now)); this.endMoment(kind, 0, 0, 0); }
+  // Notes a BACK or FORWARD, or turns that were not recorded, by all numbers, and how many actions and turns are then in effect.
+  leap(kind, position, turn) {
+    Object.assign(this, { position, turn });
+    this.simulator.readAll(this);
+    this.endMoment(kind, 0, 0, 0);
+  }
 
   // The rows of what has come since the last delivery.
   take() {

@@ -1,6 +1,5 @@
-// ---- a film: the numbers of the machine are one row of places, and each moment has a list of the places that it changed, with their
-// numbers before and after it. So the page goes to and fro over any distance without computing a turn. The worker has the simulator, and
-// delivers the moments; they come at the end.
+// ---- a film: the numbers of the machine are one row, and each moment has the places that it changed, with their numbers before and after
+// it. So the page goes to and fro without computing a turn. The worker has the simulator, and delivers the moments; they come at the end.
 
 let film; // what the page is made of; see openRows
 const NOTHING_CHOSEN = { chosen: null, changes: [], origin: null, originLines: new Set(), columns: [] };
@@ -8,16 +7,14 @@ const shown = { ...NOTHING_CHOSEN, changed: new Set(), next: [], playing: null }
 const isTurn = (moment) => film.kinds[moment] < LINE;
 const lastMoment = () => film.count - 1;
 
-// Rows beside those that are delivered: how many turns and how many moments are in effect, -1 if that is not known; the number of its
-// line, -1 before the first.
-const OWN_ROWS = { turn: Int32Array, depth: Int32Array, lineAt: Int32Array };
 const isStarts = (name) => /starts$/i.test(name);
 
 function openRows(about) {
-  const rows = Object.entries({ ...ROWS, ...OWN_ROWS }).map(([name, Kind]) => [name, new Kind(isStarts(name) ? 1 : 0)]);
+  const rows = Object.entries(ROWS).map(([name, Kind]) => [name, new Kind(isStarts(name) ? 1 : 0)]);
   film = {
     ...about, ...Object.fromEntries(rows), numbers: new Int32Array(setLayout(about.central)), count: 0, at: -1, highestTurn: 0,
-    lines: [], jumps: new Map(), skips: new Map(), breaks: [], // breaks: the moments of jumps and skips
+    lines: [], lineAt: new Int32Array(0), // of each moment the number of its line, -1 before the first
+    jumps: new Map(), breaks: [], // where BACK and FORWARD lead; breaks: the moments of these, and of turns that were skipped
     phases: range(PROCESSORS).map(() => []), // of each processor the moments that changed its phase
   };
   turning.open(about);
@@ -41,30 +38,39 @@ function append(name, more) {
 }
 
 // Adds what has come.
-function grow({ rows, lines, jumps, skips }) {
+function grow({ rows, lines }) {
   if (film.count) goTo(lastMoment());
   const first = film.count, firstLine = film.lines.length;
   for (const [name, more] of Object.entries(rows)) append(name, more);
   film.lines.push(...lines);
-  for (const [moment, to] of jumps) film.jumps.set(moment, to);
-  for (const [moment, turns] of skips) film.skips.set(moment, turns);
   film.count += rows.kinds.length;
-  for (const name of Object.keys(OWN_ROWS)) film[name] = longer(film[name], film.count);
-  film.lineAt.fill(-1, first);
+  film.lineAt = longer(film.lineAt, film.count).fill(-1, first);
   lines.forEach((line, at) => line.acts && film.lineAt.fill(firstLine + at, line.first, line.moment + 1));
-  for (let moment = first; moment < film.count; moment++) after(moment);
+  for (let moment = first; moment < film.count; moment++) {
+    if (film.kinds[moment] === JUMP) film.jumps.set(moment, targetOf(moment));
+    if (film.kinds[moment] >= JUMP) film.breaks.push(moment);
+    film.highestTurn = Math.max(film.highestTurn, film.turn[moment]);
+  }
   goTo(lastMoment());
 }
 
-// How many turns and moments are in effect after a moment.
-function after(moment) {
-  const kind = film.kinds[moment], isJump = kind === JUMP, turns = kind === SKIP ? film.skips.get(moment) : isTurn(moment) ? 1 : 0;
-  const [from, turn] = isJump ? film.jumps.get(moment) : [moment - 1, (film.turn[moment - 1] ?? 0) + turns];
-  if (isJump || kind === SKIP) film.breaks.push(moment);
-  film.turn[moment] = turn;
-  film.depth[moment] = (film.depth[from] ?? -1) + (isJump ? 0 : 1);
-  film.highestTurn = Math.max(film.highestTurn, turn);
+// The moment to which a BACK or FORWARD leads: the latest one that made the last action in effect; -1 if that is in skipped turns.
+function targetOf(jump) {
+  const { kinds, position } = film, to = position[jump];
+  for (let at = jump; at > 0; at--) {
+    if (kinds[at] !== JUMP && position[at - 1] < to && to <= position[at]) return position[at] === to ? at : NOT_RECORDED;
+  }
+  return 0;
 }
+
+// Whether no action has taken the place of one that was in effect at a moment.
+function isKept(moment) {
+  const { kinds, position, count } = film;
+  for (let at = moment + 1; at < count; at++) if (kinds[at] !== JUMP && position[at - 1] < position[moment]) return false;
+  return true;
+}
+
+const turnsIn = (moment) => film.position[moment] - film.position[moment - 1]; // of a turn one, of turns that were skipped all
 
 const changesIn = (moment) => film.places.subarray(film.starts[moment], film.starts[moment + 1]);
 const changedIn = (moment, ...places) => changesIn(moment).some((place) => places.includes(place));
@@ -89,7 +95,7 @@ function atMoment(moment, ask) {
 }
 
 // The moment that a BACK or FORWARD leads to, else the moment itself; -1 if it lies in turns that were not recorded.
-function resolve(moment) { while (moment > 0 && film.kinds[moment] === JUMP) [moment] = film.jumps.get(moment); return moment; }
+function resolve(moment) { while (moment > 0 && film.kinds[moment] === JUMP) moment = film.jumps.get(moment); return moment; }
 
 // Returns the moments from a first one on that changed one of the places, in their order.
 function momentsThatChanged(wanted, first = 1) {
@@ -120,10 +126,10 @@ function changeBefore(changes, moment) {
 
 // The next change after a moment, or 0; and the line that takes that moment back before any, if one does.
 function changeAfter(changes, moment) {
-  const next = changes[countUpTo(changes, moment)] || 0, { breaks, kinds, depth } = film;
+  const next = changes[countUpTo(changes, moment)] || 0, { breaks, kinds, position } = film;
   for (let at = countUpTo(breaks, moment); at < breaks.length && (!next || breaks[at] <= next); at++) {
     if (kinds[breaks[at]] === SKIP) return [NOT_RECORDED, 0];
-    if (depth[breaks[at]] < depth[moment]) return [0, breaks[at]];
+    if (position[breaks[at]] < position[moment]) return [0, breaks[at]];
   }
   return [next, 0];
 }

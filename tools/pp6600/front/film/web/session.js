@@ -8,40 +8,25 @@ const moveBy = (distance) => `${distance < 0 ? "BACK" : "FORWARD"} ${octal(Math.
 class Tape {
   length = 0;
   lines = []; // each action that is no turn: its text, and how many actions there are up to its end
-  moments = []; // the same of each moment; turns that were skipped are one
 
-  add(count, moment, text = null) {
+  add(count, text = null) {
     this.length += count;
-    this.moments.push({ moment, end: this.length });
     if (text !== null) this.lines.push({ text, end: this.length });
   }
 
   // Forgets all after so many actions.
   cut(position) {
     this.length = position;
-    this.lines.length = this.countUpTo(this.lines, position);
-    this.moments.length = this.countUpTo(this.moments, position);
+    this.lines.length = this.countUpTo(position);
   }
 
-  countUpTo(some, position) { return firstNot(some.length, (at) => some[at].end <= position); }
-  turnsAt(position) { return position - this.countUpTo(this.lines, position); }
-
-  // The moment that a position was first reached in; -1 if it lies in turns that were not recorded.
-  momentAt(position) {
-    const last = this.moments[this.countUpTo(this.moments, position) - 1] || { moment: 0, end: 0 };
-    return last.end === position ? last.moment : -1;
-  }
-
-  // The position to which a moment leads, or -1 if another action has taken its place. The moments in effect are in order.
-  positionOf(moment) {
-    const found = this.moments[firstNot(this.moments.length, (at) => this.moments[at].moment < moment)];
-    return moment === 0 ? 0 : found && found.moment === moment ? found.end : -1;
-  }
+  countUpTo(position) { return firstNot(this.lines.length, (at) => this.lines[at].end <= position); }
+  turnsAt(position) { return position - this.countUpTo(position); }
 
   // The parts between two positions, each a text, or a count of turns with null.
   *between(from, to) {
     let position = from;
-    for (const { text, end } of this.lines.slice(this.countUpTo(this.lines, from), this.countUpTo(this.lines, to))) {
+    for (const { text, end } of this.lines.slice(this.countUpTo(from), this.countUpTo(to))) {
       if (end - 1 > position) yield { text: null, count: end - 1 - position };
       yield { text, count: 1 };
       position = end;
@@ -51,22 +36,18 @@ class Tape {
 }
 
 class Session {
-  // `control` has pause(), which waits until messages were taken, and then whether to stop: isStopped(). `wanted` are parts of the tape,
-  // each a first and a last position, that are recorded also in a long STEP.
+  // `control` has pause(), which lets messages come, and isStopped(). `wanted` are first and last positions that a long STEP records too.
   constructor(calls, about, control, wanted = []) {
     Object.assign(this, { calls, about, control, wanted });
     turning.open(about);
     this.simulator = new Simulator(calls, about);
     this.recorder = new Recorder(this.simulator, about);
     this.tape = new Tape();
-    this.position = 0;
-    this.typed = []; // the lines, with the turns that they have made
-    this.saved = []; // lines that give the session again in the program too, which goes back over what it keeps alone
-    this.jumps = new Map();
-    this.news = { lines: [], jumps: [], skips: [] };
+    this.lines = []; // those that have come since the last delivery, with their answers and moments
   }
 
   close() { this.simulator.session.close(); }
+  get position() { return this.recorder.position; }
   get isFull() { return this.recorder.count >= FULL; }
   checkRoom() { if (this.isFull) throw new Error(`the film is full, it has ${octal(FULL)} moments: save the script`); }
 
@@ -77,12 +58,8 @@ class Session {
     const first = this.recorder.count, words = wordsIn(text), turns = words[0] === "STEP" ? countOf(words) : 0;
     const answer = turns ? await this.step(turns) : await this.performOther(text, words), left = answer.length - LONGEST_ANSWER;
     const kept = left <= 1 ? answer : [...answer.slice(0, LONGEST_ANSWER), `.. ${octal(left)} lines more`];
-    const performed = turns && answer[1] === "stopped" ? `STEP ${answer[0].split(" ")[1]}` : text;
     const moment = this.recorder.count - 1, acts = moment >= first;
-    this.typed.push(performed);
-    this.news.lines.push({ text, answer: kept, acts, first: acts ? first : moment, moment });
-    if (answer[1] === "replayed") this.saved = this.linesUpTo(this.position);
-    else this.saved.push(performed);
+    this.lines.push({ text, answer: kept, acts, first: acts ? first : moment, moment });
     return answer;
   }
 
@@ -98,10 +75,9 @@ class Session {
   // A SET, WATCH, UNWATCH or DEADSTART that was performed.
   settle(text, words) {
     this.tape.cut(this.position);
-    this.tape.add(1, this.recorder.count, text);
+    this.tape.add(1, text);
     this.recorder.addWritesOfLine(words);
     this.simulator.readAfter(words, this.recorder);
-    this.position++;
   }
 
   // ---- turns
@@ -134,8 +110,7 @@ class Session {
   // Returns whether a watch ended the turns.
   async recordTurns(count) {
     for await (const { count: made, isWatched } of this.batches(this.simulator, count, this.recorder, this)) {
-      for (let at = made; at > 0; at--) this.tape.add(1, this.recorder.count - at);
-      this.position += made;
+      this.tape.add(made);
       if (isWatched || this.control.isStopped()) return isWatched;
     }
     return false;
@@ -152,10 +127,8 @@ class Session {
     }
     const recorded = made < count || isWatched ? Math.min(made, AFTER_LONG, session.counts().kept) : 0, skipped = made - recorded;
     session.back(recorded);
-    this.news.skips.push([this.recorder.count, skipped]);
-    this.tape.add(skipped, this.recorder.count);
-    this.recorder.readAll(SKIP);
-    this.position += skipped;
+    this.tape.add(skipped);
+    this.recorder.leap(SKIP, this.position + skipped, this.recorder.turn + skipped);
     return (await this.recordTurns(recorded)) || isWatched;
   }
 
@@ -171,8 +144,7 @@ class Session {
 
   // ---- back and forward, over all actions
 
-  // Beyond what the simulator keeps: performs the tape anew up to a position, if it has it. The answer is that of a BACK or FORWARD, and a
-  // second line says how.
+  // Beyond what the simulator keeps: performs the tape anew up to a position, if it has it. The answer has a second line that says so.
   async goAnew(position, answer) {
     if (position < 0 || position > this.tape.length) return answer;
     const distance = position - this.position, { session } = await this.simulatorAt(position);
@@ -187,41 +159,27 @@ class Session {
   async backToChange(answer) {
     const watched = watchesIn(this.simulator.numbers);
     if (!watched.length || this.position <= this.simulator.session.counts().kept) return answer;
-    const condition = new Condition([[changeTest(...watched.map((place) => [place, place]))]]);
+    const condition = new Condition([[changeTest((place) => watched.includes(place))]]);
     const { last } = await this.search(condition, 0, this.tape.between(0, this.position));
     return last === null ? answer : this.goAnew(last - 1, answer);
   }
 
-  moved(position) {
-    const to = [this.tape.momentAt(position), this.tape.turnsAt(position)];
-    this.jumps.set(this.recorder.count, to);
-    this.news.jumps.push([this.recorder.count, to]);
-    this.recorder.readAll(JUMP);
-    this.position = position;
-  }
-
-  // Goes to where a moment was, if the session is not there. Returns false if another action has taken its place.
-  async goToMoment(moment) {
-    let at = moment;
-    while (at > 0 && this.jumps.has(at)) [at] = this.jumps.get(at);
-    const position = at < 0 ? -1 : this.tape.positionOf(at), distance = position - this.position;
-    if (position >= 0 && distance) await this.perform(moveBy(distance));
-    return position >= 0;
-  }
+  moved(position) { this.recorder.leap(JUMP, position, this.tape.turnsAt(position)); }
 
   // ---- simulators of their own over the same tape
 
   async simulatorAt(position) {
     const simulator = new Simulator(this.calls, this.about);
     await this.replay(simulator, this.tape.between(0, position), null, () => false);
-    simulator.readAll(() => {});
+    simulator.readAll({ tell() {} });
     return simulator;
   }
 
   // Performs parts of a tape in a simulator, up to where it is enough.
   async replay(simulator, parts, observer, isEnough) {
     for (const { text, count } of parts) {
-      if (text !== null) simulator.perform(text, observer);
+      if (text !== null) simulator.ask(text);
+      if (text !== null && observer) simulator.readAfter(wordsIn(text), observer);
       for await (const batch of this.batches(simulator, text === null ? count : 0, observer)) if (isEnough(batch)) return;
     }
   }
@@ -235,20 +193,8 @@ class Session {
     return condition;
   }
 
-  // ---- what the page gets
-
-  // The lines of the session, in the program or as they were typed.
-  script() { return { script: ofLines(this.saved), typed: ofLines(this.typed) }; }
-
-  // The lines that lead to a position without a step back.
-  linesUpTo(position) { return [...this.tape.between(0, position)].flatMap(({ text, count }) => (text === null ? stepsOf(count) : [text])); }
-
   // What has come since the last delivery.
-  take() {
-    const { news } = this;
-    this.news = { lines: [], jumps: [], skips: [] };
-    return { rows: this.recorder.take(), ...news };
-  }
+  take() { return { rows: this.recorder.take(), lines: this.lines.splice(0) }; }
 }
 
 // The count of a line with one count at most, or 0.

@@ -9,17 +9,11 @@ class Simulator {
     this.numbers = new Int32Array(setLayout(options.central));
     // Of the places that the latest batch of turns overwrote: the numbers that the action before left, and the number of the batch.
     Object.assign(this, { left: new Uint32Array(2 * layout.high), batch: new Uint32Array(layout.high), latest: 0 });
-    this.readAll(() => {});
+    this.readAll({ tell() {} });
   }
 
   // Performs lines, and returns the lines of their answers. The numbers here stay as they were.
   ask(text) { return linesIn(this.session.answer(`${text}\n`).text); }
-
-  // Performs a line, and tells the observer, if there is one.
-  perform(text, observer) {
-    this.ask(text);
-    if (observer) this.readAfter(wordsIn(text), observer);
-  }
 
   // Makes turns, at most `most`. Each is told to the observer: begin(processor), then tell(place, was, now), then end(processor). Without
   // one they are made by one line. Returns how many, and whether a watch ended them.
@@ -38,8 +32,7 @@ class Simulator {
     return { count: made.length / 2, isWatched: status === STATUS.WATCHED };
   }
 
-  // Tells the observer what a line has changed that is an action but no turn, whose processor is NO_TURN: besides the places that it
-  // writes only registers, channels, devices or watches.
+  // Tells of a line that is an action but no turn: besides what it writes only registers, channels, devices or watches change.
   readAfter(words, observer) {
     observer.begin(NO_TURN);
     for (const [place] of placesOfSetting(words)) if (place < layout.A || place >= layout.central) this.read(place, 1, observer);
@@ -94,5 +87,5 @@ class Simulator {
   }
 
   // Reads all numbers anew; each that differs is told.
-  readAll(tell) { this.read(0, layout.high, { tell }); }
+  readAll(observer) { this.read(0, layout.high, observer); }
 }

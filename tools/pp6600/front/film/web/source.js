@@ -3,8 +3,9 @@
 const NO_LINE = { number: 0, note: "" };
 
 // The sources by their processors: the lines, the words by where they are, and the moments at which each line was performed; the line that
-// was clicked last and the moment to which this led; and the processor whose source is seen, and where it was scrolled.
-const source = { of: new Map(), processor: -1, scrolled: "" };
+// was clicked last and the moment to which this led; and the processor whose source is seen.
+const source = { of: new Map(), processor: -1 };
+const sourceSeen = () => source.of.get(source.processor);
 
 function buildSource() {
   if (!film.sources) return;
@@ -21,17 +22,9 @@ function buildSource() {
   byId("source-of").hidden = source.of.size < 2;
 }
 
-// Shows the source that a processor has now.
-function rebuildSource(n) {
-  buildSource();
-  source.processor = n;
-  growSource(0);
-}
-
 // ---- words
 
-// Makes the tables of a source from its words, each with its line, its location, its origin, its number in the line, itself, and if an
-// instruction begins there that has two words the second one, else null.
+// Makes the tables of a source from its words, each with its line, location, origin, number in the line, itself, and second word or null.
 function indexOfWords(words) {
   const made = { atLocation: new Map(), atOrigin: new Map(), ofLine: new Map() };
   const add = (map, key, word) => map.set(key, [...(map.get(key) || []), word]);
@@ -145,7 +138,7 @@ function addTimes(one, first) {
 function showSource() {
   if (!film.sources) return;
   if (!memory.follows && source.of.has(memory.processor)) source.processor = memory.processor;
-  const n = source.processor, one = source.of.get(n), here = lineOfNext(n), table = tableOf("source");
+  const n = source.processor, one = source.of.get(n), here = lineOfNext(n), table = tableOf("source"), box = table.parentElement;
   const did = hasTurn(n) ? lineOfMoment(film.at) : NO_LINE, performed = did.note ? 0 : did.number;
   document.body.classList.toggle("sourced", n === memory.processor);
   byId("source-of").value = n;
@@ -153,9 +146,8 @@ function showSource() {
   fillRows("source", one.lines.map((line) => sourceRow(one, line, line.number === here.number ? here : null, line.number === performed)));
   byId("source").classList.toggle("marked", one.lines.some(({ mark }) => mark));
   showTimes(one);
-  const scrolled = `${n} ${film.at}`, isAnew = !source.scrolled, seen = table.rows[(film.at === one.led ? one.line : here.number) - 1];
-  if (source.scrolled !== scrolled) laidOut(() => keepInView(seen, isAnew));
-  source.scrolled = scrolled;
+  const line = table.rows[(film.at === one.led ? one.line : here.number) - 1], isAnew = !box.seen;
+  if (line) scrollFor(box, `${n} ${film.at}`, () => topWith(line, box, isAnew));
 }
 
 // The row of a line. Its description is kept as long as it stays the same, if no number is in it.
@@ -191,18 +183,16 @@ function moveToTime(one, direction) {
   moveTo(one.led);
 }
 
-// Scrolls the lines, not the page, so that a row is seen, and some rows around it.
-function keepInView(line, anew) {
-  if (!line) return;
-  const box = tableOf("source").parentElement, { offsetTop: top, offsetHeight: height } = line;
-  if (!anew && top - 2 * height >= box.scrollTop && top + 3 * height <= box.scrollTop + box.clientHeight) return;
-  box.scrollTop = [...line.parentElement.rows].findLast((one) => one.offsetTop <= Math.max(0, top - box.clientHeight / 3)).offsetTop;
+// How far the lines are to be scrolled, so that a row is seen, and some rows around it.
+function topWith(line, box, isAnew) {
+  const { offsetTop: top, offsetHeight: height } = line;
+  if (!isAnew && top - 2 * height >= box.scrollTop && top + 3 * height <= box.scrollTop + box.clientHeight) return box.scrollTop;
+  return [...line.parentElement.rows].findLast((one) => one.offsetTop <= Math.max(0, top - box.clientHeight / 3)).offsetTop;
 }
 
-// To where the processor of the source that is seen begins its next line, or back to where it began a line; at the end of the film turns are
-// made until it does.
+// To where the processor of the source begins its next line, or back to where it began one; at the end turns are made until it does.
 function moveByLine(direction) {
-  const one = source.of.get(source.processor);
+  const one = sourceSeen();
   if (!one) return null;
   const { begun, processor } = one, target = direction > 0 ? begun[countUpTo(begun, film.at + 1)] : lastUpTo(begun, film.at) || 1;
   if (target) return moveTo(target - 1);

@@ -4,7 +4,7 @@ const AT_ONCE = 50; // milliseconds between two deliveries, and after which mess
 const MOST_SECONDS = 20, MOST_SEARCHED = 10; // seconds of a script that is opened, and of a search
 const MOST_WANTED = 0o2000; // turns that are recorded where some were skipped
 
-const worker = { session: null, calls: null, about: null, given: null, wanted: [], stop: false, until: Infinity, paused: 0,
+const worker = { session: null, calls: null, about: null, wanted: [], stop: false, until: Infinity, paused: 0,
   doing: Promise.resolve() };
 
 const control = {
@@ -12,13 +12,12 @@ const control = {
   // Lets messages come, and delivers what there is, now and then.
   async pause(session) {
     if (performance.now() - worker.paused < AT_ONCE) return;
-    await new Promise((done) => { nextTask.port1.onmessage = done; nextTask.port2.postMessage(0); });
+    await new Promise((done) => setTimeout(done));
     if (session) deliver({ isPart: true });
     else postMessage({ isWorking: true });
     worker.paused = performance.now();
   },
 };
-const nextTask = typeof MessageChannel === "undefined" ? null : new MessageChannel();
 
 function deliver(more) {
   const news = { ...worker.session.take(), ...more };
@@ -33,7 +32,7 @@ const REQUESTS = {
     if (module) worker.calls = await openLibrary(module);
     const session = new Session(worker.calls, withFiles({ ...about, ...given.options }, given), control, wanted);
     if (worker.session) worker.session.close();
-    Object.assign(worker, { session, about, given, wanted });
+    Object.assign(worker, { session, about, wanted });
     if (!given.isTrusted) worker.until = performance.now() + 1000 * MOST_SECONDS;
     const lines = linesIn(given.script);
     let at = 0;
@@ -42,10 +41,10 @@ const REQUESTS = {
     return left || control.isStopped() ? { said: `stopped: ${octal(left)} lines of the script are left`, isWrong: true } : {};
   },
 
-  // Performs lines where a moment is, and searches. A refused line, a watch, a search that finds nothing or a hand ends them.
-  async act({ lines, at, labels }) {
-    const actions = lines.map((line) => actionOf(line, labels));
-    if (!(await worker.session.goToMoment(at))) return { isGone: true };
+  // Performs lines and searches where so many actions are in effect. A refused line, a watch, a search in vain or a hand ends them.
+  async act({ lines, position, labels }) {
+    const actions = lines.map((line) => actionOf(line, labels)), distance = position - worker.session.position;
+    if (distance) await worker.session.perform(moveBy(distance));
     let reply = {};
     for (const action of actions) {
       worker.session.checkRoom();
@@ -55,15 +54,11 @@ const REQUESTS = {
     return reply;
   },
 
-  // Records the last of the turns that were skipped in a moment, or those up to some turns before its end: the same lines once more.
-  async unskip({ at, before = 0 }) {
-    const { session, given, wanted } = worker, end = session.tape.positionOf(at), to = end - before;
-    if (end < 0) return { said: "another action has taken the place of these turns", isWrong: true, isFault: true };
-    const all = [...wanted, [Math.max(0, to - MOST_WANTED), to]].sort((one, other) => one[0] - other[0]);
-    return REQUESTS.open({ given: { ...given, script: session.script().typed, isTrusted: true }, wanted: all });
+  // Performs a script, and records also the last turns up to so many actions, which were skipped.
+  async unskip({ given, to }) {
+    const wanted = [...worker.wanted, [Math.max(0, to - MOST_WANTED), to]].sort((one, other) => one[0] - other[0]);
+    return REQUESTS.open({ given, wanted });
   },
-
-  script: async () => worker.session.script(),
 
   // The answers to a check after other lines, in a session of their own, which this one does not see.
   async answers({ given, lines, check }) {
@@ -79,11 +74,8 @@ const REQUESTS = {
 function actionOf(line, labels) {
   const [, back, text] = UNTIL.exec(line) || [];
   if (text === undefined) return (session) => performLine(session, line);
-  const condition = parseCondition(text, labels);
-  return (session) => {
-    worker.until = performance.now() + 1000 * MOST_SEARCHED;
-    return back ? untilBefore(session, condition) : untilAfter(session, condition);
-  };
+  const condition = parseCondition(text, labels, worker.about.condition);
+  return (session) => search(session, condition, Boolean(back));
 }
 
 async function performLine(session, line) {
@@ -91,22 +83,19 @@ async function performLine(session, line) {
   return { said: answer.slice(0, LONGEST_ANSWER).join("\n"), isWrong: /^ERR /.test(answer[0]), isHit };
 }
 
-async function untilAfter(session, condition) {
-  const begin = session.position, ever = [{ text: null, count: Infinity }];
-  const { first, at } = await session.search(condition, begin, ever, () => condition.first !== null);
-  if (first === null) return { said: `not among the next ${octal(at - begin)} turns`, isWrong: true };
+// Goes on to where a condition comes to hold the first time, or back to the last time.
+async function search(session, condition, isBack) {
+  const begin = session.position, parts = isBack ? session.tape.between(0, Math.max(begin - 1, 0)) : [{ text: null, count: Infinity }];
+  worker.until = performance.now() + 1000 * MOST_SEARCHED;
+  await session.search(condition, isBack ? 0 : begin, parts, () => !isBack && condition.first !== null);
+  const found = isBack ? condition.last : condition.first;
+  if (isBack && control.isStopped()) return { said: "stopped: the search took too long", isWrong: true };
+  const vain = isBack ? "not before this" : `not among the next ${octal(condition.at - begin)} turns`;
+  if (found === null) return { said: vain, isWrong: true };
   worker.until = Infinity;
-  while (session.position < first && !control.isStopped()) await session.perform(stepsOf(first - session.position)[0]);
-  return { said: `found: turn ${octal(session.tape.turnsAt(session.position))}` };
-}
-
-async function untilBefore(session, condition) {
-  const { last } = await session.search(condition, 0, session.tape.between(0, Math.max(session.position - 1, 0)));
-  if (control.isStopped()) return { said: "stopped: the search took too long", isWrong: true };
-  if (last === null) return { said: "not before this", isWrong: true };
-  worker.until = Infinity;
-  await session.perform(`BACK ${octal(session.position - last)}`);
-  return { said: `found: turn ${octal(session.tape.turnsAt(last))}` };
+  if (isBack) await session.perform(moveBy(found - begin));
+  while (session.position < found && !control.isStopped()) await session.perform(stepsOf(found - session.position)[0]);
+  return { said: `found: turn ${octal(session.recorder.turn)}` };
 }
 
 // ---- messages: "stop" is heard while a request is performed; others wait
