@@ -230,13 +230,20 @@ class Search:
         while run.turn < last:
             run.goto(tape.after_turn(run.turn))
             yield from self.turns(min(tape.starts[tape.run_after(run.position) + 1], tape.at_turn(last)), first)
+        if self.by_settings:
+            run.goto(tape.after_turn(run.turn))
+            yield from self.after_settings(first)
+
+    def after_settings(self, first: int) -> Iterator[Found]:
+        """Sees whether the condition holds where settings may have come. Yields the position if they are to be found, and it is."""
+        held, self.held = self.held, self.condition.begin(self.run)
+        if self.by_settings and self.held and not held and self.run.turn >= first:
+            yield self.run.position, self.run.turn
 
     def turns(self, end: Position, first: int = 0) -> Iterator[Found]:
         """Makes the turns up to a position, with no other action between, and yields those after `first` that are found."""
         run, condition = self.run, self.condition
-        held, self.held = self.held, condition.begin(run)
-        if self.by_settings and self.held and not held and run.turn >= first:
-            yield run.position, run.turn
+        yield from self.after_settings(first)
         while run.position < end:
             before = run.turn
             looks = Looks(run, condition.places, min(end - run.position, run.history.room))
