@@ -14,16 +14,12 @@ editor starts it; docs/PANEL.md says how VS Code, Emacs, Kate and Neovim are set
 each is a listing of its cells, which follows the machine."""
 
 
-def end(*_):
-    sys.exit(0)
-
-
 def main():
     parser = Parser(DESCRIPTION)
     parser.add_argument("--log", metavar="FILE", help="add each message to this file: > before those of the editor, < before the answers")
     asked = parser.parse()
     for name in {"SIGTERM", "SIGHUP"} & set(dir(signal)):  # Windows has one of them
-        signal.signal(getattr(signal, name), end)  # so that the listings are removed
+        signal.signal(getattr(signal, name), lambda *_: sys.exit(0))  # so that the listings are removed
     if signal.getsignal(signal.SIGINT) is signal.SIG_DFL:
         signal.signal(signal.SIGINT, signal.default_int_handler)
     try:

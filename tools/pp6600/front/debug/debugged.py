@@ -11,7 +11,6 @@ from ...run.forms import PROCESSORS
 from ...run.session import REPLAYED, Session, without_history
 from ...run.state import state_of
 from ...run.tape import STEP
-from .terms import Tally
 
 MADE_AT_ONCE = 0o2000  # turns that a session with devices makes
 
@@ -31,7 +30,7 @@ class Debugged:
     looked at."""
 
     def __init__(self, *words):
-        self.scouts, self.tallies = {}, {}
+        self.scouts, self.tallies = {}, {}  # by their names, and by what hits depend on
         super().__init__(*words)
 
     def scout(self, name="looks"):
@@ -61,10 +60,6 @@ class Debugged:
     def before(self, position):
         """Returns the last position up to a position that the user can be at."""
         return self.tape.after_units(self.tape.whole_units(position))
-
-    def tally(self, point):
-        """Returns the hits of a breakpoint that are known."""
-        return self.tallies.setdefault(point.key, Tally())
 
     def withdraw(self, position):
         """Sees that no scout is beyond a position, nor goes there by FORWARD, for the tape may be cut there."""

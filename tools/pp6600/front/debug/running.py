@@ -10,6 +10,7 @@ from itertools import chain
 from ...run.search import spans
 from .breakpoints import DATA, Point
 from .stops import StopSearch
+from .terms import Tally
 
 AT_ONCE = 0o1000000  # turns between two requests of a client
 NEAR = 200  # actions back that are searched first
@@ -142,7 +143,7 @@ class Runner:
 
     def hits(self, point, position):
         """Returns how many hits a breakpoint has up to a position."""
-        tally = self.machine.tally(point)
+        tally = self.machine.tallies.setdefault(point.key, Tally())
         for stop in chain.from_iterable(self.stops(StopSearch(self.machine, [point], scout="hits"), tally.known, position)):
             tally.add(stop.position)
         tally.known = max(tally.known, position)
