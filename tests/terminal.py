@@ -1,5 +1,6 @@
 """A terminal for tests: a program in a window of tmux, and what its screen shows. Without tmux such a test is skipped."""
 
+import atexit
 import os
 import re
 import shutil
@@ -8,8 +9,9 @@ import subprocess
 import tempfile
 import time
 
-from tests.support import PATIENCE
+from tests.support import write
 
+PATIENCE = 300  # seconds; a program that works takes a few, and more where the machine is busy
 OPTIONS = "set -g status off\nset -g remain-on-exit on\nset -g remain-on-exit-format ''\nset -s escape-time 0\nset -s exit-empty off\n"
 IS_HERE = shutil.which("tmux") is not None
 
@@ -19,17 +21,19 @@ class Terminal:
 
     def __init__(self, words, columns=80, rows=24, kind="xterm", environment=None, folder="."):
         self.room = tempfile.TemporaryDirectory(prefix="pp6600-test-")
-        with open(os.path.join(self.room.name, "options"), "w", encoding="ascii") as file:
-            file.write(OPTIONS)
-        given = {"LC_ALL": "C.UTF-8", "TERM": kind, **(environment or {})}
+        atexit.register(self.close)  # an interrupt leaves no program behind
+        self.socket = os.path.join(self.room.name, "socket")
+        options, given = write(f"{self.socket}.options", OPTIONS), {"LC_ALL": "C.UTF-8", "TERM": kind, **(environment or {})}
+        self.server = subprocess.Popen(["tmux", "-D", "-u", "-S", self.socket, "-f", options])  # it ends with the tests, whatever ends them
+        while not os.path.exists(self.socket) and self.server.poll() is None:
+            time.sleep(0.01)
         self.tmux("new-session", "-d", "-x", f"{columns}", "-y", f"{rows}", "-c", folder,
                   "env", *(f"{name}={value}" for name, value in given.items()), *words)
         self.pid = int(self.said("#{pane_pid}"))
 
     def tmux(self, *words):
         """Performs a command of tmux, and returns what it writes."""
-        begin = ("tmux", "-u", "-S", os.path.join(self.room.name, "socket"), "-f", os.path.join(self.room.name, "options"))
-        environment = {**os.environ, "LC_ALL": "C.UTF-8"}
+        begin, environment = ["tmux", "-u", "-S", self.socket], {**os.environ, "LC_ALL": "C.UTF-8"}
         return subprocess.run([*begin, *words], env=environment, capture_output=True, text=True, timeout=PATIENCE, check=True).stdout
 
     def said(self, form):
@@ -92,5 +96,6 @@ class Terminal:
 
     def close(self):
         """Ends the program, if it has not ended, and closes the terminal."""
-        self.tmux("kill-server")
+        self.server.terminate()
+        self.server.wait(PATIENCE)
         self.room.cleanup()

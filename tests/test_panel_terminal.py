@@ -9,8 +9,8 @@ import unittest
 from tests.cases import stored
 from tests.fixtures import DECK, LOADER
 from tests.panels import DISPLAYS, OVERWRITTEN, PROGRAM, READS, PanelCase, press
-from tests.support import PATIENCE, PYTHON, TOP, add_tests, read, run, write
-from tests.terminal import IS_HERE, Terminal
+from tests.support import PYTHON, TOP, add_tests, read, run, write
+from tests.terminal import IS_HERE, PATIENCE, Terminal
 
 TOOL = [*PYTHON, os.path.join(TOP, "tools", "panel")]
 UTF8, ASCII = {"LC_ALL": "C.UTF-8"}, {"LC_ALL": "C"}
@@ -30,10 +30,6 @@ class TerminalCase(PanelCase):
         self.assert_shows(terminal, "q quit")
         return terminal
 
-    def loader(self):
-        """Returns the path of a script: the loader of README.md."""
-        return self.file(OVERWRITTEN)
-
     def assert_shows(self, terminal, text):
         self.assertTrue(terminal.shows(text), f"{text!r} is not shown:\n" + "\n".join(terminal.text()))
 
@@ -47,7 +43,7 @@ class TerminalCase(PanelCase):
 class Screens(TerminalCase):
     def test_same_screens(self):
         """What the terminal shows is what the function says, at three sizes, in colours and without."""
-        script = self.loader()
+        script = self.file(OVERWRITTEN)
         typed = {"g106\rW": "g106<Enter>W", "SsbB": "SsbB", "\t\t\x1bOA": "<Tab><Tab><Up>", ":DUMP W\r": ":DUMP W<Enter>",
                  "gM 0 60\r": "gM 0 60<Enter>"}
         for kind, columns, rows, environment, mark in (
@@ -109,7 +105,7 @@ class Screens(TerminalCase):
 
     def test_resize(self):
         """A terminal that is made larger, too small, and large again."""
-        terminal, panel = self.started("--deck", DECK, self.loader()), self.panel(OVERWRITTEN, "--deck", DECK)
+        terminal, panel = self.started("--deck", DECK, self.file(OVERWRITTEN)), self.panel(OVERWRITTEN, "--deck", DECK)
         for columns, rows in (120, 40), (79, 24), (20, 5), (100, 30), (80, 24):
             terminal.resize(columns, rows)
             panel.resize(columns, rows)
@@ -122,7 +118,7 @@ class Screens(TerminalCase):
         """Ctrl-C does not end it; a suspension with fg gives the terminal back as it was."""
         terminal = self.terminal(["bash", "--norc", "-i"], folder=TOP, environment={"PS1": "ready$ ", "HISTFILE": ""})
         terminal.shows("ready$")
-        terminal.type(f"{sys.executable} tools/panel --program {PROGRAM} --deck {DECK} {self.loader()}\r")
+        terminal.type(f"{sys.executable} tools/panel --program {PROGRAM} --deck {DECK} {self.file(OVERWRITTEN)}\r")
         self.assert_shows(terminal, "q quit")
         terminal.type("12\x03")
         self.assert_shows(terminal, "s step")
@@ -146,7 +142,7 @@ class Screens(TerminalCase):
 
     def test_plain(self):
         """LANG=C and NO_COLOR: ASCII alone, and no colours. A hang-up ends it."""
-        terminal = self.started("--deck", DECK, self.loader(), kind="xterm-256color", environment={**ASCII, "LANG": "C", "NO_COLOR": "1"})
+        terminal = self.started("--deck", DECK, self.file(OVERWRITTEN), kind="xterm-256color", environment={**ASCII, "LANG": "C", "NO_COLOR": "1"})
         terminal.type("?")
         terminal.shows("The keys")
         terminal.type("q:na\xefve\r")
