@@ -187,8 +187,10 @@ class NewTurns:
 
     def _hit_with_replies(self, watched: Sequence[Place], hit: Optional[str], now: Channels) -> Optional[str]:
         """Returns the HIT of a turn with its replies: that of the turn itself, and the channels after it."""
-        names, after = [f"H {channel:02o}" for channel in self.channels], [value.seen for value in self.values]
-        return hit_with_replies(watched, hit, *({name: f"{register:04o}" for name, (_, register) in zip(names, some)} for some in (now, after)))
+        names = [f"H {channel:02o}" for channel in self.channels]
+        seen, after = ({name: f"{register:04o}" for name, (_, register) in zip(names, channels)}
+                       for channels in (now, [value.seen for value in self.values]))
+        return hit_with_replies(watched, hit, seen, after)
 
     def _digits(self, places: Sequence[Place]) -> List[str]:
         return [f"{self.engine.numbers(place.number, 1)[0]:0{place.digits}o}" for place in places]

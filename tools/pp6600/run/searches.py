@@ -49,8 +49,8 @@ def last_before(session: Any, text: str, symbols: Any, progress: Progress) -> Op
 
 
 class BeginsLine(Test):
-    """Whether a processor begins a line of its source by the latest turn. Where its P is as before its turn before, and in a block transfer,
-    it is in the same line."""
+    """Whether a processor begins a line of its source by the latest turn. Where its P is as before its turn before, and in a
+    block transfer, it is in the same line."""
 
     is_change = True
 
