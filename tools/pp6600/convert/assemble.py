@@ -9,10 +9,10 @@ from ..shell.command_line import Parser, bytes_of, processor, write_lines
 DESCRIPTION = """Assembles a program of a peripheral processor, in COMPASS notation, and writes a line for each word: its address
 and the word. What is wrong with the source is one line each on standard error, as FILE:LINE:COLUMN: and a text, and then nothing
 else is written. The page ASSEMBLER.md has the notation."""
-FORMS = {"listing": "a listing: the address, the words and the line of the source",
-         "panel": "a file for --panel of the simulator, of cells 0001 to 0014",
-         "deck": "a file for --deck of the simulator: the words from the first cell to the last one",
-         "words": "a line for each word, as without an option"}
+FORMS = {"--listing": "a listing: the address, the words and the line of the source",
+         "--panel": "a file for --panel of the simulator, of cells 0001 to 0014",
+         "--deck": "a file for --deck of the simulator: the words from the first cell to the last one",
+         "--words": "a line for each word, as without an option"}
 WRONG = 1
 
 

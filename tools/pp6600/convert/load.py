@@ -73,9 +73,9 @@ def lines_of(asked: Namespace) -> Tuple[List[str], str]:
 
 def main() -> None:
     parser = Parser(DESCRIPTION, "[--packed | --two-bytes | --listing [--columns A,W,T] [--trust]] N [A] [FILE]")
-    parser.add_forms({"packed": "the file is binary: two words in three bytes, the upper bits first",
-                      "two-bytes": "the file is binary: each word in two bytes, the upper bits first",
-                      "listing": "the file is a listing, with addresses"})
+    parser.add_forms({"--packed": "the file is binary: two words in three bytes, the upper bits first",
+                      "--two-bytes": "the file is binary: each word in two bytes, the upper bits first",
+                      "--listing": "the file is a listing, with addresses"})
     parser.add_argument("--columns", metavar="A,W,T", type=Columns.parse,
                         help="the columns of addresses, words and source lines of the listing, decimal, from 1; else guessed")
     parser.add_argument("--trust", action="store_true", help="load what is readable of a listing, and say what is in doubt")

@@ -45,12 +45,12 @@ LINES: Dict[Optional[str], Callable[[int, int, List[str]], Iterable[str]]] = {
 
 def main() -> int:
     parser = arguments(DESCRIPTION, "[OPTION ..] N A B [SCRIPT]")
-    parser.add_forms({"packed": "binary: two words in three bytes, the upper bits first",
-                      "two-bytes": "binary: each word in two bytes, the upper bits first",
-                      "listing": "rows that begin with their addresses",
-                      "as-deck": "cards, a word a column, as the simulator's --deck takes them",
-                      "as-panel": "the words of a panel, as the simulator's --panel takes them",
-                      "set": "SET lines for processor N"})
+    parser.add_forms({"--packed": "binary: two words in three bytes, the upper bits first",
+                      "--two-bytes": "binary: each word in two bytes, the upper bits first",
+                      "--listing": "rows that begin with their addresses",
+                      "--as-deck": "cards, a word a column, as the simulator's --deck takes them",
+                      "--as-panel": "the words of a panel, as the simulator's --panel takes them",
+                      "--set": "SET lines for processor N"})
     add_sources(parser)
     parser.add_argument("words", nargs="*", metavar="N A B SCRIPT", help="octal; without a script, standard input is it")
     asked = parser.parse()

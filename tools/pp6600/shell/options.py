@@ -74,8 +74,8 @@ class Parser(argparse.ArgumentParser):
     def add_forms(self, forms: Mapping[str, str], group: Any = None) -> None:
         """Adds options without values to a group, or as one, of which one may be given: its name is then the form that is asked for."""
         group = group or self.add_mutually_exclusive_group()
-        for name, text in forms.items():
-            group.add_argument(f"--{name}", dest="form", action="store_const", const=name, help=text)
+        for option, text in forms.items():
+            group.add_argument(option, dest="form", action="store_const", const=option[len("--"):], help=text)
 
     def error(self, message: str) -> NoReturn:
         raise Failure(f"{message}; {self.prog} --help shows what may be given".replace(PLAIN, ""))
