@@ -35,13 +35,6 @@ class Answers(DebugCase):
         """They are decoded at the end of each class of tests, of this one too."""
         self.loader()
 
-    def test_what_it_can(self):
-        client = self.client()
-        can = client.ask("initialize", adapterID="pp6600")
-        for name in ("StepBack", "DataBreakpoints", "InstructionBreakpoints", "SetVariable", "ReadMemoryRequest", "WriteMemoryRequest",
-                     "DisassembleRequest", "GotoTargetsRequest", "RestartRequest", "TerminateRequest", "ConfigurationDoneRequest"):
-            self.assertIs(True, can[f"supports{name}"], name)
-
     def test_files(self):
         client = self.loader()
         path = client.listing()

@@ -5,6 +5,7 @@
 
 import os
 import random
+from types import SimpleNamespace
 
 from tests.device_law import DUMPS, PANEL, Definition, FewStates, RandomDevice, first_difference, random_program
 from tests.support import Case, program
@@ -16,6 +17,7 @@ from pp6600.front.debug.running import Runner
 from pp6600.run.device import Chain, Reply, chain_of, is_value
 from pp6600.run.tape import ReplyLine
 
+NO_POINTS = SimpleNamespace(all=(), in_a_step=())
 SEED, COUNT = map(int, os.environ.get("PP6600_DEVICES", "0:4").split(":"))
 
 
@@ -34,10 +36,6 @@ class Law(Case):
                 walk.move()
                 if walk.choose.random() < 0.3:
                     self.assertIsNone(walk.difference(), f"seed {number}, move {move}")
-
-
-class NoPoints:
-    all = in_a_step = ()
 
 
 class Walk:
@@ -60,7 +58,7 @@ class Walk:
         choose, machine = self.choose, self.machine
         machine.look()
         parts = iter([True] * choose.randint(1, 12))
-        runner = Runner(machine, NoPoints(), lambda: next(parts, False))
+        runner = Runner(machine, NO_POINTS, lambda: next(parts, False))
         choose.choice((
             lambda: runner.step(choose.randrange(10)), lambda: runner.forward(None), runner.back,
             lambda: machine.typed(f"STEP {choose.randint(1, 100):o}"), lambda: machine.typed(f"BACK {choose.randint(1, 60):o}"),

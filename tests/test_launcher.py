@@ -23,8 +23,7 @@ class AtTerminal(Case):
     def at_terminal(self, *typed, words=(), path=(), home=True, folder=None):
         """Types each text when the one before it in its pair is shown. Returns what is shown in all, and the exit status."""
         names = [f"PATH={':'.join([self.path('plain'), *path])}", "TERM=xterm", *([f"HOME={self.folder}"] if home else [])]
-        command = ["/usr/bin/env", "-i", *names, self.path("repository", "pp6600"), *words]
-        terminal = Terminal(command, columns=132, folder=folder or self.folder)
+        terminal = Terminal(["/usr/bin/env", "-i", *names, self.path("repository", "pp6600"), *words], 132, folder=folder or self.folder)
         self.addCleanup(terminal.close)
         for awaited, text in typed:
             terminal.shows(awaited)

@@ -89,9 +89,7 @@ class WrongHands(LibraryCase):
             self.assertEqual(self.one_call(session, b"STEP\n", room), (library.ROOM, 0, 0))
             self.assertEqual(session.counts(), before)
         self.assertEqual(self.one_call(session, b"STEP\n", 94), (library.DONE, 5, len("TURNS 1 SLOT 01\n")))
-        text = b"P 0000 A 000000 Q 0000"
         exact = len(session.answer(b"DUMP PP 0\n").text)
-        self.assertGreater(exact, len(text))
         self.assertEqual(self.one_call(session, b"DUMP PP 0\n", exact - 1), (library.ROOM, 0, 0))
         self.assertEqual(self.one_call(session, b"DUMP PP 0\n", exact), (library.DONE, 10, exact))
 
