@@ -9,7 +9,7 @@ from typing import Dict, Iterator, List, Sequence, Tuple
 from . import assembler_lines
 from .support import TOP, read
 
-from pp6600.language.source.machine import CELLS, MNEMONICS
+from pp6600.language.source.codes import CELLS, MNEMONICS
 
 LIKELY = (0, 0o100, 0o200, 0o300, 0o376, 0o2400, 0o1077, 0o7777)  # words that are treated in their own way
 PLACES = ("examples/*/*.pp", "exercises/**/*.pp", "tests/programs/**/*.pp", "tests/debug/*.pp")

@@ -11,8 +11,8 @@ from .assembler_sources import sections, sources
 from .support import TOP, Case, add_tests, blocks, names_of_codes, read, run, tool
 
 from pp6600.language.listing import ListingSymbols
-from pp6600.language.source.forms import lines_of
 from pp6600.language.source.passes import assembled
+from pp6600.language.source.writing import lines_of
 from pp6600.language.sources import texts_in
 
 PROGRAMS = os.path.join(TOP, "tests", "programs")

@@ -13,10 +13,10 @@ from typing import Iterator, Sequence
 from .assembler_sources import sources
 from .support import TOP, Case, read
 
+from pp6600.language.source.codes import CODES, MNEMONICS
 from pp6600.language.source.disassembler import Disassembler
-from pp6600.language.source.forms import listing
-from pp6600.language.source.machine import CODES, MNEMONICS
 from pp6600.language.source.passes import Program, assembled
+from pp6600.language.source.writing import listing
 
 FOLDER = os.path.join(TOP, "crates", "test_assembler")
 END = "----\n"

@@ -12,7 +12,7 @@ from .support import TOP, Case, read
 
 from pp6600.front.film import page
 from pp6600.language.names import AllSymbols
-from pp6600.language.source.forms import set_lines
+from pp6600.language.source.writing import set_lines
 from pp6600.language.sources import Source
 
 PLACES = ("examples/*/*.pp", "exercises/**/*.pp", "tests/programs/*.pp", "tests/debug/*.pp")

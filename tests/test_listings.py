@@ -12,8 +12,8 @@ from .support import TOP, Case, read
 
 from pp6600.failure import Failure
 from pp6600.language.listing import Listing, ListingSymbols
-from pp6600.language.source.forms import lines_of
 from pp6600.language.source.passes import assembled
+from pp6600.language.source.writing import lines_of
 
 LISTINGS = [text.splitlines() for text in re.findall("<<END\n(.*?)^END$", read("tests", "sessions", "printed-listings.txt"), re.M | re.S)]
 SEED, COUNT = map(int, os.environ.get("PP6600_ERRORS", "70:150").split(":"))

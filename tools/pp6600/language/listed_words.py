@@ -3,9 +3,9 @@
 from typing import Dict, List, Optional, Sequence
 
 from .printed import SUBR
+from .source.codes import CODES, form_of
 from .source.directives import MAKERS
 from .source.encoding import operands_of, words_of
-from .source.machine import CODES, form_of
 from .source.messages import Fault, Follows
 from .source.scope import Scope
 from .source.statements import Field, Line, Statement, statement_or_none

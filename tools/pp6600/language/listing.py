@@ -11,8 +11,8 @@ from ..shell.text_files import named, read_lines
 from .names import EQUATES, AddressNames, Names, octal_number
 from .printed import NAME, TAB, Columns, continuity, first_runs, guessed, is_note, tokens_of, with_words
 from .reading import Printed, Printout
-from .source.forms import runs_of
 from .source.messages import Message
+from .source.writing import runs_of
 
 MOST_DOUBTS = 20  # that are said
 Read = TypeVar("Read")

@@ -7,10 +7,10 @@ from typing import Iterable, Iterator, List, NamedTuple, Optional, Sequence, Set
 
 from ..failure import Failure
 from .source.blocks import ENDS, INSIDE
+from .source.codes import CODES
 from .source.directives import DIRECTIVES, LONG_FORMS, MAKERS
-from .source.machine import CODES
-from .source.passes import OF_LINES
 from .source.messages import REFUSED
+from .source.passes import OF_LINES
 from .source.statements import FIRST_OF_COMMENTS
 
 WORD = re.compile("[0-7]{4}[bB]?")

@@ -10,8 +10,8 @@ from .names import EQUATES, octal_number
 from .printed import (
     ADDRESS, SHORT, SUBR, TAB, WITH_WORDS, WORD, Columns, Parts, Token, guessed, is_note, is_operation, operation_columns, parts_of,
     with_fields)
+from .source.codes import CODES, MNEMONICS, size_of
 from .source.directives import BASES
-from .source.machine import CODES, MNEMONICS, size_of
 from .source.messages import Message
 from .source.scope import LITERAL, LITERALS, NOMINAL, WORD_BITS
 

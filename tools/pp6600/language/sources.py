@@ -14,12 +14,12 @@ from ..run.turn import TWO_WORDS, places_of_setting
 from ..shell.text_files import named, read_lines
 from .listing import Listing, is_printed, shown_messages, without_mark
 from .names import FARTHEST, AddressNames, Names
-from .source.forms import set_lines
-from .source.machine import CELLS, CODES
+from .source.codes import CELLS, CODES
 from .source.passes import Program, Texts, assembled
 from .source.scope import FilledCell, ListingRow
 from .source.statements import TAB, Line, statement_or_none
 from .source.symbols import Symbol, Symbols
+from .source.writing import set_lines
 
 
 def source_lines(path: Optional[str]) -> List[str]:

@@ -11,7 +11,7 @@ from .forms import CELLS, CLOCK, Place
 from .recording import AT_ONCE, Recording, last_part_with
 from .session import Session
 from .tape import STEP, Position
-from .turn import Processor, Source, Turn, Write, device_put_a_word, places_of_setting
+from .turn import Processor, Read, Turn, Write, device_put_a_word, places_of_setting
 
 FIRST_SIZE, WIDER, MOST_SIZE = 0o1000, 8, 0o2000000  # turns: those that are looked at, and at most those that are recorded at once
 CLOCK_PLACE = Place("H", (CLOCK,))
@@ -246,12 +246,12 @@ class OriginSearch:
             step.number = self._symbol(*step.place.numbers) if step.cause == PAPER else self.run.number_at(step.place)
 
 
-def wanted_sources(write: Write, parts: Optional[Set[int]]) -> Sequence[Source]:
+def wanted_sources(write: Write, parts: Optional[Set[int]]) -> Sequence[Read]:
     """Returns the sources of a write, each with the parts of it that are wanted, if these parts of what was written are."""
     if write.is_joined:
         return [source for part, source in enumerate(write.sources) if parts is None or part in parts]
     if parts is None or not write.is_moved or write.place.kind not in ("C", "XP"):
         return write.sources
-    wanted = [Source(place, tuple(sorted(part for part in parts if of_source is None or part in of_source)))
+    wanted = [Read(place, tuple(sorted(part for part in parts if of_source is None or part in of_source)))
               for place, of_source in write.sources]
     return [source for source in wanted if source.parts]

@@ -255,7 +255,7 @@ STATE_LETTERS = {"inactive": "I", "empty": "E", "full": "F", "function": "X"}  #
 CONSTANTS = ("d", "m", "dm", RETURN, WORD, ZERO, *STATE_LETTERS)
 
 
-class Source(NamedTuple):
+class Read(NamedTuple):
     """A place that is read; of a word of sixty bits the parts alone that are read."""
 
     place: Place
@@ -268,7 +268,7 @@ class Write(NamedTuple):
 
     place: Place
     is_moved: bool  # and not computed
-    sources: Tuple[Source, ...] = ()
+    sources: Tuple[Read, ...] = ()
     constants: Tuple[str, ...] = ()
 
     @property
@@ -353,9 +353,9 @@ class Turn:
         place, sources = effect.place, effect.sources
         if place == "C":
             (word,) = self._central()
-            return [Write(word, True, tuple(map(Source, self._places(sources[0]))))] if word else []
+            return [Write(word, True, tuple(map(Read, self._places(sources[0]))))] if word else []
         if place == "C20":
-            return [Write(word, True, (Source(Place("XP", (at,))),)) for at, word in enumerate(self._central(FRAME_WORDS)) if word]
+            return [Write(word, True, (Read(Place("XP", (at,))),)) for at, word in enumerate(self._central(FRAME_WORDS)) if word]
         if place == "F20":
             words = enumerate(self._central(FRAME_WORDS))
             return [of_word(Place("XP", (at,)), word, None if at else WITHOUT_B_FIELD) for at, word in words]
@@ -365,18 +365,18 @@ class Turn:
         read, constants = self._read(effect)
         return [Write(one, effect.is_moved, read, constants) for one in self._places(place)]
 
-    def _read(self, effect: Effect) -> Tuple[Tuple[Source, ...], Tuple[str, ...]]:
+    def _read(self, effect: Effect) -> Tuple[Tuple[Read, ...], Tuple[str, ...]]:
         """What an effect read: the sources, and the constants."""
         places, constants = [], []
         for symbol in effect.sources:
             if symbol in CONSTANTS:
                 constants.append(symbol)
             elif symbol == "F":
-                places.append(Source(Place("XP", (0,)), P_OF_FRAME))
+                places.append(Read(Place("XP", (0,)), P_OF_FRAME))
             elif symbol == "R" and self._has_cleared_its_return():
                 constants.append(ZERO)
             elif not (symbol == "P" or symbol == "I" and self.processor.channel == 0):
-                places += map(Source, self._places(symbol))
+                places += map(Read, self._places(symbol))
         return tuple(places), tuple(constants)
 
     def _has_cleared_its_return(self) -> bool:
@@ -396,7 +396,7 @@ def places_of(symbol: str, number: int, processor: Processor, cell: Cell) -> Lis
 
 def of_word(place: Place, word: Optional[Place], parts: Optional[Tuple[int, ...]]) -> Write:
     """Returns the write of a place from these parts of a central word, or from one that is not there."""
-    return Write(place, True, (Source(word, parts),) if word else (), () if word else (NO_WORD,))
+    return Write(place, True, (Read(word, parts),) if word else (), () if word else (NO_WORD,))
 
 
 def state_left(channel: int, writes: Sequence[Write], before: str) -> str:

@@ -8,8 +8,8 @@ from ...shell.device_options import add_devices, devices_of, script_with
 from ...shell.installation import page_module
 from ...shell.script import performed
 from ...shell.text_files import lines_of, write_whole
+from .device_pictures import pictures_of
 from .page import Files, heading, of_symbols, options, page, run, tables
-from .pictures import pictures_of
 
 DESCRIPTION = """Makes a film of a run: one web page with the proved simulator in it, which needs no network and no server. Opening it
 performs the script, with its steps back; each turn, and each other line that does something, is a moment of the film. What is typed in the

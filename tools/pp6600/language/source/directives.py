@@ -3,7 +3,7 @@
 import re
 from typing import Callable, Dict, List, Optional, Tuple
 
-from .machine import CELLS, LAST
+from .codes import CELLS, LAST
 from .messages import Fault, Follows
 from .scope import NOMINAL, WORD_BITS, Scope
 from .statements import Field, Statement, parts_of

@@ -4,8 +4,8 @@ import re
 from itertools import count
 from typing import Dict, Iterable, Iterator, List, Mapping, Sequence
 
+from .codes import MNEMONICS, NEAR, SYMBOLS, Form, form_of, target_of
 from .flow import CODE_LABEL, Flow
-from .machine import MNEMONICS, NEAR, SYMBOLS, Form, form_of, target_of
 from .symbols import LONGEST, SYMBOL
 
 WORDS_OF_LINE = 4  # of a CON

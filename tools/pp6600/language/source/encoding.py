@@ -3,7 +3,7 @@
 import re
 from typing import List
 
-from .machine import CELLS, CODES, LAST, MNEMONICS, NEAR, Form, form_of, size_of
+from .codes import CELLS, CODES, LAST, MNEMONICS, NEAR, Form, form_of, size_of
 from .messages import Fault, octal
 from .scope import Scope
 from .statements import Field, Statement, parts_of

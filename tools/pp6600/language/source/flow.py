@@ -2,7 +2,7 @@
 
 from typing import Dict, Iterable, List, Mapping, Set
 
-from .machine import CELLS, CHANNEL_JUMPS, CODES, Form, form_of, size_of, target_of
+from .codes import CELLS, CHANNEL_JUMPS, CODES, Form, form_of, size_of, target_of
 
 LJM, RJM, UJN = CODES["LJM"], CODES["RJM"], CODES["UJN"]
 ENDS = (LJM, UJN)  # after which the flow does not go on

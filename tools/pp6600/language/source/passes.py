@@ -5,9 +5,9 @@ import re
 from typing import Callable, Dict, List, Mapping, NamedTuple, Optional, Sequence
 
 from .blocks import ENDS, INSIDE, body_of, goes_on, perform_body
+from .codes import CODES
 from .directives import COUNTERS, DIRECTIVES, LABELLED, LONG_FORMS, MAKERS, UNLABELLED, long_form, micro_text, the_only
 from .encoding import instruction
-from .machine import CODES
 from .macros import SUBR, Macro, call
 from .messages import REFUSED, Fault, Follows, Message, TooMuch, nearest
 from .scope import FilledCell, ListingRow, Scope, Unit

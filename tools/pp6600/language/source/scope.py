@@ -4,7 +4,7 @@ import contextlib
 import re
 from typing import Dict, Iterator, List, NamedTuple, Optional, Sequence, Set, Tuple
 
-from .machine import CELLS, LAST
+from .codes import CELLS, LAST
 from .messages import Fault, Follows, Message, TooMuch, octal
 from .statements import FORCED, Field, Line
 from .symbols import Symbol, Symbols

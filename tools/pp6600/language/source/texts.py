@@ -3,7 +3,7 @@
 import re
 from typing import List, NamedTuple, Optional
 
-from .machine import BLANK, SYMBOLS
+from .codes import BLANK, SYMBOLS
 from .messages import Fault
 
 KINDS = "HLRACZ"

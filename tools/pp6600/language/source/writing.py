@@ -3,7 +3,7 @@
 from typing import Callable, Dict, Iterator, List, Mapping, Sequence, Tuple
 
 from ...failure import Failure
-from .machine import CELLS, COLUMNS_OF_CARD, ROW
+from .codes import CELLS, COLUMNS_OF_CARD, ROW
 from .passes import Program
 from .scope import ListingRow, Words
 from .statements import TAB
