@@ -1,8 +1,8 @@
 //! The assembler and the disassembler for C.
 ghost use Rattle.pp_assembler.specs.Cells.{IsCell};
-ghost use Rattle.pp_library.specs.Assembling.{IsLoading};
+ghost use Rattle.pp_library.specs.Assembling.{IsLoading, IsSource, IsWritten, form_text};
 ghost use Rattle.pp_library.specs.declared.status.TheConstants.{DONE, REFUSED, ROOM};
-ghost use Rattle.std.specs.Prelude.{◌≡◌, ◌≢◌, ◌<◌, ◌≤◌, ◌↔◌, ◌⊎◌, All, length, take};
+ghost use Rattle.std.specs.Prelude.{◌≡◌, ◌≢◌, ◌<◌, ◌≤◌, ◌↔◌, ◌⊎◌, All, IfOk, length, take};
 
 use crate::status::{DONE, NO_MEMORY, REFUSED, ROOM};
 use pp_assembler::{
@@ -27,7 +27,9 @@ const NAMES: u32 = 4;
 const PROCESSORS: u32 = 10;
 
 /// Returns what is written of a source in a form.
-fn text_of(alloc: Global, made: &Assembly, form: u32) -> Result<Vec<u8>, AllocError> {
+fn text_of(alloc: Global, made: &Assembly, form: u32) -> Result<Vec<u8>, AllocError>
+    ensures { IfOk result (λ text. text.items ≡ form_text form made.now) }
+{
     match form {
         COMPLAINTS => complaints_text(alloc, made),
         WORDS => words_text(alloc, made),
@@ -66,6 +68,7 @@ pub extern "C" fn pp6600_assemble(
     messages: &mut usize,
 ) -> u32
     ensures done { result ≡ DONE → count.new ≤ length into.new }
+    ensures text { result ≡ DONE → IsWritten source.now form (take count.new into.new) }
     ensures room { result ≡ ROOM → length into.new < count.new }
     ensures unchanged { result ≢ DONE → into.new ≡ into.old }
     ensures refused { (result ≡ REFUSED) ↔ (NAMES < form) }
@@ -133,6 +136,7 @@ pub extern "C" fn pp6600_disassemble(
     count: &mut usize,
 ) -> u32
     ensures done { result ≡ DONE → (count.new ≤ length into.new) × All IsCell cells.now }
+    ensures text { result ≡ DONE → IsSource cells.now (take count.new into.new) }
     ensures room { result ≡ ROOM → length into.new < count.new }
     ensures unchanged { result ≢ DONE → into.new ≡ into.old }
     ensures refused { result ≡ REFUSED → All IsCell cells.now → ⊥ }
