@@ -17,7 +17,7 @@ from pp6600.devices.magnetic_tape import MagneticTape
 from pp6600.devices.paper_tape import PaperTape
 from pp6600.devices.pictures import Mark, Picture, braille, svg
 from pp6600.devices.tape_file import read_tape, write_tape
-from pp6600.front.film.pictures import moments_of, pictures_of
+from pp6600.front.film.device_pictures import moments_of, pictures_of
 
 MARK = ()
 STATUSES, LEFTS, BUFFER = 0o1000, 0o1100, 0o2000  # cells
