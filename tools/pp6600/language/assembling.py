@@ -47,9 +47,9 @@ def by_library(assembler: Assembler, source: bytes, path: Optional[str], form: s
 
 def in_python(source: bytes, path: Optional[str], form: str, processor: int, decks: Optional[str], unit: Optional[str]) -> Assembled:
     """Assembles a source by the assembler in Python."""
-    from .source import forms, passes
+    from .source import passes, writing
     from .sources import complaints, texts_in, unit_of
     from .listing import without_mark
     program = passes.assembled(without_mark(lines_in(source, path)), texts_in(decks))
     return Assembled(complaints(path, program), bool(program.messages),
-                     lambda: list(forms.lines_of(program if unit is None else unit_of(program, unit), form, processor)))
+                     lambda: list(writing.lines_of(program if unit is None else unit_of(program, unit), form, processor)))
