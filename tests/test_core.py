@@ -56,7 +56,7 @@ class Package(Case):
                 self.assertEqual([], re.findall(r"^from \.*commands\S* import .*", text, re.M))
                 if below.startswith("front/commands"):
                     self.assertEqual([], [name for name in re.findall(r"^from \.(\w+) import", text, re.M) if name in COMMANDS])
-                if below.startswith("language/source/") and not below.endswith("/machine.py"):
+                if below.startswith("language/source/") and not below.endswith("/codes.py"):
                     own = set(re.findall(r"^\s*(from \.\..*|import pp6600.*)", text, re.M))
                     self.assertLessEqual(own, {"from ...failure import Failure"})
                 if below.startswith("run"):
