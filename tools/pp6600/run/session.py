@@ -14,7 +14,7 @@ from typing import Iterator, List, Optional, Sequence
 
 from ..failure import Failure
 from .console import Console
-from .forms import MOST_TURNS, refused
+from .forms import MOST_TURNS, hit_of, refused
 from .tape import STEP, History, Position, Tape, UnitCounts, Units, lines_of, room_of
 
 MOVE = re.compile(r"[ \t]*(BACK|FORWARD)(?:[ \t]+([0-7]{1,10}))?[ \t\r]*", re.I)
@@ -41,6 +41,7 @@ class Session(Console):
         super().__init__(words)
         self.history, self.is_search = History(room_of(self.words), tape), is_search
         self.counts = UnitCounts(self.history)
+        self.watched: List[str] = []  # places, beside those of the tape
         self.written: List[str] = []  # what the engine was sent since it began
         self.times_anew = 0
 
@@ -148,9 +149,9 @@ class Session(Console):
 
     def _play(self, position: Position) -> None:
         """Performs the actions of the tape up to a position by their lines. A STEP may end where a watched number changes, and goes on."""
-        watches, actions = self.tape.watches, self.tape.actions(self.position, position)
-        stops = watches and not self.is_search
-        lines = (line for action in actions if stops or not watches or not action.is_watch for line in lines_of(action))
+        stops = self.watched or self.tape.watches and not self.is_search
+        actions = self.tape.actions(self.position, position)
+        lines = (line for action in actions if not (self.is_search and action.is_watch) for line in lines_of(action))
         while some := list(itertools.islice(lines, 1 if stops else AT_ONCE)):
             answers = self._perform_lines(some)
             while stops and answers[0] != "OK" and (left := number_in(some[0]) - number_in(answers[0])):
@@ -169,12 +170,27 @@ class Session(Console):
 
     def _go_anew(self, position: Position) -> None:
         """Goes to a position from the beginning, in a fresh engine."""
-        self.written = []
+        watched, self.watched, self.written = self.watched, [], []
         self.times_anew += 1
         self.engine.close()
         self.start()
         self.history.restarted()
         self._play(position)
+        self.watch(watched)
+
+    def watch(self, places: List[str]) -> None:
+        """Watches these places alone, beside those of the tape, from here on; it can't go back to before without a replay."""
+        if places != self.watched:
+            for line in [*(f"UNWATCH {place}" for place in self.watched), *(f"WATCH {place}" for place in places)]:
+                self.demand(line)
+            self.watched, self.history.kept, self.history.ahead = places, 0, 0
+
+    def go_on(self, position: Position) -> None:
+        """Makes the turns up to a position, or to one that changes a watched number."""
+        answer: List[str] = []
+        while self.position < position and not hit_of(answer):
+            answer = self.demand(f"{STEP} {min(position - self.position, MOST_TURNS):o}")
+            self.history.performed(number_in(answer[0]))
 
     def cut(self, position: Position) -> None:
         """Discards what comes after a position, which is not before the present one."""

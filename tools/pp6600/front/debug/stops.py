@@ -94,14 +94,12 @@ class StopSearch:
 
     def by_watches(self, first, last):
         """As `by_turns`, of changes alone: a scout of its own watches the places, which is faster."""
-        scout, watched = self.machine.scout(f"watches of {self.name}"), [place.short for place in self.places]
+        scout = self.machine.scout(f"watches of {self.name}")
         scout.goto(first)
-        if scout.watched != watched:
-            scout.unwatch()
-            scout.watch(watched)
+        scout.watch([place.short for place in self.places])
         while scout.position < last:
             before = [scout.engine.numbers(place, 1)[0] for place in self.numbers]
-            scout.comes_to(last)
+            scout.go_on(last)
             yield self.changed(scout.position, before, [scout.engine.numbers(place, 1)[0] for place in self.numbers])
 
     def by_setting(self, position, _):
