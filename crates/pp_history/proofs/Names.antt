@@ -21,8 +21,9 @@ pub use Rattle.pp_history.specs.{Parts.IsSession, Parts.contents_of, Parts.halve
 pub use Rattle.pp_history.specs.{declared.tails.Tail.Tail, declared.tails.Tails.Tails, Heads.IsHeads, Heads.IsSame, Heads.Halves}
 pub use Rattle.pp_history.specs.{Heads.halves, Heads.behind, Heads.before, Heads.others_in, declared.heads.Heads.Heads}
 pub use Rattle.pp_history.specs.{declared.log.Log.Log, declared.reversible.Reversible.Ghosts, Contents.Contents, Contents.contents}
-pub use Rattle.pp_history.specs.{SessionLaws.replayed, Marks.IsUnmarked, Repeating.AreUnmarked, Repeating.machine_after}
+pub use Rattle.pp_history.specs.{SessionLaws.replayed, Marks.IsUnmarked, Repeating.AreActed, Repeating.AreUnmarked, Repeating.machine_after}
 unfoldable pub use Rattle.pp_history.specs.Repeating.{after_acts}
 pub use Rattle.pp_history.specs.{declared.marks.Marks.Marks, Change.differ, Change.change_in, Change.IsLeastChange, Change.change}
 pub use Rattle.pp_history.specs.{UndoRecord.whole_action, UndoRecord.whole_record}
-pub use Rattle.std.specs.Vec.{with_item}
+pub use Rattle.std.specs.Vec.{with_item, with_items}
+pub use Rattle.std.proofs.lemmas.List.{with_items_is}

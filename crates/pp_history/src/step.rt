@@ -22,9 +22,6 @@ pub(crate) fn may_be_marked<T: Marked>(
     ensures { result ≡ false → IfSome (first_of T.unpacked in_tail head.now tails.now.ring.items) (λ newest.
         IsUnmarked T.marks_of T.old_value marks.now newest.1) }
 {
-    if !marks.has_places {
-        return false;
-    }
     match undo_record(head, tails, 0) {
         Some(back) => T::may_be_marked(&back, marks),
         None => true,

@@ -1,5 +1,6 @@
-use Rattle.pp_history.proofs.Names.{◌≡◌, ◌+◌, arith, refl, min, with_item}
-use Rattle.pp_history.proofs.{Runs.act_next, Runs.acted, Runs.run_ends, Repeats.repeat_more, Repeats.repeat_none, Repeats.unmarked_more}
+use Rattle.pp_history.proofs.Names.{◌≡◌, ◌+◌, ◌-◌, ◌∙◌, ◌++◌, ap, arith, drop, length, length-drop, refl, min, sym, take, with_items}
+use Rattle.pp_history.proofs.Repeats.{part_long, repeat_none, repeat_part, unmarked_both, written_block}
+use Rattle.pp_history.proofs.Runs.{run_ends}
 use Rattle.pp_history.proofs.session.Session.repeat.Goals as goal
 
 pub loop-count-init : goal.loop-count-init
@@ -8,55 +9,48 @@ loop-count-init g c =
     let kept : min (log.kept + 0) log.heads.capacity ≡ log.kept = omega (arith, c.self.invariant.full) in
     record {
       at_most = omega arith;
-      some = (c.requires, omega arith);
+      some = λ stops. absurd cc;
       repeated = rw kept (repeat_none g.T.Reversible c.self.inside.machine log g.T.Repeatable.repeated c.self.invariant);
       kept = refl;
       before = λ k less. absurd (omega (arith, less));
-      all = λ more k less. absurd (omega (arith, less));
+      all = λ going k less. absurd (omega (arith, less));
     }
-
-pub perform-requires-clause-room : goal.perform-requires-clause-room
-perform-requires-clause-room g c =
-    let run = c.loop-count.invariant.repeated.run in
-    omega (arith, run.heads.some_room, run.span.joined.kept.room)
 
 pub loop-count-preserved : goal.loop-count-preserved
 loop-count-preserved g c =
     let T = g.T.Reversible in
+    let action = g.T.Repeatable.repeated in
     let before = c.loop-count.invariant in
-    let slot = c.slot_before-at.ensures in
-    let acted = rw c.repeated.ensures at (acted T c.perform.ensures.next c.perform.ensures.kept) in
-    let more = repeat_more T before.repeated acted.next (act_next T before.repeated.run _ _ slot.is slot.within slot.same c.perform.new.head
-    (with_item c.slot_before-at.new.self.block c.slot_before-at.result c.perform.new.head) refl acted
-    (min (c.self.inside.log.kept + (c.loop-count.count + 1)) c.slot_before-at.new.self.capacity) (omega (arith, slot.same.capacity))
-    (g.met.T.Repeatable.is_admitted c.loop-count.self-inside.machine)) in
-    let run = before.repeated.run in
+    let count = c.loop-count.count in
+    let slot = c.slot_before-end.ensures in
+    let slots = c.as_mut_slice.result.now in
+    let end = c.slot_before-end.result + 1 in
+    let first = end - c.min.result in
+    let heads = c.repeat_into-stretch.new.heads in
+    let left = c.repeat_into-stretch.result.left in
+    let stretch = c.repeat_into-stretch.ensures in
+    let within = ap length c.as_mut_slice.ensures.value ∙ slot.is.block in
+    let long = part_long slots heads first end (omega arith) (omega (arith, slot.within, within)) stretch.same_length in
+    let all = sym stretch.same_length ∙ long in
+    let some = c.min.ensures in
+    let less = stretch.some in
+    let going = before.all c.if-not-may_stop.true in
+    let unmarked = unmarked_both T g.T.Marked.marks_of c.args.marks.now action count in
     record {
-      at_most = omega (arith, c.loop-count-test.true);
-      some = before.some;
-      repeated = more;
+      at_most = omega (arith, some, c.loop-count-test.true, before.at_most);
+      some = λ stops. omega (arith, less, all);
+      repeated = repeat_part T before.repeated g.met.T.Repeatable.is_admitted c.slot_before-end.new.self (first + left) end slot.is
+          (omega (arith, slot.within)) slot.same (omega (arith, less, all)) (drop left heads) (omega (arith, long, less, all, length-drop left heads))
+          c.repeat_into-stretch.new.machine c.repeat_into-stretch.new.tails stretch.acted
+          (with_items c.slot_before-end.new.self.block (take first slots ++ (heads ++ drop (end - first) (drop first slots))))
+          (written_block c.slot_before-end.new.self.block slots first end heads left c.as_mut_slice.ensures.value (omega arith)
+          (omega (arith, slot.within, within)) long (omega (arith, less, stretch.same_length)) stretch.left)
+          (min (c.self.inside.log.kept + (count + (end - (first + left)))) c.slot_before-end.new.self.capacity) (omega (arith, slot.same.capacity));
       kept = before.kept;
-      before = λ k less. before.all c.loop-count-test.true k (omega (arith, less));
-      all = λ less. unmarked_more T g.T.Marked.marks_of c.args.marks.now before.repeated.machine_is more.machine_is acted
-          (omega (arith, run.heads.some_room, run.span.joined.kept.room)) (c.may_be_marked.ensures c.if-may_be_marked.false) (before.all c.loop-count-test.true);
-    }
-
-pub loop-count-preserved-then-may_be_marked : goal.loop-count-preserved-then-may_be_marked
-loop-count-preserved-then-may_be_marked g c =
-    let T = g.T.Reversible in
-    let before = c.loop-count.invariant in
-    let slot = c.slot_before-at.ensures in
-    let acted = rw c.repeated.ensures at (acted T c.perform.ensures.next c.perform.ensures.kept) in
-    record {
-      at_most = omega arith;
-      some = (omega arith, omega (arith, before.some, c.loop-count-test.true));
-      repeated = repeat_more T before.repeated acted.next (act_next T before.repeated.run _ _ slot.is slot.within slot.same c.perform.new.head
-          (with_item c.slot_before-at.new.self.block c.slot_before-at.result c.perform.new.head) refl acted
-          (min (c.self.inside.log.kept + (c.loop-count.count + 1)) c.slot_before-at.new.self.capacity) (omega (arith, slot.same.capacity))
-          (g.met.T.Repeatable.is_admitted c.loop-count.self-inside.machine));
-      kept = before.kept;
-      before = λ k less. before.all c.loop-count-test.true k (omega (arith, less));
-      all = λ less. absurd (omega (arith, less));
+      before = λ k early. unmarked (end - first - left - 1) c.self.inside.machine c.loop-count.self-inside.machine before.repeated.machine_is going
+          (λ j earlier. stretch.before j (omega (arith, earlier, all))) k (omega (arith, early, less, all));
+      all = λ none k early. unmarked (end - first) c.self.inside.machine c.loop-count.self-inside.machine before.repeated.machine_is going
+          (λ j earlier. (stretch.all none).1 j (omega (arith, earlier, all))) k (omega (arith, early, (stretch.all none).0));
     }
 
 pub invariant_of-self : goal.invariant_of-self
