@@ -6,8 +6,6 @@ mod deadstart;
 mod lists;
 mod settings;
 mod setup;
-#[cfg(test)]
-mod tests;
 mod values;
 mod watched;
 

@@ -40,7 +40,7 @@ pub struct Stopped {
 
 /// Returns the old number of a place, or `None` if the undo record does not have that place.
 #[inline(always)]
-fn old_value(back: &UndoRecord<ShortTurn, RigRecord>, place: &Place) -> Option<u64>
+pub fn old_value(back: &UndoRecord<ShortTurn, RigRecord>, place: &Place) -> Option<u64>
     ensures { result ≡ lookup (record_pairs (whole_record unpacked back.now)) place.now }
 {
     match back {

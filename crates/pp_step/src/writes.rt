@@ -1,7 +1,7 @@
 //! The parts of which the rows of the instruction table and the moves of block transfers are made. Each writes to the machine, and
 //! writes the old values into the undo record.
 
-ghost use Rattle.std.specs.Prelude.{◌≡◌, ◌≤◌, ◌<◌, ◌^◌, length, slice_index, slice_set};
+ghost use Rattle.std.specs.Prelude.{◌≡◌, ◌≤◌, ◌<◌, false, length, slice_index, slice_set};
 ghost use Rattle.pp_machine.specs.ChannelNumbers.{state_number, with_channel};
 ghost use Rattle.pp_machine.specs.Ranges.{channel_count, past_sixty_bits, twelve_bits};
 ghost use Rattle.pp_step.specs.Inner.{five_from, five_over};
@@ -14,14 +14,15 @@ use crate::record::{StepRecord, Target};
 use pp_arith::split60;
 use pp_machine::{Central, Channel, ChannelState, Channels, Memory12, Unaligned32, Unaligned64};
 
-/// Writes into a record which registers other than P are written, and the target.
+/// Begins the record of a step: it has the places of a target, and of the registers P alone, which a wait does not have. The step
+/// adds each further register that it writes.
 #[inline(always)]
-pub fn name(a: bool, q: bool, phase: bool, target: Target, back: &mut StepRecord)
-    ensures { back.new ≡ record back.old { writes_a = a; writes_q = q; writes_phase = phase; target = target } }
+pub fn start_record(target: Target, back: &mut StepRecord)
+    ensures { back.new ≡ record back.old { writes_a = false; writes_q = false; writes_phase = false; target = target } }
 {
-    back.writes_a = a;
-    back.writes_q = q;
-    back.writes_phase = phase;
+    back.writes_a = false;
+    back.writes_q = false;
+    back.writes_phase = false;
     back.target = target;
 }
 

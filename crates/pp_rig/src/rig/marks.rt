@@ -1,8 +1,9 @@
-//! Marks of cells, central words and registers of channels. Cells and central words have marks by blocks of addresses. The
-//! five cells of a block write begin in the block of each of them or in that of four cells before it; a place has both as
-//! its marks, so one look, at the mark of the first cell, is enough for all five. The sixteen words of an exchange likewise.
+//! Marks of cells, central words, registers of channels and registers of processors. Cells and central words have marks by
+//! blocks of addresses. The five cells of a block write begin in the block of each of them or in that of four cells before
+//! it; a place has both as its marks, so one look, at the mark of the first cell, is enough for all five. The sixteen words
+//! of an exchange likewise.
 ghost use Rattle.std.specs.Prelude.{◌≡◌, ◌||◌, ℕ, true, false, None, Some, IfSome};
-ghost use Rattle.pp_history.specs.Marks.{covers};
+ghost use Rattle.pp_history.specs.Marks.{covers, is_set};
 ghost use Rattle.pp_machine.specs.Prelude.{lookup};
 ghost use Rattle.pp_rig.specs.Inner.Marks as spec;
 ghost use Rattle.pp_rig.specs.Inner.Marks.{AreUnmarked, marks_of};
@@ -40,8 +41,17 @@ fn channel_mark(c: u8) -> u16
     640 + u16::from(c)
 }
 
-/// Returns the numbers of the two marks of a place, or `None` if places of its kind have none: registers of processors and
-/// the clock are in nearly every undo record. Cells and central words repeat after 0o10000 addresses.
+/// Returns the number of the mark that A, P, Q and the phase of a processor share: 652 to 661 (decimal). With it each turn of
+/// the processor is searched, since nearly all write P, and no turn of another processor.
+#[inline(always)]
+fn register_mark(pp: u8) -> u16
+    ensures { result ≡ spec.register_mark pp }
+{
+    652 + u16::from(pp)
+}
+
+/// Returns the numbers of the two marks of a place, or `None` if places of its kind have none, as the slot, which is in the
+/// undo record of every turn. Cells and central words repeat after 0o10000 addresses.
 pub(super) fn marks_of(place: &Place) -> Option<(u16, u16)>
     ensures { IfSome result (λ marks. marks_of place.now ≡ Some marks) }
 {
@@ -55,6 +65,10 @@ pub(super) fn marks_of(place: &Place) -> Option<(u16, u16)>
             Some((central_mark(a), central_mark(a + 0o10000 - 15)))
         }
         Place::ChannelWord { c } => Some((channel_mark(c), channel_mark(c))),
+        Place::RegA { pp } => Some((register_mark(pp), register_mark(pp))),
+        Place::RegP { pp } => Some((register_mark(pp), register_mark(pp))),
+        Place::RegQ { pp } => Some((register_mark(pp), register_mark(pp))),
+        Place::Phase { pp } => Some((register_mark(pp), register_mark(pp))),
         _ => None,
     }
 }
@@ -63,9 +77,9 @@ impl TurnRest {
     /// Returns whether marks say nothing of the turn: a place without marks was given, or a device was called.
     #[inline(always)]
     fn must_search(&self, marks: &Marks) -> bool
-        ensures { result ≡ (self.now.are_devices_called || marks.now.has_unmarked) }
+        ensures { result ≡ (self.now.are_devices_called || (marks.now.has_unmarked || is_set marks.now (spec.register_mark self.now.slot))) }
     {
-        self.are_devices_called | marks.has_unmarked()
+        self.are_devices_called | (marks.has_unmarked() | marks.is_set(register_mark(self.slot)))
     }
 }
 

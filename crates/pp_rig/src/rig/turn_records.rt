@@ -73,6 +73,14 @@ impl TurnRecord {
 }
 
 impl ShortTurn {
+    /// Returns the processor whose turn it was, 0 to 9.
+    #[inline(always)]
+    pub fn slot(&self) -> u8
+        ensures { result ≡ self.now.rest.slot }
+    {
+        self.rest.slot
+    }
+
     /// Returns the whole undo record that this one represents.
     #[inline(always)]
     pub(super) fn lengthen(&self) -> RigRecord

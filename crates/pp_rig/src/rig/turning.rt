@@ -19,7 +19,9 @@ use pp_machine::{AllRecords, Devices};
 use pp_step::{step_into, step_short, undo_by, undo_short};
 
 impl Rig {
-    /// Steps the devices. Most turns do not call it: if it is inlined, `STEP` takes 1 to 2 per cent more instructions.
+    /// Steps the devices. Most turns do not call it: if it is inlined, `STEP` takes 1 to 2 per cent more instructions. It is
+    /// cold, so the compiler lays out the other turns in line.
+    #[cold]
     #[inline(never)]
     fn step_called_devices(&mut self, back: &mut TurnRest)
         ensures { AreDevicesStepped self.old self.new back.new }
@@ -51,9 +53,10 @@ impl Rig {
     }
 
     /// Advances the clock, in the turn of the last processor alone, and then the slot. Writes what they were over `back`,
-    /// the clock in that turn alone.
+    /// the clock in that turn alone. Takes the slot, so a turn reads it once.
     #[inline(always)]
-    fn end_turn(&mut self, back: &mut TurnRest)
+    fn end_turn(&mut self, slot: u8, back: &mut TurnRest)
+        requires { slot ≡ self.old.slot }
         ensures performed { ArePerformed end_parts self.old self.new (end_old_values back.new) }
         ensures called { back.new.are_devices_called ≡ back.old.are_devices_called }
         ensures devices { back.new.devices ≡ back.old.devices }
@@ -63,7 +66,6 @@ impl Rig {
         ensures setup { self.new.setup ≡ self.old.setup }
         ensures machine { IsMachine self.new }
     {
-        let slot = self.slot;
         back.slot = slot;
         if slot == 9 {
             let clock = self.channels.clock();
@@ -78,7 +80,8 @@ impl Rig {
     /// Performs the part of a turn after the processor's step.
     #[inline(always)]
     #[tactic(auto, using(crate::proofs::Stepped::rest_fits))]
-    fn finish_turn(&mut self, back: &mut TurnRest)
+    fn finish_turn(&mut self, slot: u8, back: &mut TurnRest)
+        requires { slot ≡ self.old.slot }
         ensures performed { ArePerformed rest_of_turn self.old self.new (rest_pairs back.new) }
         ensures fits { FitsRest back.new self.new }
         ensures slot { back.new.slot ≡ self.old.slot }
@@ -86,7 +89,7 @@ impl Rig {
         ensures machine { IsMachine self.new }
     {
         self.step_devices(back);
-        self.end_turn(back);
+        self.end_turn(slot, back);
     }
 
     #[inline(always)]
@@ -119,7 +122,8 @@ impl Rig {
     pub(super) fn turn(&mut self, back: &mut TurnRecord)
         ensures { IsTurned self.old self.new back.new }
     {
-        let processor = &mut self.processors[self.slot as usize];
+        let slot = self.slot;
+        let processor = &mut self.processors[slot as usize];
         step_into(
             &mut processor.pp,
             &mut processor.memory,
@@ -128,7 +132,7 @@ impl Rig {
             &mut self.frame,
             &mut back.pp,
         );
-        self.finish_turn(&mut back.rest);
+        self.finish_turn(slot, &mut back.rest);
     }
 
     /// Performs one turn of the barrel, unless the processor would perform an exchange, and writes its undo record over
@@ -139,7 +143,8 @@ impl Rig {
         ensures unchanged { result ≡ false → self.new ≡ self.old }
         ensures is_exchange { result ≡ false → IsExchange (pp_of self.old.slot self.old) }
     {
-        let processor = &mut self.processors[self.slot as usize];
+        let slot = self.slot;
+        let processor = &mut self.processors[slot as usize];
         let is_done = step_short(
             &mut processor.pp,
             &mut processor.memory,
@@ -149,7 +154,7 @@ impl Rig {
             &mut back.pp,
         );
         if is_done {
-            self.finish_turn(&mut back.rest);
+            self.finish_turn(slot, &mut back.rest);
         }
         is_done
     }
@@ -179,6 +184,7 @@ impl Rig {
     }
 
     /// Performs a turn and keeps it in a tail, in place. With a copy, a loop of exchanges takes 1.8 times as many instructions.
+    #[cold]
     #[inline(never)]
     fn turn_with_tail(&mut self, tails: &mut Tails<Action, RigRecord>)
         requires { 1 ≤ tails.old.ring.capacity }
