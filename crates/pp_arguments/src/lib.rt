@@ -4,7 +4,5 @@
 mod command_line;
 mod decimal;
 mod options;
-#[cfg(test)]
-mod tests;
 
 pub use options::{ArgFault, Options, read_arguments};

@@ -11,8 +11,6 @@ mod places;
 mod ranges;
 mod request;
 mod settings;
-#[cfg(test)]
-mod tests;
 mod words;
 
 pub use command::Command;

@@ -1,23 +1,44 @@
 -- Reads before which all lines that had ended were answered.
-use Rattle.std.proofs.Common.{◌≡◌, ◌∙◌, ap, List, [], ◌∷◌, ◌++◌, ℕ, refl}
-use Rattle.std.proofs.lemmas.List.Elements.{All-cons, All-nil}
-use Rattle.pp_lines.specs.Dialogue.{Dialogue}
-use Rattle.pp_console.specs.Order.{IsOnTime, ReadsOnTime}
+use Rattle.std.proofs.Common.{◌≡◌, ◌∙◌, ap, List, [], ◌∷◌, ◌++◌, ℕ, suc, refl, subst, sym, unwrap_or}
+use Rattle.std.proofs.lemmas.List.{Elements.All-cons, Elements.All-nil, append_cancel_left}
+use Rattle.pp_lines.specs.{Calls.Call, Dialogue.Dialogue}
+use Rattle.pp_console.specs.Order.{IsOnTime, IsPiece, Reads, ReadsOnTime}
 use Rattle.pp_console.proofs.Prelude.{HasRead, Progress, State, Value, Written, origin_of}
 
-module _ {start : Value} {first : Dialogue} {older : List Dialogue} where
+module _ {start : Value} {first : Dialogue} {before : Reads} where
   -- no read yet
-  pub no-reads : ReadsOnTime start first older older
-  no-reads = record { newer = []; all = refl; on_time = All-nil (IsOnTime start first) }
+  pub no-reads : ReadsOnTime start first [] before before
+  no-reads = record {
+    newer = [];
+    calls = [];
+    all = refl;
+    all_calls = refl;
+    one_each = refl;
+    moves = refl;
+    pieces = All-nil IsPiece;
+    on_time = All-nil (IsOnTime start first);
+  }
 
   -- one more read
-  pub one-more-read : {reads next : List Dialogue} (now : Dialogue) → next ≡ now ∷ reads → IsOnTime start first now →
-      ReadsOnTime start first older reads → ReadsOnTime start first older next
-  one-more-read now e on_time reads = record {
+  pub one-more-read : {bytes : List ℕ} {between after : Reads} (now : Dialogue) (call : Call) →
+      after.dialogues ≡ now ∷ between.dialogues → after.calls ≡ call ∷ between.calls → IsPiece call → IsOnTime start first now →
+      ReadsOnTime start first bytes before between → ReadsOnTime start first (bytes ++ unwrap_or call []) before after
+  one-more-read now call e called piece on_time reads = record {
     newer = now ∷ reads.newer;
+    calls = call ∷ reads.calls;
     all = e ∙ ap (λ others. now ∷ others) reads.all;
+    all_calls = called ∙ ap (λ others. call ∷ others) reads.all_calls;
+    one_each = ap suc reads.one_each;
+    moves = ap (λ bytes. bytes ++ unwrap_or call []) reads.moves;
+    pieces = All-cons IsPiece call reads.calls piece reads.pieces;
     on_time = All-cons (IsOnTime start first) now reads.newer on_time reads.on_time;
   }
+
+  -- the bytes that were read are determined
+  pub same-reads : {after : Reads} (given read bytes others : List ℕ) → read ≡ given ++ bytes → read ≡ given ++ others →
+      ReadsOnTime start first bytes before after → ReadsOnTime start first others before after
+  same-reads {after = after} given read bytes others is same reads =
+      subst (λ bytes. ReadsOnTime start first bytes before after) (append_cancel_left given bytes others (sym is ∙ same)) reads
 
 -- a script as far as it was read is on time
 pub HasRead-on_time : {progress : Progress} {session : State} {before text : Written} {start : Value} {bytes given : List ℕ} (read : List ℕ) →

@@ -23,4 +23,4 @@ pub use pp_files::{LoadFault, load_deck, load_panel};
 pub use pp_lines::{Counted, Failed, IoFault, Sink, Source, Terminal};
 pub use pp_trouble::{FileKind, Trouble};
 pub use progress::Summary;
-pub use serving::{serve, serve_terminal};
+pub use serving::{PIECE, serve, serve_terminal};

@@ -7,8 +7,8 @@ ghost use Rattle.pp_rig.specs.Rules.{rules};
 ghost use Rattle.pp_lines.specs.Output.{Written};
 ghost use Rattle.pp_lines.specs.LineCutter.{IsPrefixOf};
 ghost use Rattle.pp_lines.specs.Lines.{finished, unfinished};
-ghost use Rattle.pp_lines.specs.Terminal.{at_reads, sink_of, source_of};
-ghost use Rattle.pp_console.specs.Order.{ReadsOnTime};
+ghost use Rattle.pp_lines.specs.Terminal.{sink_of, source_of};
+ghost use Rattle.pp_console.specs.Order.{ReadsOnTime, dialogue_at, reads_of};
 ghost use Rattle.pp_console.specs.Commands.{State, Value};
 ghost use Rattle.pp_console.specs.Serving.{Origin, Breaks, Serves, Stops, CountsReads, CountsWrites, origin_of};
 ghost use Rattle.pp_console.specs.Inner.ServingSteps.{HasEnded, HasRead, Interrupts, IsNoReadFault};
@@ -22,8 +22,8 @@ use pp_history::Session;
 use pp_lines::{Failed, IoFault, Sink, Source, Terminal, next_line};
 use pp_rig::Rig;
 
-/// The largest number of bytes read at once.
-const PIECE: usize = 4096;
+/// The number of bytes that a read asks for.
+pub const PIECE: usize = 4096;
 
 /// Performs the unfinished line, which ends with this text, and begins the next. If nothing of it was
 /// kept, the text is the whole line, and is not copied.
@@ -158,7 +158,7 @@ fn finish<W: Sink>(
 }
 
 /// Performs every line that a terminal reads, as `serve` does. Before each read, each line that has ended is answered, and nothing
-/// else is written.
+/// else is written. Each read is one call of the source, and asks for `PIECE` bytes.
 ///
 /// # Errors
 /// Those of `serve`.
@@ -179,9 +179,11 @@ pub fn serve_terminal<R: Source, W: Sink>(
     ensures ended { OnOk result (R.ended (source_of terminal.new) ≡ true) }
     ensures reads { CountsReads (R.failure_count (source_of terminal.old)) (R.failure_count (source_of terminal.new)) result }
     ensures writes { CountsWrites (W.failure_count (sink_of terminal.old)) (W.failure_count (sink_of terminal.new)) result }
-    ensures order { (start : Value) → IsAt rules session.old start → ReadsOnTime start
-        (record { read = R.given (source_of terminal.old); written = (W.text (sink_of terminal.old)).bytes })
-        (at_reads terminal.old) (at_reads terminal.new) }
+    ensures piece { PIECE ≡ 4096 }
+    ensures order { (taken : List ℕ) → R.given (source_of terminal.new) ≡ R.given (source_of terminal.old) ++ taken →
+        (start : Value) → IsAt rules session.old start →
+        ReadsOnTime start (dialogue_at R.Source W.Sink terminal.old) taken
+        (reads_of R.Source terminal.old) (reads_of R.Source terminal.new) }
 {
     let mut progress = Progress::new();
     let mut piece = [0; PIECE];

@@ -7,8 +7,6 @@ mod loading;
 mod progress;
 mod rows;
 mod sheet;
-#[cfg(test)]
-mod tests;
 
 pub use fault::LoadFault;
 pub use files::{load_deck, load_panel};

@@ -7,8 +7,6 @@ mod loading;
 mod memory;
 mod options;
 mod system;
-#[cfg(test)]
-mod tests;
 mod words;
 
 pub use file_log::{FileEvent, FileLog};

@@ -1,22 +1,23 @@
 //! A source or a sink over any reader or writer.
-ghost use Rattle.std.specs.Prelude.{◌≡◌, [], false};
-ghost use Rattle.pp_lines.specs.Device.{one_more};
-ghost use Rattle.pp_lines.specs.Counted.{device_of, ended_by, failures_of, moved_by};
+ghost use Rattle.std.specs.Io.KnownBytes.{WriteAppends};
+ghost use Rattle.std.specs.Prelude.{◌≡◌, ◌∷◌, [], false};
+ghost use Rattle.pp_lines.specs.Calls.{Call};
+ghost use Rattle.pp_lines.specs.Device.{AnswersWithin, Counts, Logs, TakesSome, one_more};
+ghost use Rattle.pp_lines.specs.Counted.{IsCalled, calls_of, device_of, ended_by, failures_of, moved_by};
 
 use crate::device::{Failed, Sink, Source};
 use crate::log::Log;
+use crate::logged::Logged;
 use std::io::{Read, Write};
 
 /// A reader or writer that counts its failed calls.
 ///
-/// Every error of the device is `Failed`, also that of a call that was interrupted. A write that takes no byte of a slice
-/// that is not empty is `Failed` too. No failed call is repeated, whatever its error was. The contract does not say so,
-/// since no contract of `Read` and `Write` says when a call fails: tests show it for four kinds of errors.
+/// Each call of `take` or `put` is one call of the device, and fails only if that one does. Every error of the device is
+/// `Failed`, also that of a call that was interrupted. A write that takes no byte of a slice that is not empty is `Failed` too.
 #[derive(Drop)]
 pub struct Counted<D> {
-    device: D,
+    device: Logged<D>,
     failures: u64,
-    log: Log,
 }
 
 impl<D> Counted<D> {
@@ -26,11 +27,11 @@ impl<D> Counted<D> {
         ensures failures { failures_of result ≡ 0 }
         ensures moved { moved_by result ≡ [] }
         ensures ended { ended_by result ≡ false }
+        ensures calls { calls_of result ≡ [] }
     {
         Counted {
-            device,
+            device: Logged::new(device),
             failures: 0,
-            log: Log::new(),
         }
     }
 
@@ -38,7 +39,7 @@ impl<D> Counted<D> {
     pub fn device(&self) -> &D
         ensures { result.now ≡ device_of self.now }
     {
-        &self.device
+        self.device.device()
     }
 
     /// Counts a failed call.
@@ -47,6 +48,7 @@ impl<D> Counted<D> {
         ensures failures { failures_of self.new ≡ one_more (failures_of self.old) }
         ensures moved { moved_by self.new ≡ moved_by self.old }
         ensures ended { ended_by self.new ≡ ended_by self.old }
+        ensures calls { calls_of self.new ≡ calls_of self.old }
     {
         self.failures = self.failures.saturating_add(1);
         Failed
@@ -60,15 +62,14 @@ impl<D: Read> Source for Counted<D> {
 
     ghost ended = { ended_by };
 
+    ghost calls = { calls_of };
+
     ghost failure_count = { failures_of };
 
     fn take(&mut self, into: &mut [u8]) -> Result<usize, Failed> {
         match self.device.read(into) {
-            Ok(count) => {
-                self.log.note(into, count);
-                Ok(count)
-            }
-            Err(_) => Err(self.count_failure()),
+            Ok(count) => Ok(count),
+            Err(Failed) => Err(self.count_failure()),
         }
     }
 
@@ -77,7 +78,7 @@ impl<D: Read> Source for Counted<D> {
     }
 
     fn log(&self) -> &Log {
-        &self.log
+        self.device.log()
     }
 }
 
@@ -87,12 +88,16 @@ impl<D: Write> Sink for Counted<D> {
 
     ghost failure_count = { failures_of };
 
-    fn put(&mut self, from: &[u8]) -> Result<usize, Failed> {
+    fn put(&mut self, from: &[u8]) -> Result<usize, Failed>
+        ensures within { AnswersWithin result from.now }
+        ensures some { TakesSome result from.now }
+        ensures bytes { Logs (moved_by self.old) (moved_by self.new) result from.now }
+        ensures held { WriteAppends (D.contents (device_of self.old)) (D.contents (device_of self.new)) result from.now }
+        ensures counts { Counts (failures_of self.old) (failures_of self.new) result }
+        ensures called { (call : Call) × (calls_of self.new ≡ call ∷ calls_of self.old) × IsCalled call result from.now }
+    {
         match self.device.write(from) {
-            Ok(count) if count > 0 || from.is_empty() => {
-                self.log.note(from, count);
-                Ok(count)
-            }
+            Ok(count) if count > 0 || from.is_empty() => Ok(count),
             _ => Err(self.count_failure()),
         }
     }
@@ -102,6 +107,6 @@ impl<D: Write> Sink for Counted<D> {
     }
 
     fn log(&self) -> &Log {
-        &self.log
+        self.device.log()
     }
 }

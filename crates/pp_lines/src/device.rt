@@ -1,7 +1,8 @@
 //! Sources and sinks of bytes, which count their failed calls.
-ghost use Rattle.std.specs.Prelude.{◌≡◌, ℕ, Bool, List, Option};
+ghost use Rattle.std.specs.Prelude.{◌≡◌, ◌∷◌, ℕ, Bool, List, Option};
 ghost use Rattle.std.specs.Io.KnownBytes.{ReadConsumes, WriteAppends};
-ghost use Rattle.pp_lines.specs.Device.{Counts, AnswersWithin, Ends, Logs, TakesSome};
+ghost use Rattle.pp_lines.specs.Device.{AnswersWithin, Counts, Ends, Logs, TakesSome};
+ghost use Rattle.pp_lines.specs.Calls.{Call, call_of};
 ghost use Rattle.pp_lines.specs.Output.{Written};
 
 use crate::log::Log;
@@ -23,11 +24,14 @@ pub trait Source {
     // Whether it is at its end: the last call into a slice that is not empty returned 0.
     ghost ended: { Self → Bool };
 
+    // What each call so far returned, the latest first: the bytes that it read, or none if it failed.
+    ghost calls: { Self → List Call };
+
     // The number of failed calls, up to the largest `u64`.
     ghost failure_count: { Self → ℕ };
 
-    /// Reads the next bytes into the start of the slice, and returns how many. The count is at most
-    /// the slice's length. It is 0 only at the end of input or if the slice is empty.
+    /// Reads the next bytes into the start of the slice, by one call of the device, and returns how many. The count is at
+    /// most the slice's length. It is 0 only at the end of input or if the slice is empty.
     ///
     /// # Errors
     /// `Failed` if the device fails. No byte is then read, and the call is counted.
@@ -36,6 +40,7 @@ pub trait Source {
         ensures bytes { ReadConsumes (rest self.old) (rest self.new) result into.new }
         ensures given { Logs (given self.old) (given self.new) result into.new }
         ensures ended { Ends (ended self.old) (ended self.new) result into.new }
+        ensures called { calls self.new ≡ call_of result into.new ∷ calls self.old }
         ensures counts { Counts (failure_count self.old) (failure_count self.new) result };
 
     /// Returns the number of failed calls.

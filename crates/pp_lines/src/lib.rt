@@ -7,11 +7,10 @@ mod dialogue_log;
 mod fault;
 mod lines;
 mod log;
+mod logged;
 mod output;
 mod terminal;
 mod testing;
-#[cfg(test)]
-mod tests;
 mod text;
 mod words;
 
@@ -21,6 +20,7 @@ pub use dialogue_log::DialogueLog;
 pub use fault::IoFault;
 pub use lines::{LINE_FEED, LineCutter, next_line, without_return};
 pub use log::Log;
+pub use logged::Logged;
 pub use output::put_all;
 pub use terminal::Terminal;
 pub use text::push_text;

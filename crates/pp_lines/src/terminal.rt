@@ -1,4 +1,5 @@
 //! A source and a sink that know of each other's order.
+ghost use Rattle.pp_lines.specs.Calls.{call_of};
 ghost use Rattle.pp_lines.specs.Device.{AnswersWithin, Counts, Ends, Logs};
 ghost use Rattle.pp_lines.specs.Terminal.{at_reads, sink_of, source_of};
 ghost use Rattle.std.specs.Io.KnownBytes.{ReadConsumes};
@@ -32,7 +33,7 @@ impl<'r, 'w, R: Source, W: Sink> Terminal<'r, 'w, R, W> {
         }
     }
 
-    /// Logs what was read and written so far, and then reads the next bytes, as `Source::take` does.
+    /// Logs what was read and written so far, and then reads the next bytes, by one `Source::take`.
     ///
     /// # Errors
     /// `Failed` if the source fails.
@@ -43,6 +44,7 @@ impl<'r, 'w, R: Source, W: Sink> Terminal<'r, 'w, R, W> {
         ensures bytes { ReadConsumes (R.rest (source_of self.old)) (R.rest (source_of self.new)) result into.new }
         ensures given { Logs (R.given (source_of self.old)) (R.given (source_of self.new)) result into.new }
         ensures ended { Ends (R.ended (source_of self.old)) (R.ended (source_of self.new)) result into.new }
+        ensures called { R.calls (source_of self.new) ≡ call_of result into.new ∷ R.calls (source_of self.old) }
         ensures counts { Counts (R.failure_count (source_of self.old)) (R.failure_count (source_of self.new)) result }
         ensures sink { sink_of self.new ≡ sink_of self.old }
         ensures at_reads { at_reads self.new

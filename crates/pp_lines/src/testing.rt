@@ -1,7 +1,8 @@
 //! Devices for tests: sources and sinks in memory. One call of each can be made to fail.
 ghost use Rattle.std.specs.Io.KnownBytes.{ReadConsumes, WriteAppends};
-ghost use Rattle.std.specs.Prelude.{◌≡◌, ◌<◌, ◌↔◌, ◌⊎◌, [], IsErr, Some, None};
+ghost use Rattle.std.specs.Prelude.{◌≡◌, ◌<◌, ◌∷◌, ◌↔◌, ◌⊎◌, [], IsErr, Some, None};
 ghost use Rattle.pp_lines.specs.Device.{AnswersWithin, Counts, Ends, Logs, TakesSome, one_more};
+ghost use Rattle.pp_lines.specs.Calls.{call_of};
 ghost use Rattle.pp_lines.specs.Testing.{IsFull};
 
 use crate::device::{Failed, Sink, Source};
@@ -118,6 +119,8 @@ impl Source for Feed<'_> {
 
     ghost ended = { λ feed. feed.log.ended };
 
+    ghost calls = { λ feed. feed.log.calls };
+
     ghost failure_count = { λ feed. feed.calls.failures };
 
     fn take(&mut self, into: &mut [u8]) -> Result<usize, Failed>
@@ -125,12 +128,16 @@ impl Source for Feed<'_> {
         ensures bytes { ReadConsumes (Some self.old.bytes.now) (Some self.new.bytes.now) result into.new }
         ensures given { Logs self.old.log.bytes self.new.log.bytes result into.new }
         ensures ended { Ends self.old.log.ended self.new.log.ended result into.new }
+        ensures called { self.new.log.calls ≡ call_of result into.new ∷ self.old.log.calls }
         ensures counts { Counts self.old.calls.failures self.new.calls.failures result }
         ensures made { self.new.calls.made ≡ one_more self.old.calls.made }
         ensures failing { self.new.calls.failing ≡ self.old.calls.failing }
         ensures fails { IsErr result ↔ (self.old.calls.failing ≡ Some (one_more self.old.calls.made)) }
     {
-        self.calls.begin()?;
+        if self.calls.begin().is_err() {
+            self.log.note_failure();
+            return Err(Failed);
+        }
         let bytes = self.bytes;
         let count = bytes.len().min(self.piece).min(into.len());
         into[..count].copy_from_slice(&bytes[..count]);
@@ -162,6 +169,8 @@ impl Source for Endless {
     ghost given = { λ endless. endless.log.bytes };
 
     ghost ended = { λ endless. endless.log.ended };
+
+    ghost calls = { λ endless. endless.log.calls };
 
     ghost failure_count = { λ _. 0 };
 

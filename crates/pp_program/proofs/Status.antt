@@ -1,5 +1,5 @@
 -- The exit status of a run that was cut short.
-use Rattle.std.proofs.Common.{◌≡◌, ℕ, ◌≤◌, Bool, List, Option, refl, arith, ◌⊎◌}
+use Rattle.std.proofs.Common.{◌≡◌, ℕ, ◌≤◌, Bool, List, Option, arith, ◌⊎◌}
 use Rattle.pp_arguments.specs.CommandLine.{Text}
 use Rattle.pp_files.specs.Files.{Rule, card_rule}
 use Rattle.pp_host.specs.{Known.Found, Known.Known, Loading.IsLost, Options.Asked}

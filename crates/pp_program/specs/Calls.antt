@@ -1,23 +1,23 @@
 -- What the calls below `run` do. Only inner contracts and proofs use this file.
-use Rattle.std.specs.Prelude.{◌≡◌, ℕ, Bool, true, OnOk, is_none, List, [], ◌++◌, ◌⊎◌, All, MatchResult, Option, Result, Ok, Err}
+use Rattle.std.specs.Prelude.{◌≡◌, ℕ, Bool, true, OnOk, is_none, List, [], ◌++◌, ◌⊎◌, All, Option, Result, Ok, Err}
 use Rattle.std.specs.Io.KnownBytes.{Consumes}
 use Rattle.pp_arguments.specs.CommandLine.{Text}
-use Rattle.pp_console.specs.{Commands.Value, Order.ReadsOnTime}
+use Rattle.pp_console.specs.{Commands.Value, Order.Reads, Order.ReadsOnTime, Order.reads_of}
 use Rattle.pp_files.specs.Rows.{Row}
-use Rattle.pp_host.specs.{Calls.IsAllRead, Calls.IsNamed, Options.Asked}
+use Rattle.pp_host.specs.{Calls.IsAllRead, Calls.IsNamed, Failures.writes_by, Options.Asked}
 use Rattle.pp_host.specs.Known.{Agrees, Found, IsContent, IsInput, Known, Words}
 use Rattle.pp_host.specs.declared.host.Host.{Ghosts as HostGhosts}
-use Rattle.pp_lines.specs.{Dialogue.Dialogue, Output.Appends, Prefixes.IsProperPrefix, declared.terminal.Terminal.Terminal}
-use Rattle.pp_lines.specs.Terminal.{at_reads, sink_of, source_of}
+use Rattle.pp_lines.specs.{Dialogue.Dialogue, Output.Appends, declared.terminal.Terminal.Terminal}
+use Rattle.pp_lines.specs.Terminal.{sink_of, source_of}
 use Rattle.pp_lines.specs.declared.device.Sink.{Ghosts as SinkGhosts}
 use Rattle.pp_lines.specs.declared.device.Source.{Ghosts as SourceGhosts}
 use Rattle.pp_program.specs.{Course.Course, Course.after, Course.ends, Course.performing, Cuts.IsCutServing, Order.IsInOrder}
 use Rattle.pp_program.specs.{Outside.Input, Outside.Output, Outside.Files, Run.IsCutShort, Run.IsWhole}
 use Rattle.pp_program.specs.Program.{Given, script_at, served, session_with}
-use Rattle.pp_program.specs.Traces.{AreRead, Ended, IsOutput, IsTyped}
+use Rattle.pp_program.specs.Traces.{AreRead, Ended, IsTyped, Prints, Writes}
 use Rattle.pp_trouble.specs.{Message.line_of, declared.trouble.FileKind.FileKind, declared.trouble.Trouble.Trouble}
 use Rattle.pp_trouble.specs.declared.trouble.FileKind.TheVariants.{Deck, Panel, Script}
-use Rattle.pp_trouble.specs.declared.trouble.Trouble.TheVariants.{Help, NoMemory, WriteFailed}
+use Rattle.pp_trouble.specs.declared.trouble.Trouble.TheVariants.{Help, NoMemory}
 
 -- the files, as the host shows them
 abbrev pub files_of : {H F : Type 0} → HostGhosts H F → H → Files
@@ -36,8 +36,8 @@ pub record Devices : Type 0 where
   pub files : Files
   pub input : Input
   pub output : Output
-  -- what had been read and written before each read of standard input
-  pub reads : List Dialogue
+  -- the reads of standard input
+  pub reads : Reads
 
 -- what was read of standard input and written so far
 abbrev pub said_by : Devices → Dialogue
@@ -48,7 +48,7 @@ devices_of H R W host terminal = record {
   files = files_of H host;
   input = input_of R (source_of terminal);
   output = output_of W (sink_of terminal);
-  reads = at_reads terminal;
+  reads = reads_of R terminal;
 }
 
 -- the deck, the panel and the script
@@ -68,7 +68,7 @@ pub record IsTraced (before after : Devices) (given : Given) (readings : FileKin
   pub bytes : IsInput before.input.left typed given.input
   pub files : AreRead before.files after.files course readings ended.files
   pub input : IsTyped before.input after.input course typed ended.input
-  pub output : IsOutput course before.output after.output
+  pub output : Writes before.output after.output course.answers (writes_by course.ended before.output.failures)
 
 -- a run that ended so, before its end is printed
 pub record IsCourse (words : Known Words) (before after : Devices) (result : Result ℕ Trouble) : Type 0 where
@@ -143,13 +143,11 @@ pub record PerformsScript (IsAt : Value → Type 0) (path : Option Text) (before
       (performing path (ends answers result))
       × IsPerformed path script input read typed start (ends answers result)
   pub order : (start : Value) → IsAt start →
-      ((typed ≡ []) × (after.reads ≡ before.reads)) ⊎ ReadsOnTime start (said_by before) before.reads after.reads
+      ((typed ≡ []) × (after.reads ≡ before.reads)) ⊎ ReadsOnTime start (said_by before) typed before.reads after.reads
 
 -- ---- the end of a run
 
--- the usage was printed, or a proper prefix of it, up to a failed write
-pub record PrintsUsage (before after : Output) (result : Result ℕ Trouble) : Type 0 where
-  pub written : List ℕ
-  pub output : IsOutput (ends written result) before after
-  pub whole : MatchResult result (λ status. (status ≡ 0) × (written ≡ line_of Help))
-      (λ trouble. (trouble ≡ WriteFailed) × IsProperPrefix written (line_of Help))
+-- standard output has the usage if that was asked for, and nothing else
+abbrev pub PrintsUsage : Trouble → Output → Output → Type 0
+PrintsUsage Help before after = Prints before after (line_of Help)
+PrintsUsage trouble before after = Writes before after [] before.failures

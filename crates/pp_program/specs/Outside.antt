@@ -1,10 +1,11 @@
 -- What is outside of the program, as its devices show it.
 use Rattle.std.specs.Prelude.{ℕ, Bool, List}
 use Rattle.pp_arguments.specs.CommandLine.{Text}
+use Rattle.pp_console.specs.Order.{Reads, reads_of}
 use Rattle.pp_host.specs.{Events.Event, Known.Found, Known.Known, Known.Words}
 use Rattle.pp_host.specs.declared.host.Host.{Ghosts as HostGhosts}
 use Rattle.pp_lines.specs.{Dialogue.Dialogue, Output.Written, declared.terminal.Terminal.Terminal}
-use Rattle.pp_lines.specs.Terminal.{at_reads, sink_of, source_of}
+use Rattle.pp_lines.specs.Terminal.{sink_of, source_of}
 use Rattle.pp_lines.specs.declared.device.Sink.{Ghosts as SinkGhosts}
 use Rattle.pp_lines.specs.declared.device.Source.{Ghosts as SourceGhosts}
 
@@ -44,8 +45,9 @@ pub record Outside : Type 0 where
   pub input : Input
   pub output : Output
   pub errors : Output
-  -- what had been read of standard input and written to standard output before each read so far, the latest read first
-  pub reads : List Dialogue
+  -- the reads of standard input so far, the latest first: what had been read of it and written to standard output before each, and
+  -- what each call returned
+  pub reads : Reads
 
 -- What was read of standard input and written to standard output so far.
 abbrev pub dialogue_of : Outside → Dialogue
@@ -64,5 +66,5 @@ outside_of H R W E host terminal errors = record {
       record { left = R.rest input; read = R.given input; ended = R.ended input; failures = R.failure_count input };
   output = record { text = W.text (sink_of terminal); failures = W.failure_count (sink_of terminal) };
   errors = record { text = E.text errors; failures = E.failure_count errors };
-  reads = at_reads terminal;
+  reads = reads_of R terminal;
 }

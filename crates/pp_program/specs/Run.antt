@@ -3,12 +3,11 @@ use Rattle.std.specs.Prelude.{◌≡◌, ◌⊎◌, ℕ, List, [], All, IfOk, If
 use Rattle.pp_arguments.specs.CommandLine.{Text}
 use Rattle.pp_host.specs.Known.{Agrees, Found, IsContent, IsInput, Known}
 use Rattle.pp_host.specs.Options.{Asked, Means, path_of}
-use Rattle.pp_lines.specs.Prefixes.{IsProperPrefix}
 use Rattle.pp_program.specs.{Course.Course, Course.ends, Cuts.IsCut, Order.IsInOrder, Outside.Outside, Outside.dialogue_of}
 use Rattle.pp_program.specs.Program.{Given, exit_of, program}
 use Rattle.pp_program.specs.Traces.{AreRead, AreReadEnough, Ended, IsOutput, IsReported, IsTyped}
-use Rattle.pp_trouble.specs.{Message.line_of, declared.trouble.FileKind.FileKind, declared.trouble.Trouble.Trouble}
-use Rattle.pp_trouble.specs.declared.trouble.Trouble.TheVariants.{Help, NoMemory, WriteFailed}
+use Rattle.pp_trouble.specs.{declared.trouble.FileKind.FileKind, declared.trouble.Trouble.Trouble}
+use Rattle.pp_trouble.specs.declared.trouble.Trouble.TheVariants.{NoMemory}
 
 -- ---- the course
 
@@ -32,9 +31,6 @@ pub data IsCutShort (files : Text → Known Found) (given : Given) (readings : F
     (ended : Ended) (course : Course) : Type 0 where
   -- Memory ran out while the words were read, before anything was opened.
   InWords : course ≡ ends [] (Err NoMemory) → IsCutShort files given readings typed ended course
-  -- The words ask for help. A write failed, after a proper prefix of the usage.
-  InUsage : (front : List ℕ) → Means given.words (Err Help) → IsProperPrefix front (line_of Help) →
-      course ≡ ends front (Err WriteFailed) → IsCutShort files given readings typed ended course
   -- The words ask for these options, and the run was cut short after that.
   AfterWords : (asked : Asked) → Means given.words (Ok asked) → AreKnown files given (Ok asked) →
       IsCut asked given readings typed ended course → IsCutShort files given readings typed ended course
@@ -72,9 +68,9 @@ pub record IsRun (before after : Outside) (status : ℕ) : Type 0 where
   pub files : AreRead before.files after.files course readings ended.files
   -- It read these bytes of standard input, and none if the course does not perform it.
   pub input : IsTyped before.input after.input course typed ended.input
-  -- Standard output has the answers of the course.
-  pub output : IsOutput course before.output after.output
-  -- Before each read of standard input, each line that had ended was answered, and nothing else was written.
+  -- Standard output has the answers of the course, or the usage,
+  pub output : IsOutput course.ended course.answers before.output after.output
+  -- Each read of standard input was one call, before which each line that had ended was answered, and nothing else was written.
   pub order : IsInOrder given typed (dialogue_of before) before.reads after.reads
   -- Standard error has the line of what ended it early.
   pub errors : IsReported course.ended before.errors after.errors

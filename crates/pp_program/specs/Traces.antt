@@ -8,7 +8,7 @@ use Rattle.pp_lines.specs.{Device.one_more, Output.Appends, Prefixes.IsProperPre
 use Rattle.pp_program.specs.{Course.Course, Outside.Files, Outside.Input, Outside.Output}
 use Rattle.pp_trouble.specs.{Message.line_of, declared.trouble.FileKind.FileKind, declared.trouble.Trouble.Trouble}
 use Rattle.pp_trouble.specs.declared.trouble.FileKind.TheVariants.{Deck, Panel, Script}
-use Rattle.pp_trouble.specs.declared.trouble.Trouble.TheVariants.{CannotOpen, LineLimit}
+use Rattle.pp_trouble.specs.declared.trouble.Trouble.TheVariants.{CannotOpen, Help, LineLimit}
 
 -- ---- what is read
 
@@ -69,11 +69,14 @@ Prints before after bytes =
     Writes before after bytes before.failures
     ⊎ ((front : List ℕ) × Writes before after front (one_more before.failures) × IsProperPrefix front bytes)
 
--- Standard output has the answers of the course. No write failed, unless a failed write ended the course.
-abbrev pub IsOutput : Course → Output → Output → Type 0
-IsOutput course before after = Writes before after course.answers (writes_by course.ended before.failures)
+-- Standard output has the answers, and after them the usage if the words ask for help. No write failed, unless a failed write ended
+-- the course or cut off the usage.
+abbrev pub IsOutput : Result ℕ Trouble → List ℕ → Output → Output → Type 0
+IsOutput (Err Help) answers before after = Prints before after (answers ++ line_of Help)
+IsOutput ended answers before after = Writes before after answers (writes_by ended before.failures)
 
--- Standard error has the line of what ended the run early, and nothing else.
+-- Standard error has the line of what ended the run early, other than the usage, and nothing else.
 abbrev pub IsReported : Result ℕ Trouble → Output → Output → Type 0
 IsReported (Ok status) before after = Writes before after [] before.failures
+IsReported (Err Help) before after = Writes before after [] before.failures
 IsReported (Err trouble) before after = Prints before after (line_of trouble)

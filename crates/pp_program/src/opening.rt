@@ -51,6 +51,8 @@ impl Source for Bytes<'_> {
 
     ghost ended = { λ bytes. bytes.log.ended };
 
+    ghost calls = { λ bytes. bytes.log.calls };
+
     ghost failure_count = { λ _. 0 };
 
     fn take(&mut self, into: &mut [u8]) -> Result<usize, Failed> {

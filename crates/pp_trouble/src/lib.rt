@@ -2,8 +2,6 @@
 #![tactic(auto)]
 
 mod message;
-#[cfg(test)]
-mod tests;
 mod trouble;
 
 pub use trouble::{FileKind, Trouble};

@@ -7,6 +7,7 @@ use Rattle.pp_lines.proofs.Walks.{owns, MutRef, mut_vals, mut_Tells, plain, open
 use Rattle.pp_lines.proofs.Walks.{stay_ref, Goes-ref, ends_at, walked, walk_Meets, u8, yes, ShrSlice, slice_val, shr_slice_vals}
 use Rattle.pp_lines.proofs.Walks.{shr_slice_Tells, stay_none_slice, Goes-none_slice, take, stay_none, Goes-none, usize, w64, vint}
 use Rattle.pp_lines.proofs.Walks.{uint_vals, uint_Tells}
+use Rattle.std.specs.Prelude.{Some}
 use Rattle.pp_lines.specs.{Device.is_at_end, declared.log.Log.Log}
 use Rattle.pp_lines.specs.contracts.log.Log as T
 use Rattle.pp_lines.specs.contracts.log.Log.note.Key.{name as #it}
@@ -32,6 +33,7 @@ meets {𝓤 = 𝓤} 𝓛 at_mem run 𝓣 = walk_Meets 𝓛 it.ended stayed (
       marker = a.0.now.marker;
       bytes = a.0.now.bytes ++ take a.1.1.0 a.1.0.now;
       ended = is_at_end a.0.now.ended a.1.1.0 a.1.0.now;
+      calls = Some (take a.1.1.0 a.1.0.now) ∷ a.0.now.calls;
     } in let count : Val = vint w64 a.1.1.0 in
     qed 𝓛 ((‵ (flft κs.0 qs.0) ⊛ (‵ (flft κs.1.0 qs.1.0) ⊛ ‵ ftrue)) ∷
     ‵ (owns (MutRef (named 0) κs.0 T.the_row ∷ ShrSlice (named 1) κs.1.0 u8 ∷ usize ∷ []) a (place ∷ [], (text ∷ [], (count ∷ [], tt)))) ∷ []) ∵
@@ -44,7 +46,7 @@ meets {𝓤 = 𝓤} 𝓛 at_mem run 𝓣 = walk_Meets 𝓛 it.ended stayed (
     move ! (1 ∷ 0 ∷ []) $ closes ! tt T.the_row after vs a.0.ref_ptr.0 a.0.ref_ptr.1 $
     returns ! (look_at ! 0 refl) $ free_all ! refl $ keep ! (0 ∷ 1 ∷ 2 ∷ 3 ∷ 4 ∷ []) $
     suffices ! _ (ends_at 𝓛 it.ended stayed (it.clauses 𝓛 at_mem run) ((κs, qs, tt, a, (place ∷ [], (text ∷ [], (count ∷ [], tt)))), tt) vunit tt
-    (after, (tt, (tt, tt))) (tt, (tt, (tt, tt)))) $ says ! (refl, refl) $ move ! (2 ∷ 4 ∷ []) $ join ! $
+    (after, (tt, (tt, tt))) (tt, (tt, (tt, tt)))) $ says ! (refl, refl, refl) $ move ! (2 ∷ 4 ∷ []) $ join ! $
     frame ! $ feq_i ! (List Val) (place ∷ []) (place ∷ []) refl $ fjoin3 ! $ fjoin ! $
     feq_i ! (List Val) (vunit ∷ []) (vunit ∷ []) refl $ move ! (1 ∷ 0 ∷ []) $ done !)))))
 
