@@ -1,0 +1,5 @@
+pub mod ReadLinks
+pub mod LinkLists
+pub mod ExchangeLinks
+pub mod Explained
+pub mod Agreement

@@ -1,0 +1,4 @@
+pub mod Devices
+pub mod Turn
+pub mod Recording
+pub mod Inner
