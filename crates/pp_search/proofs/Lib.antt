@@ -1,0 +1,9 @@
+pub mod AnyPlace
+pub mod Chosen
+pub mod Firsts
+pub mod Least
+pub mod Listed
+pub mod Owned
+pub mod ReadForms
+pub mod Steps
+pub mod Unmarked

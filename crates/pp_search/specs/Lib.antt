@@ -1,0 +1,4 @@
+pub mod Condition
+pub mod Forms
+pub mod Plan
+pub mod Search

@@ -1,0 +1,156 @@
+//! Conditions as numbers: how a client that is not written in Rattle has them.
+ghost use Rattle.pp_machine.specs.Numbering.{fixed_places};
+ghost use Rattle.pp_search.specs.Condition.{HasAllPlaces, HasPlaces};
+ghost use Rattle.pp_search.specs.Forms as spec;
+ghost use Rattle.pp_search.specs.Forms.{AreForms, IsForm};
+ghost use Rattle.pp_machine.specs.Ranges.{processor_count};
+ghost use Rattle.std.specs.Prelude.{◌≡◌, ◌≢◌, ◌+◌, ◌<◌, ◌≤◌, All, IfSome, IsSome};
+
+use crate::condition::{Alternative, Condition, Test};
+use arrayvec::ArrayVec;
+use pp_machine::place_at;
+use pp_rig::{Rig, place_count};
+
+/// The number at `place` is from `first` to `last`.
+pub const INSIDE: u32 = 0;
+
+/// The number at `place` is below `first` or above `last`.
+pub const OUTSIDE: u32 = 1;
+
+/// One of `first` numbers from `place` on changes.
+pub const CHANGES: u32 = 2;
+
+/// One of `first` places from `place` on is written.
+pub const WRITES: u32 = 3;
+
+/// Processor `place` is about to perform the instruction at address `first`.
+pub const PERFORMS: u32 = 4;
+
+/// Processor `place` waits.
+pub const WAITS: u32 = 5;
+
+/// Another alternative begins.
+pub const OR: u32 = 6;
+
+/// A test by its kind and numbers, or the beginning of another alternative. A number that the kind does not name is ignored.
+#[repr(C)]
+#[derive(Clone, Copy, Default, Drop)]
+pub struct Form {
+    /// What is tested: one of the constants of this module.
+    pub kind: u32,
+    /// The number of a place in the order of all places, or a processor.
+    pub place: u32,
+    pub first: u64,
+    pub last: u64,
+}
+
+/// Returns how many of the places from one on a form is about, or `None` if the machine does not have so many.
+fn count_of(machine: &Rig, form: &Form) -> Option<u32>
+    ensures count { IfSome result (λ count. (count ≡ form.now.first) × (form.now.place + count ≤ fixed_places + machine.now.setup.central_words)) }
+    ensures some { form.now.place + form.now.first ≤ fixed_places + machine.now.setup.central_words → IsSome result }
+{
+    let count = place_count(machine);
+    if form.place > count || form.first > u64::from(count - form.place) {
+        return None;
+    }
+    Some(form.first as u32)
+}
+
+/// Returns a processor, or `None` if there is none of this number.
+fn processor_of(form: &Form) -> Option<u8>
+    ensures processor { IfSome result (λ pp. (pp ≡ form.now.place) × (pp < processor_count)) }
+    ensures some { form.now.place < processor_count → IsSome result }
+{
+    if form.place < 10 {
+        Some(form.place as u8)
+    } else {
+        None
+    }
+}
+
+/// Returns the test of a form, or `None` if there is no such kind, or if the machine does not have the places.
+fn test_of(machine: &Rig, form: &Form) -> Option<Test>
+    requires { form.now.kind ≢ OR }
+    ensures test { IfSome result (λ test. test ≡ spec.test_of form.now) }
+    ensures has { IfSome result (HasPlaces machine.now.setup.central_words) }
+    ensures some { IsForm machine.now.setup.central_words form.now → IsSome result }
+{
+    let Form {
+        kind,
+        place,
+        first,
+        last,
+    } = *form;
+    match kind {
+        INSIDE | OUTSIDE if place >= place_count(machine) => None,
+        INSIDE => Some(Test::Inside {
+            place: place_at(place),
+            first,
+            last,
+        }),
+        OUTSIDE => Some(Test::Outside {
+            place: place_at(place),
+            first,
+            last,
+        }),
+        CHANGES => {
+            let count = count_of(machine, form)?;
+            Some(Test::Changes {
+                first: place,
+                count,
+            })
+        }
+        WRITES => {
+            let count = count_of(machine, form)?;
+            Some(Test::WritesTo {
+                first: place,
+                count,
+            })
+        }
+        PERFORMS if first <= 0o7777 => {
+            let pp = processor_of(form)?;
+            Some(Test::Performs {
+                pp,
+                address: first as u16,
+            })
+        }
+        WAITS => {
+            let pp = processor_of(form)?;
+            Some(Test::Waits { pp })
+        }
+        _ => None,
+    }
+}
+
+/// Returns the condition of some forms. Returns `None` if one of them is no form of this machine, or if an alternative has
+/// more than 8 tests, or if there are more than 64 alternatives (decimal).
+pub fn condition_of(machine: &Rig, forms: &[Form]) -> Option<Condition>
+    ensures is { IfSome result (λ condition. condition ≡ spec.condition_of forms.now) }
+    ensures has { IfSome result (HasAllPlaces machine.now.setup.central_words) }
+    ensures some { AreForms machine.now.setup.central_words forms.now → IsSome result }
+{
+    let mut alternatives = ArrayVec::new();
+    let mut tests = ArrayVec::new();
+    for form in forms {
+        if form.kind == OR {
+            if alternatives.is_full() {
+                return None;
+            }
+            alternatives.push(Alternative { tests });
+            tests = ArrayVec::new();
+        } else {
+            if tests.is_full() {
+                return None;
+            }
+            match test_of(machine, form) {
+                Some(test) => tests.push(test),
+                None => return None,
+            }
+        }
+    }
+    if alternatives.is_full() {
+        return None;
+    }
+    alternatives.push(Alternative { tests });
+    Some(Condition { alternatives })
+}
