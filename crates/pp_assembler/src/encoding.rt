@@ -1,9 +1,9 @@
 //! The words of statements, and how they are put into cells.
 use crate::fields::{FirstParts, Statement, first_parts, is_empty};
-use crate::instructions::{Form, form_of, size_of};
 use crate::message::{Argument, Fault, Field, Outcome, Stop};
 use crate::pass::{CELLS, Here, Pass, Slot};
 use crate::texts::tail;
+use pp_notation::{Form, form_of, size_of};
 
 /// How many words a source makes, though only as many as a memory has can be right.
 const MOST_WORDS: usize = 100_000;

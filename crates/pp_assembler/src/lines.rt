@@ -1,7 +1,7 @@
 //! The statements of a source: its lines, each with those that continue it, and those that SUBR makes.
 ghost use Rattle.std.specs.Prelude.{◌≡◌, IfOk, map};
 ghost use Rattle.pp_assembler.specs.Places.{length_of, line_lengths};
-ghost use Rattle.pp_assembler.specs.Texts.{between};
+ghost use Rattle.pp_notation.specs.Columns.{between};
 
 use crate::fields::{in_columns, is_empty, length_without_blanks};
 use crate::texts::tail;

@@ -1,5 +1,4 @@
 //! Macros: their definitions, and the lines that their calls make. ECHO makes lines likewise.
-use crate::digits::put_octal;
 use crate::fields::{Statement, length_without_blanks};
 use crate::lines::{Call, Line, Lines, Span};
 use crate::message::{Argument, Fault, Field, Outcome, Stop};
@@ -7,6 +6,7 @@ use crate::pass::{Here, Pass, too_many_statements};
 use crate::symbols::end_of_name;
 use crate::texts::{find, is_alphanumeric};
 use crate::vocabulary::{Macro, Meaning, Vocabulary};
+use pp_notation::put_octal;
 use std::alloc::{AllocError, Global};
 
 /// How many symbols a line has that a macro makes.

@@ -1,5 +1,4 @@
 //! Micros: names of texts, which stand between two marks in a line in place of these.
-use crate::digits::put_digits;
 use crate::directives::{the_only, wants_operand};
 use crate::fields::{Statement, first_parts};
 use crate::lines::{Lines, Span};
@@ -9,6 +8,7 @@ use crate::pass::{Here, Pass};
 use crate::symbols::{Definition, end_of_name};
 use crate::values::Base;
 use crate::vocabulary::Meaning;
+use pp_notation::put_digits;
 
 const MICRO_WANTED: &str =
     "MICRO wants a number, how many symbols, and a text between two equal symbols";

@@ -1,11 +1,11 @@
 //! The operations that are no instructions.
 use crate::blocks::Opening;
 use crate::conditions::Order;
-use crate::instructions::code_of;
 use Operation::{
     Base, Bits, Block, Data, Deck, End, Equate, Error, Expressions, Greatest, Ignored, Inside,
     Least, Lines, Literals, Location, Origin, Qualifier, Refused, Set, Shortest, Space, Use, Zeros,
 };
+use pp_notation::code_of;
 
 /// What a name in the operation field is.
 #[derive(Clone, Copy)]

@@ -1,6 +1,6 @@
 //! A source in two passes: the first one finds what its names stand for, the second one makes its words and reports what is wrong.
 ghost use Rattle.std.specs.Prelude.{◌≡◌, ◌<◌, All, IfOk, map};
-ghost use Rattle.pp_assembler.specs.Cells.{IsProgram, IsStart};
+ghost use Rattle.pp_notation.specs.Cells.{IsProgram, IsStart};
 ghost use Rattle.pp_assembler.specs.Places.{IsOfLine, length_of, line_lengths};
 
 use crate::lines::{Lines, Span, cut_lines, read_lines};
@@ -8,9 +8,10 @@ use crate::message::{Fault, Message};
 use crate::pass::{CELLS, Pass, Slot};
 use crate::performing::Ending;
 use crate::places::complaints;
-use crate::program::{Assembly, Cell, Program};
+use crate::program::Assembly;
 use crate::symbols::Symbols;
 use crate::units::Blocks;
+use pp_notation::{Cell, Program};
 use std::alloc::{AllocError, Global};
 
 /// How many passes there are, until each block is where the pass before has put it.

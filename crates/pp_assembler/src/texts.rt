@@ -1,13 +1,10 @@
 //! Texts in display code: 3HABC, 0HABC up to a comma or a blank, H*ABC* between two equal symbols.
 use crate::message::{Fault, Outcome, Stop};
 use crate::values::product;
+pub use pp_notation::code_of_symbol as code_of;
 
 /// How many symbols a line has. Blanks at its end may be lost.
 pub const LONGEST: usize = 72;
-
-/// The symbols of display code, in the order of their codes.
-pub static SYMBOLS: &[u8; 64] =
-    b":ABCDEFGHIJKLMNOPQRSTUVWXYZ0123456789+-*/()$= ,.#[]%\"_!&'?<>@\\^;";
 
 /// The display code of a blank.
 const BLANK: u8 = 0o55;
@@ -165,12 +162,6 @@ pub fn before_mark(text: &[u8], mark: u8, column: usize) -> Outcome<&[u8]> {
     let fault = Fault::new("the text has no {} at its end").symbol(mark);
     let end = find(text, 0, mark).ok_or(fault.at(column))?;
     Ok(text.get(..end).unwrap_or(b""))
-}
-
-/// Returns the display code of a symbol.
-pub fn code_of(symbol: u8) -> Option<u8> {
-    let code = SYMBOLS.iter().position(|one| *one == symbol)?;
-    u8::try_from(code).ok()
 }
 
 /// Returns that a symbol has no display code.

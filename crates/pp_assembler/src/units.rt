@@ -3,9 +3,9 @@ use crate::lines::Span;
 use crate::message::{Argument, Fault, Field, Outcome, Stop};
 use crate::pass::{Here, Pass, Slot};
 use crate::passes::program_of;
-use crate::program::Program;
 use crate::symbols::{Definition, Place};
 use crate::texts::is_alphanumeric;
+use pp_notation::Program;
 use std::alloc::{AllocError, Global};
 
 /// The index of the nominal block, which has no name. That of the literals is behind it.

@@ -1,13 +1,12 @@
 //! The text of a message: what is wrong, and what to write instead.
-use crate::digits::{put_decimal, put_octal};
 use crate::fields::length_without_blanks;
-use crate::instructions::{INSTRUCTIONS, NAMES, name_of};
 use crate::lines::{Line, Span};
 use crate::message::{Argument, Fault, Field, Message};
 use crate::nearest::Nearest;
 use crate::operations::{OPERATIONS, Operation};
 use crate::program::Assembly;
 use crate::texts::{after_blanks, is_alphanumeric};
+use pp_notation::{INSTRUCTIONS, name_of, put_decimal, put_octal};
 use std::alloc::{AllocError, Global};
 
 /// How many symbols of a line that a macro made are shown.
@@ -109,7 +108,7 @@ impl Writer<'_> {
     }
 
     fn instruction(&mut self, code: u8) -> Result<(), AllocError> {
-        self.text(name_of(code & 0o77).as_slice())
+        self.text(name_of(code & 0o77))
     }
 
     fn nearest_symbol(&mut self, name: Field) -> Result<(), AllocError> {
@@ -232,7 +231,7 @@ fn stripped(text: &[u8]) -> &[u8] {
 fn see_operations(nearest: &mut Nearest) {
     for code in 0..INSTRUCTIONS {
         if code != 0o24 && code != 0o25 {
-            nearest.see(NAMES[code].as_slice());
+            nearest.see(name_of(code as u8));
         }
     }
     for (names, operation) in &OPERATIONS {

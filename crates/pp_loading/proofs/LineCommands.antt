@@ -4,7 +4,7 @@ use Rattle.std.proofs.Common.{codes, length, refl, sym, ap, arith, append_assoc,
 use Rattle.std.specs.List.{list_all}
 use Rattle.std.proofs.lemmas.Bool.Decides.{nat_tests}
 use Rattle.pp_arith.specs.Octal.{octal_text, is_octal}
-use Rattle.pp_assembler.specs.declared.program.Cell.{Cell}
+use Rattle.pp_notation.specs.declared.program.Cell.{Cell}
 use Rattle.pp_lines.specs.{Lines.finished, Words.words}
 use Rattle.pp_actions.specs.declared.action.Action.TheVariants.{SetCells, SetP}
 use Rattle.pp_command.specs.CommandLine.{command, makes, sentence, request_of, setting, set_cells, is_printable}
@@ -12,7 +12,7 @@ use Rattle.pp_command.specs.Numbers.{WordList, if_octal, number_read, numbers, t
 use Rattle.pp_command.specs.declared.fault.LineFault.{LineFault}
 use Rattle.pp_lines.specs.Results.{◌>>=◌}
 use Rattle.pp_command.specs.declared.request.Request.TheVariants.{Act}
-use Rattle.pp_assembler.specs.Rows.{IsRow}
+use Rattle.pp_notation.specs.Rows.{IsRow}
 use Rattle.pp_loading.specs.Inner.Rows.{cells_line, start_line, words_text, word_text}
 use Rattle.pp_loading.proofs.LineWords.{AreWords, IsWord, is_of_line, length-spaced, line-of_line, list_all-implied}
 use Rattle.pp_loading.proofs.LineWords.{finished-of_line, number-word, number_text, spaced, without_return-of_line, words-line}

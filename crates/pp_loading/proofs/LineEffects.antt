@@ -3,8 +3,8 @@ use Rattle.std.proofs.Common.{◌≡◌, ◌≢◌, ◌∙◌, ℕ, zero, suc, �
 use Rattle.std.proofs.Common.{Some, None, Ok, codes, length, refl, sym, ap, arith, append_assoc, append-nil, get_or, set, take, drop, ◌-◌, subst, take_all, length-drop, Option}
 use Rattle.std.proofs.lemmas.{Bool.Decides.nat_tests, List.set_comm}
 use Rattle.std.proofs.{lemmas.List.length-take-le, Math.Seq.take-add}
-use Rattle.pp_assembler.specs.Cells.{IsStart}
-use Rattle.pp_assembler.specs.declared.program.Cell.{Cell as ProgramCell}
+use Rattle.pp_notation.specs.Cells.{IsStart}
+use Rattle.pp_notation.specs.declared.program.Cell.{Cell as ProgramCell}
 use Rattle.pp_history.specs.SessionValue.{after_act}
 use Rattle.pp_lines.specs.Lines.{lines, finished, unfinished}
 use Rattle.pp_lines.proofs.{LineCuts.finished-feed, LineCuts.unfinished-feed, LineCuts.lines_split}
@@ -17,7 +17,7 @@ use Rattle.pp_command.specs.{CommandLine.command, declared.request.Request.TheVa
 use Rattle.pp_console.specs.Commands.{Answer, Value, answered, present}
 use Rattle.pp_console.specs.Script.{Outcome, answer_line, follow, outcome, script}
 use Rattle.pp_console.proofs.Following.{outcome-line}
-use Rattle.pp_assembler.specs.Rows.{IsRow}
+use Rattle.pp_notation.specs.Rows.{IsRow}
 use Rattle.pp_loading.specs.Inner.Rows.{LoadsWhole, cells_line, start_line}
 use Rattle.pp_loading.specs.LoadLines.{cell_list, start_list}
 use Rattle.pp_loading.proofs.LineCommands.{cells_line-unbroken, command-cells, command-start, row-in_range, start_line-unbroken, values}

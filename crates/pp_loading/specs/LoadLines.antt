@@ -1,6 +1,6 @@
 -- What the console does with the lines that load a program.
 use Rattle.std.specs.Prelude.{◌≡◌, ℕ, List, [], ◌∷◌, ◌++◌, Option, Some, None}
-use Rattle.pp_assembler.specs.declared.program.Cell.{Cell as ProgramCell}
+use Rattle.pp_notation.specs.declared.program.Cell.{Cell as ProgramCell}
 use Rattle.pp_machine.specs.Machine.{over}
 use Rattle.pp_machine.specs.Writes.{Writes}
 use Rattle.pp_machine.specs.declared.place.Place.{Place}

@@ -1,14 +1,14 @@
 //! Writes the lines of the console that load a program.
 ghost use Rattle.std.specs.Prelude.{◌≡◌, ◌<◌, ◌≤◌, ◌++◌, ◌∷◌, [], All, IfOk, OnOk, length, take};
-ghost use Rattle.pp_assembler.specs.Cells.{IsCell, IsStart};
-ghost use Rattle.pp_assembler.specs.Rows.{IsRow, first_address};
+ghost use Rattle.pp_notation.specs.Cells.{IsCell, IsStart};
+ghost use Rattle.pp_notation.specs.Rows.{IsRow, first_address};
 ghost use Rattle.pp_machine.specs.Writes.{Writes};
 ghost use Rattle.pp_machine.specs.declared.place.Place.{Place};
 ghost use Rattle.pp_loading.specs.Inner.Rows.{LoadsWhole, cells_line, start_line, word_text};
 ghost use Rattle.pp_loading.specs.LoadLines.{Loads, cell_list, start_list};
 
 use pp_arith::octal;
-use pp_assembler::Cell;
+use pp_notation::Cell;
 use std::alloc::{AllocError, Global};
 
 /// The most words that a line sets.
@@ -63,7 +63,7 @@ fn put_start(text: &mut Vec<u8>, pp: u8, start: Option<u16>) -> Result<(), Alloc
 }
 
 /// Returns how many of the first cells a line sets: their addresses follow one another, and they are at most eight.
-#[tactic(auto, using(pp_assembler::proofs::RowCells::rows))]
+#[tactic(auto, using(pp_notation::proofs::RowCells::rows))]
 fn row_len(cells: &[Cell]) -> usize
     requires some { 0 < length cells.now }
     requires cells { All IsCell cells.now }

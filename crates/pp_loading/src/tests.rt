@@ -1,6 +1,6 @@
 //! The texts of the lines.
 use super::*;
-use pp_assembler::{Cell, are_cells};
+use pp_notation::{Cell, are_cells};
 use std::process::Abort;
 
 /// Returns a cell that was made by line 1.

@@ -1,9 +1,9 @@
 //! Assembles the sources of standard input, each ended by a line `----`, and writes what each one makes.
 #![tactic(auto)]
 
-use pp_assembler::{
-    Assembly, assemble, complaints_text, disassemble, listing_text, words_text, write_source,
-};
+use pp_assembler::{Assembly, assemble};
+use pp_disassembly::{disassemble, write_source};
+use pp_listing::{complaints_text, listing_text, words_text};
 use std::alloc::{AllocError, Global};
 use std::io;
 use std::io::{Read, Write};

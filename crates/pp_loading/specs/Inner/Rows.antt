@@ -5,8 +5,8 @@ use Rattle.pp_arith.specs.Octal.{octal_text}
 use Rattle.pp_lines.specs.Lines.{unfinished}
 use Rattle.pp_machine.specs.Writes.{Writes}
 use Rattle.pp_machine.specs.declared.place.Place.{Place}
-use Rattle.pp_assembler.specs.Rows.{first_address}
-use Rattle.pp_assembler.specs.declared.program.Cell.{Cell}
+use Rattle.pp_notation.specs.Rows.{first_address}
+use Rattle.pp_notation.specs.declared.program.Cell.{Cell}
 use Rattle.pp_loading.specs.LoadLines.{Loads}
 
 -- A number of a line: a blank, and the number in octal.

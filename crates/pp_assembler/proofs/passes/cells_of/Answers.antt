@@ -1,5 +1,5 @@
 use Rattle.std.proofs.Common.{◌<◌, arith}
-use Rattle.pp_assembler.proofs.Programs.{IsBelow-push, IsBelow-skip}
+use Rattle.pp_notation.proofs.Programs.{IsBelow-push, IsBelow-skip}
 use Rattle.pp_assembler.proofs.passes.cells_of.Goals as goal
 use Rattle.pp_assembler.proofs.passes.cells_of.Goals.{in-Some+then-slot-ne0+in_ok-push, in-Some+else-slot-ne0, in_default}
 

@@ -1,4 +1,4 @@
-use Rattle.pp_assembler.proofs.Programs.{IsBelow}
+use Rattle.pp_notation.proofs.Programs.{IsBelow}
 use Rattle.pp_assembler.proofs.passes.cells_of.Given as goal
 
 abbrev pub invariant-loop-address : goal.invariant-loop-address

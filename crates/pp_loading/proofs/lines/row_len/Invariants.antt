@@ -1,5 +1,5 @@
 use Rattle.std.proofs.Common.{◌<◌, ◌≤◌, ◌-◌, length, take}
-use Rattle.pp_assembler.specs.Rows.{IsRow, first_address}
+use Rattle.pp_notation.specs.Rows.{IsRow, first_address}
 use Rattle.pp_loading.proofs.lines.row_len.Given as goal
 
 abbrev pub invariant-loop-count : goal.invariant-loop-count

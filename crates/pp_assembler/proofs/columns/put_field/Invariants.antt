@@ -1,5 +1,0 @@
-use Rattle.std.proofs.Common.{◌≡◌, ◌++◌, replicate}
-use Rattle.pp_assembler.proofs.columns.put_field.Given as goal
-
-abbrev pub invariant-blanks : goal.invariant-blanks
-invariant-blanks l = l.out.items ≡ l.initial.out.items ++ replicate l.counter 32

@@ -1,5 +1,0 @@
-use Rattle.pp_assembler.specs.Instructions.{IsNoneBelow}
-use Rattle.pp_assembler.proofs.instructions.code_of.Given as goal
-
-abbrev pub invariant-loop-code : goal.invariant-loop-code
-invariant-loop-code l = IsNoneBelow l.name l.code

@@ -1,0 +1,131 @@
+-- How statements are written. A line is a label, an operation, operands and a comment, with blanks between two.
+use Rattle.std.specs.Prelude.{◌≡◌, ◌+◌, ◌==◌, ◌&&◌, ◌||◌, not, ℕ, Bool, true, false, length, take, drop, Option, Some, None, List, [], ◌∷◌, ◌++◌, codes, slice_get, if◌then◌else◌}
+use Rattle.std.specs.List.{flat_map, list_all}
+use Rattle.pp_notation.specs.Mnemonics.{mnemonic}
+use Rattle.pp_meaning.specs.declared.expressions.Atom.{Atom}
+use Rattle.pp_meaning.specs.declared.expressions.Atom.TheVariants.{Number, Name, Here, LocationCounter, OriginCounter, Nothing}
+use Rattle.pp_meaning.specs.declared.expressions.Base.{Base}
+use Rattle.pp_meaning.specs.declared.expressions.Base.TheVariants.{Octal, Decimal, Mixed}
+use Rattle.pp_meaning.specs.declared.expressions.Factor.{Factor}
+use Rattle.pp_meaning.specs.declared.expressions.Operand.{Operand}
+use Rattle.pp_meaning.specs.declared.expressions.Radix.{Radix}
+use Rattle.pp_meaning.specs.declared.expressions.Radix.TheVariants.{B, O, D, Plain}
+use Rattle.pp_meaning.specs.declared.expressions.Symbol.{Symbol}
+use Rattle.pp_meaning.specs.declared.expressions.Term.{Term}
+use Rattle.pp_meaning.specs.declared.statements.Label.{Label}
+use Rattle.pp_meaning.specs.declared.statements.Label.TheVariants.{Empty, Plus, Minus, Named}
+use Rattle.pp_meaning.specs.declared.statements.Operation.{Operation}
+use Rattle.pp_meaning.specs.declared.statements.Operation.TheVariants.{Blank, Instruction, Constants, Zeros, Space, Origin, Location, Equate, Set, SetBase, Deck, End}
+use Rattle.pp_meaning.specs.declared.statements.Statement.{Statement}
+
+-- ---- operands
+
+abbrev pub letter : Radix → List ℕ
+letter B = codes "B"
+letter O = codes "O"
+letter D = codes "D"
+letter Plain = []
+
+abbrev pub symbol_name : Option Symbol → List ℕ
+symbol_name None = []
+symbol_name (Some symbol) = symbol.name.items
+
+abbrev pub atom_text : List Symbol → Atom → List ℕ
+atom_text symbols (Number digits radix) = digits.items ++ letter radix
+atom_text symbols (Name index) = symbol_name (slice_get symbols index)
+atom_text symbols Here = codes "*"
+atom_text symbols LocationCounter = codes "*L"
+atom_text symbols OriginCounter = codes "*O"
+atom_text symbols Nothing = codes "**"
+
+abbrev pub factor_text : List Symbol → Factor → List ℕ
+factor_text symbols factor = (if factor.is_quotient then codes "/" else codes "*") ++ atom_text symbols factor.atom
+
+-- A term with its sign.
+abbrev pub term_text : List Symbol → Term → List ℕ
+term_text symbols term =
+    (if term.is_minus then codes "-" else codes "+") ++ atom_text symbols term.atom ++ flat_map (factor_text symbols) term.factors.items
+
+-- An operand is its terms. The sign of the first one may be left out.
+abbrev pub operand_text : List Symbol → Operand → List ℕ
+operand_text symbols operand = drop (if operand.has_sign then 0 else 1) (flat_map (term_text symbols) operand.terms.items)
+
+-- Operands have a comma between two.
+abbrev pub operands_text : List Symbol → List Operand → List ℕ
+operands_text symbols operands = drop 1 (flat_map (λ operand. codes "," ++ operand_text symbols operand) operands)
+
+-- ---- operations
+
+abbrev pub base_name : Base → List ℕ
+base_name Octal = codes "OCTAL"
+base_name Decimal = codes "DECIMAL"
+base_name Mixed = codes "MIXED"
+
+abbrev pub operation_name : Operation → List ℕ
+operation_name Blank = []
+operation_name (Instruction code) = mnemonic code
+operation_name (Constants is_data) = if is_data then codes "DATA" else codes "CON"
+operation_name Zeros = codes "BSSZ"
+operation_name Space = codes "BSS"
+operation_name Origin = codes "ORG"
+operation_name Location = codes "LOC"
+operation_name (Equate is_sign) = if is_sign then codes "=" else codes "EQU"
+operation_name Set = codes "SET"
+operation_name (SetBase base more) = codes "BASE"
+operation_name Deck = codes "PERIPH"
+operation_name End = codes "END"
+
+-- BASE has the beginning of a base's name, at least its first letter.
+abbrev pub variable : List Symbol → Operation → List Operand → List ℕ
+variable symbols (SetBase base more) operands = take (more + 1) (base_name base)
+variable symbols operation operands = operands_text symbols operands
+
+-- ---- lines
+
+abbrev pub label_text : List Symbol → Label → List ℕ
+label_text symbols Empty = []
+label_text symbols Plus = codes "+"
+label_text symbols Minus = codes "-"
+label_text symbols (Named index) = symbol_name (slice_get symbols index)
+
+abbrev pub line_text : List Symbol → Statement → List ℕ
+line_text symbols statement =
+    statement.margin.items ++ label_text symbols statement.label ++ statement.gap.items ++ operation_name statement.operation
+    ++ statement.space.items ++ variable symbols statement.operation statement.operands.items ++ statement.comment.items
+
+-- A blank or a tab.
+abbrev pub is_blank : ℕ → Bool
+is_blank byte = byte == 32 || byte == 9
+
+abbrev pub begins_blank : List ℕ → Bool
+begins_blank [] = true
+begins_blank (byte ∷ bytes) = is_blank byte
+
+-- A label begins in column 1 or 2.
+abbrev pub is_margin : List ℕ → Bool
+is_margin [] = true
+is_margin (byte ∷ []) = byte == 32
+is_margin _ = false
+
+-- Without a label the operation begins in column 3 or later, or behind a tab.
+abbrev pub is_wide : List ℕ → Bool
+is_wide [] = false
+is_wide (byte ∷ []) = byte == 9
+is_wide _ = true
+
+abbrev pub is_gap : Label → Operation → List ℕ → List ℕ → Bool
+is_gap Empty operation margin gap = length margin == 0 && is_wide gap
+is_gap label Blank margin gap = is_margin margin
+is_gap label operation margin gap = is_margin margin && not (length gap == 0)
+
+-- Blanks are between two fields, and before a comment.
+abbrev pub is_cut : List Symbol → Statement → Bool
+is_cut symbols statement =
+    list_all is_blank statement.gap.items && list_all is_blank statement.space.items && begins_blank statement.comment.items
+    && is_gap statement.label statement.operation statement.margin.items statement.gap.items
+    && (not (length statement.space.items == 0) || length (variable symbols statement.operation statement.operands.items) == 0)
+
+-- The line of a statement has its fields, and nothing else.
+pub record IsWritten (symbols : List Symbol) (statement : Statement) : Type 0 where
+  pub line : statement.line.items ≡ line_text symbols statement
+  pub cut : is_cut symbols statement ≡ true

@@ -1,0 +1,204 @@
+-- What the words of statements are.
+use Rattle.std.specs.Prelude.{◌≡◌, ℕ, ℤ, pos, negsuc, ◌+◌, ◌-◌, ◌*◌, ◌%◌, ◌==◌, ◌&&◌, nat_le, not, Bool, true, false, Option, Some, None, List, [], ◌∷◌, ◌++◌, length, replicate, slice_get, slice_set, fold, if◌then◌else◌}
+use Rattle.std.specs.Ordering.{int_eq}
+use Rattle.pp_notation.specs.Instructions.{form}
+use Rattle.pp_notation.specs.InstructionWords.{constant_words, one_word, then_distance}
+use Rattle.pp_notation.specs.declared.instructions.Form.{Form}
+use Rattle.pp_notation.specs.declared.instructions.Form.TheVariants.{Alone, D as OneField, Target, Constant, Indexed, Both}
+use Rattle.pp_meaning.specs.Expressions.{address, address_around, operand_field, value, value_above}
+use Rattle.pp_meaning.specs.declared.expressions.Base.{Base}
+use Rattle.pp_meaning.specs.declared.expressions.Base.TheVariants.{Decimal}
+use Rattle.pp_meaning.specs.declared.expressions.Operand.{Operand}
+use Rattle.pp_meaning.specs.declared.expressions.Place.{Place}
+use Rattle.pp_meaning.specs.declared.expressions.Symbol.{Symbol}
+use Rattle.pp_meaning.specs.declared.instruction.Words.{Words}
+use Rattle.pp_meaning.specs.declared.statements.Image.{Image}
+use Rattle.pp_meaning.specs.declared.statements.Label.{Label}
+use Rattle.pp_meaning.specs.declared.statements.Label.TheVariants.{Empty, Named}
+use Rattle.pp_meaning.specs.declared.statements.Operation.{Operation}
+use Rattle.pp_meaning.specs.declared.statements.Operation.TheVariants.{Blank, Instruction, Constants, Zeros, Space, Origin, Location, Equate, Set, SetBase, Deck, End}
+use Rattle.pp_meaning.specs.declared.statements.State.{State}
+use Rattle.pp_meaning.specs.declared.statements.Statement.{Statement}
+
+-- ---- the words of a statement
+
+abbrev pub rest_of : Option ℕ → List ℕ
+rest_of None = []
+rest_of (Some word) = word ∷ []
+
+abbrev pub words_in : Words → List ℕ
+words_in words = words.first ∷ rest_of words.second
+
+abbrev pub two_words : ℕ → Option ℕ → Option ℕ → Option (List ℕ)
+two_words code (Some d) (Some m) = Some ((code * 0o100 + d) ∷ m ∷ [])
+two_words code _ _ = None
+
+-- d of a relative jump.
+abbrev pub distance_at : List Symbol → Place → Operand → Option ℕ
+distance_at symbols place x = then_distance (place.location % 0o10000) (address_around (value symbols place x))
+
+-- The words of an instruction of this form.
+abbrev pub form_words : List Symbol → Place → Form → ℕ → List Operand → Option (List ℕ)
+form_words symbols place Alone code [] = one_word code (Some 0)
+form_words symbols place Alone code (x ∷ []) = one_word code (operand_field 0o77 symbols place x)
+form_words symbols place OneField code (x ∷ []) = one_word code (operand_field 0o77 symbols place x)
+form_words symbols place Target code (x ∷ []) = one_word code (distance_at symbols place x)
+form_words symbols place Constant code (x ∷ []) = constant_words code (operand_field 0o777777 symbols place x)
+form_words symbols place Indexed code (x ∷ []) = two_words code (Some 0) (operand_field 0o7777 symbols place x)
+form_words symbols place Indexed code (x ∷ y ∷ []) =
+    two_words code (operand_field 0o77 symbols place y) (operand_field 0o7777 symbols place x)
+form_words symbols place Both code (x ∷ y ∷ []) =
+    two_words code (operand_field 0o77 symbols place y) (operand_field 0o7777 symbols place x)
+form_words symbols place _ code operands = None
+
+-- One word more.
+abbrev pub added : List ℕ → Option ℕ → Option (List ℕ)
+added words None = None
+added words (Some word) = Some (words ++ word ∷ [])
+
+abbrev pub with_constant : List Symbol → Place → Option (List ℕ) → Operand → Option (List ℕ)
+with_constant symbols place None x = None
+with_constant symbols place (Some words) x = added words (operand_field 0o7777 symbols place x)
+
+-- The words of CON and of numbers of DATA.
+abbrev pub constants : List Symbol → Place → List Operand → Option (List ℕ)
+constants symbols place operands =
+    if length operands == 0 then None else fold (with_constant symbols place) (Some []) operands
+
+-- Words of zero.
+abbrev pub zeros : Option ℕ → Option (List ℕ)
+zeros None = None
+zeros (Some count) = Some (replicate count 0)
+
+-- A statement with a label alone has no words.
+abbrev pub words_of : List Symbol → Place → Operation → List Operand → Option (List ℕ)
+words_of symbols place Blank [] = Some []
+words_of symbols place (Instruction code) operands = form_words symbols place (form code) code operands
+words_of symbols place (Constants is_data) operands = constants symbols place operands
+words_of symbols place Zeros (x ∷ []) = zeros (address (value_above symbols place x))
+words_of symbols place _ operands = None
+
+-- ---- statements
+
+-- What there is so far: the counters, the base of numbers, how many symbols are defined, the memory, the words in the order of their
+-- statements, and where a processor begins.
+pub record Standing : Type 0 where
+  pub location : ℕ
+  pub origin : ℕ
+  pub base : Option Base
+  pub defined : ℕ
+  pub memory : List (Option ℕ)
+  pub words : List ℕ
+  pub start : Option ℕ
+
+abbrev pub place_of : Standing → Place
+place_of s = record { location = s.location; origin = s.origin; base = s.base; defined = s.defined }
+
+-- One word more in the memory.
+abbrev pub store : ℕ × List (Option ℕ) → ℕ → ℕ × List (Option ℕ)
+store before word = (before.0 + 1, slice_set before.1 before.0 (Some word))
+
+-- Words in cells of the memory from the origin on. A later word replaces an earlier one.
+abbrev pub with_words : Standing → Option (List ℕ) → Option Standing
+with_words s None = None
+with_words s (Some words) =
+    let stored = fold store (s.origin, s.memory) words in
+    if nat_le (length words) (0o10000 - s.origin)
+    then Some (record s { origin = stored.0; location = s.location + length words; memory = stored.1; words = s.words ++ words })
+    else None
+
+-- Whether a symbol stands for a number, which another SET may change or not.
+abbrev pub is_symbol : Bool → ℤ → Option Symbol → Bool
+is_symbol is_set number None = false
+is_symbol is_set number (Some symbol) = int_eq symbol.value number && (if is_set then symbol.is_set else not symbol.is_set)
+
+-- A name that a statement defines is the next one of the symbols, and stands for this number.
+abbrev pub define : List Symbol → Bool → Standing → ℕ → Option ℤ → Option Standing
+define symbols is_set s index None = None
+define symbols is_set s index (Some number) =
+    if index == s.defined && is_symbol is_set number (slice_get symbols index) then Some (record s { defined = s.defined + 1 }) else None
+
+-- A label stands for the location. + and - in its place are none.
+abbrev pub labelled : List Symbol → Standing → Label → Option Standing
+labelled symbols s (Named index) = define symbols false s index (Some (pos s.location))
+labelled symbols s label = Some s
+
+-- So many cells on, or back.
+abbrev pub cells_on : ℕ → ℤ → Option ℕ
+cells_on cell (pos n) = Some (cell + n)
+cells_on cell (negsuc n) = if nat_le (n + 1) cell then Some (cell - (n + 1)) else None
+
+abbrev pub at : Standing → Option ℕ → Option ℕ → Option Standing
+at s (Some origin) (Some location) = Some (record s { origin = origin; location = location })
+at s _ _ = None
+
+abbrev pub moved : Standing → Option ℤ → Option Standing
+moved s None = None
+moved s (Some number) = at s (cells_on s.origin number) (cells_on s.location number)
+
+abbrev pub then_moved : List Symbol → Option Standing → Operand → Option Standing
+then_moved symbols None x = None
+then_moved symbols (Some s) x = moved s (value_above symbols (place_of s) x)
+
+abbrev pub then_labelled : List Symbol → Option Standing → Label → Option Standing
+then_labelled symbols None label = None
+then_labelled symbols (Some s) label = labelled symbols s label
+
+abbrev pub then_words : List Symbol → Option Standing → Operation → List Operand → Option Standing
+then_words symbols None operation operands = None
+then_words symbols (Some s) operation operands = with_words s (words_of symbols (place_of s) operation operands)
+
+-- PERIPH says that the source is a deck: before BASE its numbers are decimal.
+abbrev pub deck_base : Option Base → Base
+deck_base None = Decimal
+deck_base (Some base) = base
+
+abbrev pub ended : Standing → Option ℕ → Option Standing
+ended s None = None
+ended s (Some start) = Some (record s { start = Some start })
+
+-- What there is after a statement.
+abbrev pub after : List Symbol → Standing → Label → Operation → List Operand → Option Standing
+after symbols s label Space (x ∷ []) = then_moved symbols (labelled symbols s label) x
+after symbols s label Origin (x ∷ []) =
+    let cell = address (value_above symbols (place_of s) x) in then_labelled symbols (at s cell cell) label
+after symbols s label Location (x ∷ []) =
+    then_labelled symbols (at s (Some s.origin) (address (value_above symbols (place_of s) x))) label
+after symbols s (Named index) (Equate is_sign) (x ∷ []) = define symbols false s index (value_above symbols (place_of s) x)
+after symbols s (Named index) Set (x ∷ []) = define symbols true s index (value_above symbols (place_of s) x)
+after symbols s Empty (SetBase base more) [] = Some (record s { base = Some base })
+after symbols s Empty Deck [] = Some (record s { base = Some (deck_base s.base) })
+after symbols s Empty End [] = Some s
+after symbols s Empty End (x ∷ []) = ended s (operand_field 0o7777 symbols (place_of s) x)
+after symbols s label operation operands = then_words symbols (labelled symbols s label) operation operands
+
+abbrev pub follow : List Symbol → Option Standing → Statement → Option Standing
+follow symbols None statement = None
+follow symbols (Some s) statement = after symbols s statement.label statement.operation statement.operands.items
+
+-- Before the first statement the memory is empty.
+abbrev pub first : Standing
+first = record { location = 0; origin = 0; base = None; defined = 0; memory = replicate 0o10000 None; words = []; start = None }
+
+abbrev pub assembled : List Symbol → List Statement → Option Standing
+assembled symbols statements = fold (follow symbols) (Some first) statements
+
+abbrev pub standing : State → Standing
+standing s = record {
+  location = s.location;
+  origin = s.origin;
+  base = s.base;
+  defined = s.defined;
+  memory = s.memory.items;
+  words = s.words.items;
+  start = s.start;
+}
+
+-- The words are what the statements say, and each symbol is defined by one of them.
+pub record IsAssembled (symbols : List Symbol) (statements : List Statement) (image : Image) : Type 0 where
+  pub after : Standing
+  pub right : assembled symbols statements ≡ Some after
+  pub memory : after.memory ≡ image.memory.items
+  pub words : after.words ≡ image.words.items
+  pub start : after.start ≡ image.start
+  pub defined : after.defined ≡ length symbols

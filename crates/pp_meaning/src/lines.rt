@@ -1,0 +1,336 @@
+//! How statements are written.
+ghost use Rattle.std.specs.Prelude.{◌≡◌, ◌++◌, codes, slice_get, IfOk, IfSome, IsTrue, OnOk, ◌&&◌, ◌==◌, ◌||◌, not, length, take, ◌+◌, true};
+ghost use Rattle.std.specs.List.{AllByRecursion, flat_map, list_all};
+ghost use Rattle.pp_meaning.specs.declared.statements.Operation.TheVariants.{Instruction};
+ghost use Rattle.pp_meaning.specs.Lines.{IsWritten, atom_text, base_name, begins_blank, factor_text, is_blank, is_cut, is_gap, is_margin, is_wide, label_text, letter, line_text, operand_text, operands_text, operation_name, symbol_name, term_text, variable};
+
+use crate::expressions::{Atom, Base, Factor, Operand, Radix, Symbol, Term};
+use crate::statements::{Label, Operation, Refusal, Statement};
+use pp_notation::name_of;
+use std::alloc::{AllocError, Global};
+
+/// Returns the letter of a number.
+fn letter_of(radix: Radix) -> &'static [u8]
+    ensures { result.now ≡ letter radix }
+{
+    match radix {
+        Radix::B => b"B",
+        Radix::O => b"O",
+        Radix::D => b"D",
+        Radix::Plain => b"",
+    }
+}
+
+/// Returns the name of the symbol at an index.
+fn name_at(symbols: &[Symbol], index: usize) -> &[u8]
+    ensures { result.now ≡ symbol_name (slice_get symbols.now index) }
+{
+    match symbols.get(index) {
+        Some(symbol) => &symbol.name,
+        None => b"",
+    }
+}
+
+/// Writes an atom.
+fn put_atom(out: &mut Vec<u8>, symbols: &[Symbol], atom: &Atom) -> Result<(), AllocError>
+    ensures { OnOk result (out.new.items ≡ out.old.items ++ atom_text symbols.now atom.now) }
+{
+    match atom {
+        Atom::Number(digits, radix) => {
+            out.extend_from_slice(digits)?;
+            out.extend_from_slice(letter_of(*radix))
+        }
+        Atom::Name(index) => out.extend_from_slice(name_at(symbols, *index)),
+        Atom::Here => out.extend_from_slice(b"*"),
+        Atom::LocationCounter => out.extend_from_slice(b"*L"),
+        Atom::OriginCounter => out.extend_from_slice(b"*O"),
+        Atom::Nothing => out.extend_from_slice(b"**"),
+    }
+}
+
+/// Writes a factor with its operator.
+fn put_factor(out: &mut Vec<u8>, symbols: &[Symbol], factor: &Factor) -> Result<(), AllocError>
+    ensures { OnOk result (out.new.items ≡ out.old.items ++ factor_text symbols.now factor.now) }
+{
+    out.push(if factor.is_quotient { b'/' } else { b'*' })?;
+    put_atom(out, symbols, &factor.atom)
+}
+
+/// Writes factors.
+fn put_factors(out: &mut Vec<u8>, symbols: &[Symbol], factors: &[Factor]) -> Result<(), AllocError>
+    ensures { OnOk result (out.new.items ≡ out.old.items ++ flat_map (factor_text symbols.now) factors.now) }
+{
+    for factor in factors {
+        put_factor(out, symbols, factor)?;
+    }
+    Ok(())
+}
+
+/// Writes a term with its sign.
+fn put_term(out: &mut Vec<u8>, symbols: &[Symbol], term: &Term) -> Result<(), AllocError>
+    ensures { OnOk result (out.new.items ≡ out.old.items ++ term_text symbols.now term.now) }
+{
+    out.push(if term.is_minus { b'-' } else { b'+' })?;
+    put_atom(out, symbols, &term.atom)?;
+    put_factors(out, symbols, &term.factors)
+}
+
+/// Returns terms, each with its sign.
+fn terms_text(alloc: Global, symbols: &[Symbol], terms: &[Term]) -> Result<Vec<u8>, AllocError>
+    ensures { IfOk result (λ text. text.items ≡ flat_map (term_text symbols.now) terms.now) }
+{
+    let mut out = Vec::new(alloc);
+    for term in terms {
+        put_term(&mut out, symbols, term)?;
+    }
+    Ok(out)
+}
+
+/// Writes an operand.
+fn put_operand(
+    alloc: Global,
+    out: &mut Vec<u8>,
+    symbols: &[Symbol],
+    operand: &Operand,
+) -> Result<(), AllocError>
+    ensures { OnOk result (out.new.items ≡ out.old.items ++ operand_text symbols.now operand.now) }
+{
+    let signed = terms_text(alloc, symbols, &operand.terms)?;
+    if operand.has_sign {
+        return out.extend_from_slice(&signed);
+    }
+    match signed.as_slice() {
+        [] => Ok(()),
+        [_, unsigned @ ..] => out.extend_from_slice(unsigned),
+    }
+}
+
+/// Returns operands, each after a comma.
+fn with_commas(
+    alloc: Global,
+    symbols: &[Symbol],
+    operands: &[Operand],
+) -> Result<Vec<u8>, AllocError>
+    ensures { IfOk result (λ text. text.items ≡ flat_map (λ operand. codes "," ++ operand_text symbols.now operand) operands.now) }
+{
+    let mut out = Vec::new(alloc);
+    for operand in operands {
+        out.push(b',')?;
+        put_operand(alloc, &mut out, symbols, operand)?;
+    }
+    Ok(out)
+}
+
+/// Returns operands with a comma between two.
+fn text_of_operands(
+    alloc: Global,
+    symbols: &[Symbol],
+    operands: &[Operand],
+) -> Result<Vec<u8>, AllocError>
+    ensures { IfOk result (λ text. text.items ≡ operands_text symbols.now operands.now) }
+{
+    let all = with_commas(alloc, symbols, operands)?;
+    match all.as_slice() {
+        [] => Ok(Vec::new(alloc)),
+        [_, rest @ ..] => Vec::from_slice(alloc, rest),
+    }
+}
+
+/// Returns the name of a base.
+fn name_of_base(base: Base) -> &'static [u8]
+    ensures { result.now ≡ base_name base }
+{
+    match base {
+        Base::Octal => b"OCTAL",
+        Base::Decimal => b"DECIMAL",
+        Base::Mixed => b"MIXED",
+    }
+}
+
+/// Returns the beginning of the name of a base.
+fn beginning(base: Base, more: u8) -> &'static [u8]
+    ensures { result.now ≡ take (more + 1) (base_name base) }
+{
+    let name = name_of_base(base);
+    let count = usize::from(more) + 1;
+    &name[..count.min(name.len())]
+}
+
+/// Returns what an operation has as operands.
+fn variable_of(
+    alloc: Global,
+    symbols: &[Symbol],
+    operation: Operation,
+    operands: &[Operand],
+) -> Result<Vec<u8>, AllocError>
+    ensures { IfOk result (λ text. text.items ≡ variable symbols.now operation operands.now) }
+{
+    match operation {
+        Operation::SetBase(base, more) => Vec::from_slice(alloc, beginning(base, more)),
+        _ => text_of_operands(alloc, symbols, operands),
+    }
+}
+
+/// Returns the name of an instruction, or that of the last one.
+fn name_of_instruction(code: u8) -> Option<&'static [u8]>
+    ensures { IfSome result (λ name. name.now ≡ operation_name (Instruction code)) }
+{
+    if code < 0o100 {
+        Some(name_of(code))
+    } else {
+        None
+    }
+}
+
+/// Returns the name of an operation.
+fn name_of_operation(operation: Operation) -> Option<&'static [u8]>
+    ensures { IfSome result (λ name. name.now ≡ operation_name operation) }
+{
+    match operation {
+        Operation::Blank => Some(b""),
+        Operation::Instruction(code) => name_of_instruction(code),
+        Operation::Constants(true) => Some(b"DATA"),
+        Operation::Constants(false) => Some(b"CON"),
+        Operation::Zeros => Some(b"BSSZ"),
+        Operation::Space => Some(b"BSS"),
+        Operation::Origin => Some(b"ORG"),
+        Operation::Location => Some(b"LOC"),
+        Operation::Equate(true) => Some(b"="),
+        Operation::Equate(false) => Some(b"EQU"),
+        Operation::Set => Some(b"SET"),
+        Operation::SetBase(..) => Some(b"BASE"),
+        Operation::Deck => Some(b"PERIPH"),
+        Operation::End => Some(b"END"),
+    }
+}
+
+/// Returns the text of a label.
+fn text_of_label(symbols: &[Symbol], label: Label) -> &[u8]
+    ensures { result.now ≡ label_text symbols.now label }
+{
+    match label {
+        Label::Empty => b"",
+        Label::Plus => b"+",
+        Label::Minus => b"-",
+        Label::Named(index) => name_at(symbols, index),
+    }
+}
+
+/// Returns the line that has the fields of a statement.
+fn text_of_line(
+    alloc: Global,
+    symbols: &[Symbol],
+    statement: &Statement,
+    name: &[u8],
+    variable: &[u8],
+) -> Result<Vec<u8>, AllocError>
+    ensures { IfOk result (λ line. line.items ≡ statement.now.margin.items ++ label_text symbols.now statement.now.label ++ statement.now.gap.items ++ name.now ++ statement.now.space.items ++ variable.now ++ statement.now.comment.items) }
+{
+    let mut line = Vec::new(alloc);
+    line.extend_from_slice(&statement.margin)?;
+    line.extend_from_slice(text_of_label(symbols, statement.label))?;
+    line.extend_from_slice(&statement.gap)?;
+    line.extend_from_slice(name)?;
+    line.extend_from_slice(&statement.space)?;
+    line.extend_from_slice(variable)?;
+    line.extend_from_slice(&statement.comment)?;
+    Ok(line)
+}
+
+fn are_blanks(text: &[u8]) -> bool
+    ensures { result ≡ list_all is_blank text.now }
+{
+    text.iter().all(|byte| *byte == b' ' || *byte == b'\t')
+}
+
+fn begins_with_blank(text: &[u8]) -> bool
+    ensures { result ≡ begins_blank text.now }
+{
+    match text {
+        [] => true,
+        [byte, ..] => *byte == b' ' || *byte == b'\t',
+    }
+}
+
+fn is_narrow_margin(text: &[u8]) -> bool
+    ensures { result ≡ is_margin text.now }
+{
+    match text {
+        [] => true,
+        [byte] => *byte == b' ',
+        _ => false,
+    }
+}
+
+fn is_wide_gap(text: &[u8]) -> bool
+    ensures { result ≡ is_wide text.now }
+{
+    match text {
+        [] => false,
+        [byte] => *byte == b'\t',
+        _ => true,
+    }
+}
+
+/// Returns whether the blanks round a label are right.
+fn has_gap(label: Label, operation: Operation, margin: &[u8], gap: &[u8]) -> bool
+    ensures { result ≡ is_gap label operation margin.now gap.now }
+{
+    match (label, operation) {
+        (Label::Empty, _) => margin.is_empty() && is_wide_gap(gap),
+        (_, Operation::Blank) => is_narrow_margin(margin),
+        _ => is_narrow_margin(margin) && !gap.is_empty(),
+    }
+}
+
+/// Returns whether blanks are where a line needs them.
+fn is_cut_so(statement: &Statement, variable: &[u8]) -> bool
+    ensures { result ≡ (list_all is_blank statement.now.gap.items && list_all is_blank statement.now.space.items && begins_blank statement.now.comment.items && is_gap statement.now.label statement.now.operation statement.now.margin.items statement.now.gap.items && (not (length statement.now.space.items == 0) || length variable.now == 0)) }
+{
+    are_blanks(&statement.gap)
+        && are_blanks(&statement.space)
+        && begins_with_blank(&statement.comment)
+        && has_gap(
+            statement.label,
+            statement.operation,
+            &statement.margin,
+            &statement.gap,
+        )
+        && (!statement.space.is_empty() || variable.is_empty())
+}
+
+/// Returns whether a statement is written so.
+fn is_written(alloc: Global, symbols: &[Symbol], statement: &Statement) -> Result<bool, AllocError>
+    ensures { IfOk result (λ yes. IsTrue yes → IsWritten symbols.now statement.now) }
+{
+    let Some(name) = name_of_operation(statement.operation) else {
+        return Ok(false);
+    };
+    let variable = variable_of(alloc, symbols, statement.operation, &statement.operands)?;
+    let line = text_of_line(alloc, symbols, statement, name, &variable)?;
+    if statement.line.as_slice() != line.as_slice() {
+        return Ok(false);
+    }
+    Ok(is_cut_so(statement, &variable))
+}
+
+/// Returns that statements are written so.
+///
+/// # Errors
+/// Memory ran out, or a statement is not.
+pub fn are_written(
+    alloc: Global,
+    symbols: &[Symbol],
+    statements: &[Statement],
+) -> Result<(), Refusal>
+    ensures { OnOk result (AllByRecursion (IsWritten symbols.now) statements.now) }
+{
+    let mut index: usize = 0;
+    for statement in statements {
+        if !is_written(alloc, symbols, statement)? {
+            return Err(Refusal::At(index));
+        }
+        index = index.saturating_add(1);
+    }
+    Ok(())
+}

@@ -1,0 +1,507 @@
+//! Statements, and what they do.
+ghost use Rattle.std.specs.Prelude.{◌≡◌, ◌∷◌, ◌++◌, ◌+◌, ◌≤◌, IfOk, IfSome, OnOk, Some, None, [], pos, fold, length, replicate, slice_get};
+ghost use Rattle.pp_meaning.specs.Expressions.{address, value_above};
+ghost use Rattle.pp_meaning.specs.Meaning.{IsAssembled, after, assembled, at, cells_on, constants, define, deck_base, ended, follow, is_symbol, labelled, moved, place_of, standing, store, then_words, with_constant, with_words, words_in, words_of, zeros};
+ghost use Rattle.pp_meaning.specs.declared.statements.Label.TheVariants.{Empty};
+ghost use Rattle.pp_meaning.specs.declared.statements.Operation.TheVariants.{Deck, End, Location, Origin, Space};
+
+use crate::expressions::{Base, Operand, Place, Symbol, value_by_names_above};
+use crate::instruction::{Words, field_in, instruction};
+use std::alloc::{AllocError, AllocFailed, Global};
+
+/// The number of cells of a memory.
+pub const CELLS: usize = 4096;
+/// The greatest word.
+const WORD: u32 = 0o7777;
+
+/// Why there are no words.
+#[derive(Clone, Copy, Debug, PartialEq, Eq, Drop)]
+pub enum Refusal {
+    /// Memory ran out.
+    NoMemory,
+    /// The statement at an index is not right. The symbols and the end of the source are behind the last one.
+    At(usize),
+}
+
+impl From<AllocError> for Refusal {
+    fn from(_: AllocError) -> Self {
+        Refusal::NoMemory
+    }
+}
+
+impl<T: Drop> From<AllocFailed<T>> for Refusal {
+    fn from(_: AllocFailed<T>) -> Self {
+        Refusal::NoMemory
+    }
+}
+
+/// What stands in the label field.
+#[derive(Clone, Copy)]
+pub enum Label {
+    /// Nothing.
+    Empty,
+    /// `+`, which is no label.
+    Plus,
+    /// `-`, which is no label.
+    Minus,
+    /// The name of the symbol at an index.
+    Named(usize),
+}
+
+/// What a statement does.
+#[derive(Clone, Copy)]
+pub enum Operation {
+    /// No operation: a label alone.
+    Blank,
+    /// The instruction with a code.
+    Instruction(u8),
+    /// CON, or DATA with numbers.
+    Constants(bool),
+    /// BSSZ.
+    Zeros,
+    /// BSS.
+    Space,
+    /// ORG.
+    Origin,
+    /// LOC.
+    Location,
+    /// EQU, or `=`.
+    Equate(bool),
+    /// SET.
+    Set,
+    /// BASE with the first letter of a base's name, and so many more.
+    SetBase(Base, u8),
+    /// PERIPH.
+    Deck,
+    /// END.
+    End,
+}
+
+/// A statement as it is performed: its line and the fields of that line.
+#[derive(Drop)]
+pub struct Statement {
+    /// The line of the listing, in capitals.
+    pub line: Vec<u8>,
+    /// The blanks before the label.
+    pub margin: Vec<u8>,
+    pub label: Label,
+    /// The blanks before the operation.
+    pub gap: Vec<u8>,
+    pub operation: Operation,
+    /// The blanks before the operands.
+    pub space: Vec<u8>,
+    pub operands: Vec<Operand>,
+    /// What follows the operands.
+    pub comment: Vec<u8>,
+}
+
+/// What there is so far.
+#[derive(Drop)]
+pub struct State {
+    pub location: usize,
+    pub origin: usize,
+    pub base: Option<Base>,
+    pub defined: usize,
+    pub memory: Vec<Option<u32>>,
+    pub words: Vec<u32>,
+    pub start: Option<u32>,
+}
+
+/// What statements make: a word or none for each cell, the words in the order of their statements, and where a processor begins.
+#[derive(Drop)]
+pub struct Image {
+    pub memory: Vec<Option<u32>>,
+    pub words: Vec<u32>,
+    pub start: Option<u32>,
+}
+
+/// Returns the words of CON, one for each operand.
+fn words_of_constants(
+    alloc: Global,
+    symbols: &[Symbol],
+    place: Place,
+    operands: &[Operand],
+) -> Result<Option<Vec<u32>>, AllocError>
+    ensures { IfOk result (λ made. IfSome made (λ words. fold (with_constant symbols.now place) (Some []) operands.now ≡ Some words.items)) }
+{
+    let mut words = Vec::new(alloc);
+    for operand in operands {
+        match field_in(WORD, symbols, place, operand) {
+            Some(word) => words.push(word)?,
+            None => return Ok(None),
+        }
+    }
+    Ok(Some(words))
+}
+
+/// Returns the words of CON, which has an operand.
+fn some_constants(
+    alloc: Global,
+    symbols: &[Symbol],
+    place: Place,
+    operands: &[Operand],
+) -> Result<Option<Vec<u32>>, AllocError>
+    ensures { IfOk result (λ made. IfSome made (λ words. constants symbols.now place operands.now ≡ Some words.items)) }
+{
+    if operands.is_empty() {
+        return Ok(None);
+    }
+    words_of_constants(alloc, symbols, place, operands)
+}
+
+/// Returns words of zero.
+fn words_of_zero(alloc: Global, count: usize) -> Result<Vec<u32>, AllocError>
+    ensures { IfOk result (λ words. zeros (Some count) ≡ Some words.items) }
+{
+    vec![in alloc; 0u32; count]
+}
+
+/// Returns the words of an instruction as a list.
+fn listed(alloc: Global, words: Words) -> Result<Vec<u32>, AllocError>
+    ensures { IfOk result (λ list. list.items ≡ words_in words) }
+{
+    let mut list = Vec::new(alloc);
+    list.push(words.first)?;
+    if let Some(second) = words.second {
+        list.push(second)?;
+    }
+    Ok(list)
+}
+
+/// Returns a number up to octal 7777.
+fn in_memory(number: i64) -> Option<usize>
+    ensures { IfSome result (λ cell. address (Some number) ≡ Some cell) }
+{
+    if number < 0 || number >= CELLS as i64 {
+        return None;
+    }
+    Some(number as usize)
+}
+
+/// Returns the number of an operand by the names above, up to octal 7777.
+fn address_above(symbols: &[Symbol], place: Place, operand: &Operand) -> Option<usize>
+    ensures { IfSome result (λ cell. address (value_above symbols.now place operand.now) ≡ Some cell) }
+{
+    in_memory(value_by_names_above(symbols, place, operand)?)
+}
+
+/// Returns the words of a statement.
+fn words_at(
+    alloc: Global,
+    symbols: &[Symbol],
+    place: Place,
+    operation: Operation,
+    operands: &[Operand],
+) -> Result<Option<Vec<u32>>, AllocError>
+    ensures { IfOk result (λ made. IfSome made (λ words. words_of symbols.now place operation operands.now ≡ Some words.items)) }
+{
+    match (operation, operands) {
+        (Operation::Blank, []) => Ok(Some(Vec::new(alloc))),
+        (Operation::Instruction(code), _) => match instruction(symbols, place, code, operands) {
+            Some(words) => Ok(Some(listed(alloc, words)?)),
+            None => Ok(None),
+        },
+        (Operation::Constants(_), _) => some_constants(alloc, symbols, place, operands),
+        (Operation::Zeros, [x]) => match address_above(symbols, place, x) {
+            Some(count) => Ok(Some(words_of_zero(alloc, count)?)),
+            None => Ok(None),
+        },
+        _ => Ok(None),
+    }
+}
+
+/// Puts words into the cells from one on, and returns the cell after them.
+fn put(memory: &mut [Option<u32>], first: usize, words: &[u32]) -> usize
+    requires { first + length words.now ≤ length memory.old }
+    ensures stored { (result, memory.new) ≡ fold store (first, memory.old) words.now }
+    ensures length { length memory.new ≡ length memory.old }
+{
+    let mut at = first;
+    for word in words {
+        memory[at] = Some(*word);
+        at += 1;
+    }
+    at
+}
+
+/// Returns whether a symbol at an index stands for a number.
+fn stands_for(symbols: &[Symbol], index: usize, is_set: bool, number: i64) -> bool
+    ensures { result ≡ is_symbol is_set number (slice_get symbols.now index) }
+{
+    match symbols.get(index) {
+        Some(symbol) => symbol.value == number
+            && (if is_set {
+                symbol.is_set
+            } else {
+                !symbol.is_set
+            }),
+        None => false,
+    }
+}
+
+/// Returns the cell so many on, or back.
+fn cell_on(cell: usize, number: i64) -> Option<usize>
+    ensures { IfSome result (λ at. cells_on cell number ≡ Some at) }
+{
+    let size = usize::try_from(number.unsigned_abs()).ok()?;
+    if number < 0 {
+        return cell.checked_sub(size);
+    }
+    cell.checked_add(size)
+}
+
+impl State {
+    /// Returns where the next statement is.
+    fn place(&self) -> Place
+        ensures { result ≡ place_of (standing self.now) }
+    {
+        Place {
+            location: self.location,
+            origin: self.origin,
+            base: self.base,
+            defined: self.defined,
+        }
+    }
+
+    /// Defines a symbol. Returns whether it stands for this number.
+    fn define(&mut self, symbols: &[Symbol], index: usize, is_set: bool, number: i64) -> Option<()>
+        ensures { IfSome result (λ done. define symbols.now is_set (standing self.old) index (Some number) ≡ Some (standing self.new)) }
+    {
+        if index != self.defined
+            || index >= symbols.len()
+            || !stands_for(symbols, index, is_set, number)
+        {
+            return None;
+        }
+        self.defined = index + 1;
+        Some(())
+    }
+
+    /// Gives a label the location.
+    fn label(&mut self, symbols: &[Symbol], label: Label) -> Option<()>
+        ensures { IfSome result (λ done. labelled symbols.now (standing self.old) label ≡ Some (standing self.new)) }
+    {
+        match label {
+            Label::Named(index) => {
+                let location = i64::try_from(self.location).ok()?;
+                self.define(symbols, index, false, location)
+            }
+            _ => Some(()),
+        }
+    }
+
+    /// Puts words into the cells from the origin on.
+    fn put_words(&mut self, words: &[u32]) -> Result<Option<()>, AllocError>
+        ensures { IfOk result (λ made. IfSome made (λ done. with_words (standing self.old) (Some words.now) ≡ Some (standing self.new))) }
+    {
+        let Some(location) = self.location.checked_add(words.len()) else {
+            return Ok(None);
+        };
+        if words.len() > CELLS.saturating_sub(self.origin)
+            || self.memory.len() < CELLS
+            || self.origin > CELLS
+        {
+            return Ok(None);
+        }
+        self.words.extend_from_slice(words)?;
+        self.origin = put(&mut self.memory, self.origin, words);
+        self.location = location;
+        Ok(Some(()))
+    }
+
+    /// Moves both counters by so many cells.
+    fn move_by(&mut self, number: i64) -> Option<()>
+        ensures { IfSome result (λ done. moved (standing self.old) (Some number) ≡ Some (standing self.new)) }
+    {
+        let origin = cell_on(self.origin, number)?;
+        let location = cell_on(self.location, number)?;
+        self.origin = origin;
+        self.location = location;
+        Some(())
+    }
+
+    /// BSS.
+    fn space(&mut self, symbols: &[Symbol], label: Label, operand: &Operand) -> Option<()>
+        ensures { IfSome result (λ done. after symbols.now (standing self.old) label Space (operand.now ∷ []) ≡ Some (standing self.new)) }
+    {
+        self.label(symbols, label)?;
+        let number = value_by_names_above(symbols, self.place(), operand)?;
+        self.move_by(number)
+    }
+
+    /// ORG.
+    fn set_origin(&mut self, symbols: &[Symbol], label: Label, operand: &Operand) -> Option<()>
+        ensures { IfSome result (λ done. after symbols.now (standing self.old) label Origin (operand.now ∷ []) ≡ Some (standing self.new)) }
+    {
+        let cell = address_above(symbols, self.place(), operand)?;
+        self.origin = cell;
+        self.location = cell;
+        self.label(symbols, label)
+    }
+
+    /// LOC.
+    fn set_location(&mut self, symbols: &[Symbol], label: Label, operand: &Operand) -> Option<()>
+        ensures { IfSome result (λ done. after symbols.now (standing self.old) label Location (operand.now ∷ []) ≡ Some (standing self.new)) }
+    {
+        self.location = address_above(symbols, self.place(), operand)?;
+        self.label(symbols, label)
+    }
+
+    /// EQU and SET.
+    fn equate(
+        &mut self,
+        symbols: &[Symbol],
+        index: usize,
+        is_set: bool,
+        operand: &Operand,
+    ) -> Option<()>
+        ensures { IfSome result (λ done. define symbols.now is_set (standing self.old) index (value_above symbols.now (place_of (standing self.old)) operand.now) ≡ Some (standing self.new)) }
+    {
+        let number = value_by_names_above(symbols, self.place(), operand)?;
+        self.define(symbols, index, is_set, number)
+    }
+
+    /// PERIPH.
+    fn set_deck(&mut self)
+        ensures { after [] (standing self.old) Empty Deck [] ≡ Some (standing self.new) }
+    {
+        self.base = match self.base {
+            None => Some(Base::Decimal),
+            base => base,
+        };
+    }
+
+    /// END with an address.
+    fn end(&mut self, symbols: &[Symbol], operand: &Operand) -> Option<()>
+        ensures { IfSome result (λ done. after symbols.now (standing self.old) Empty End (operand.now ∷ []) ≡ Some (standing self.new)) }
+    {
+        self.start = Some(field_in(WORD, symbols, self.place(), operand)?);
+        Some(())
+    }
+
+    /// A statement that may have words.
+    fn fill(
+        &mut self,
+        alloc: Global,
+        symbols: &[Symbol],
+        label: Label,
+        operation: Operation,
+        operands: &[Operand],
+    ) -> Result<Option<()>, AllocError>
+        ensures { IfOk result (λ made. IfSome made (λ done. then_words symbols.now (labelled symbols.now (standing self.old) label) operation operands.now ≡ Some (standing self.new))) }
+    {
+        if self.label(symbols, label).is_none() {
+            return Ok(None);
+        }
+        match words_at(alloc, symbols, self.place(), operation, operands)? {
+            Some(words) => self.put_words(&words),
+            None => Ok(None),
+        }
+    }
+
+    /// Does what a statement says.
+    fn perform(
+        &mut self,
+        alloc: Global,
+        symbols: &[Symbol],
+        label: Label,
+        operation: Operation,
+        operands: &[Operand],
+    ) -> Result<Option<()>, AllocError>
+        ensures { IfOk result (λ made. IfSome made (λ done. after symbols.now (standing self.old) label operation operands.now ≡ Some (standing self.new))) }
+    {
+        match (label, operation, operands) {
+            (_, Operation::Space, [x]) => Ok(self.space(symbols, label, x)),
+            (_, Operation::Origin, [x]) => Ok(self.set_origin(symbols, label, x)),
+            (_, Operation::Location, [x]) => Ok(self.set_location(symbols, label, x)),
+            (Label::Named(index), Operation::Equate(_), [x]) => Ok(self.equate(
+                symbols, index, false, x,
+            )),
+            (Label::Named(index), Operation::Set, [x]) => Ok(self.equate(symbols, index, true, x)),
+            (Label::Empty, Operation::SetBase(base, _), []) => {
+                self.base = Some(base);
+                Ok(Some(()))
+            }
+            (Label::Empty, Operation::Deck, []) => {
+                self.set_deck();
+                Ok(Some(()))
+            }
+            (Label::Empty, Operation::End, []) => Ok(Some(())),
+            (Label::Empty, Operation::End, [x]) => Ok(self.end(symbols, x)),
+            (
+                _,
+                Operation::Blank
+                | Operation::Instruction(_)
+                | Operation::Constants(_)
+                | Operation::Zeros,
+                _,
+            ) => { self.fill(alloc, symbols, label, operation, operands) }
+            _ => Ok(None),
+        }
+    }
+}
+
+/// Returns a memory without words.
+fn empty_memory(alloc: Global) -> Result<Vec<Option<u32>>, AllocError>
+    ensures { IfOk result (λ memory. memory.items ≡ replicate 0o10000 None) }
+{
+    let mut memory = Vec::new(alloc);
+    for _count in 0..CELLS {
+        memory.push(None)?;
+    }
+    Ok(memory)
+}
+
+/// Returns what there is after statements.
+fn perform_all(
+    alloc: Global,
+    symbols: &[Symbol],
+    statements: &[Statement],
+) -> Result<State, Refusal>
+    ensures { IfOk result (λ state. assembled symbols.now statements.now ≡ Some (standing state)) }
+{
+    let memory = empty_memory(alloc)?;
+    let mut state = State {
+        location: 0,
+        origin: 0,
+        base: None,
+        defined: 0,
+        memory,
+        words: Vec::new(alloc),
+        start: None,
+    };
+    let mut index: usize = 0;
+    for statement in statements {
+        let done = state.perform(
+            alloc,
+            symbols,
+            statement.label,
+            statement.operation,
+            &statement.operands,
+        )?;
+        if done.is_none() {
+            return Err(Refusal::At(index));
+        }
+        index = index.saturating_add(1);
+    }
+    Ok(state)
+}
+
+/// Returns what statements make.
+pub fn image_of(
+    alloc: Global,
+    symbols: &[Symbol],
+    statements: &[Statement],
+) -> Result<Image, Refusal>
+    ensures { IfOk result (λ image. IsAssembled symbols.now statements.now image) }
+{
+    let state = perform_all(alloc, symbols, statements)?;
+    if state.defined != symbols.len() {
+        return Err(Refusal::At(statements.len()));
+    }
+    Ok(Image {
+        memory: state.memory,
+        words: state.words,
+        start: state.start,
+    })
+}

@@ -1,0 +1,7 @@
+pub mod Cells
+pub mod Columns
+pub mod DisplayCode
+pub mod Instructions
+pub mod InstructionWords
+pub mod Mnemonics
+pub mod Rows
