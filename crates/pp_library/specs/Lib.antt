@@ -1,5 +1,9 @@
+pub mod About
 pub mod Assembling
 pub mod Calls
 pub mod Moving
+pub mod Origins
+pub mod Outcomes
 pub mod Owning
 pub mod Status
+pub mod Searches

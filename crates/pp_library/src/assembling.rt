@@ -1,15 +1,14 @@
 //! The assembler and the disassembler for C.
-ghost use Rattle.pp_assembler.specs.Cells.{IsCell};
-ghost use Rattle.pp_library.specs.Assembling.{IsLoading, IsSource, IsWritten, form_text};
-ghost use Rattle.pp_library.specs.declared.status.TheConstants.{DONE, REFUSED, ROOM};
-ghost use Rattle.std.specs.Prelude.{◌≡◌, ◌≢◌, ◌<◌, ◌≤◌, ◌↔◌, ◌⊎◌, All, IfOk, length, take};
+ghost use Rattle.pp_library.specs.Assembling.{Assembles, Disassembles, LoadsLines, form_text};
+ghost use Rattle.std.specs.Prelude.{◌≡◌, ◌≢◌, ◌↔◌, AllPairs, Any, IfOk, IsTrue};
 
-use crate::status::{DONE, NO_MEMORY, REFUSED, ROOM};
-use pp_assembler::{
-    Assembly, Cell, are_cells, assemble, complaints_text, disassemble, lines_text, listing_text,
-    names_text, words_text, write_source,
-};
+use crate::status::{NO_MEMORY, REFUSED};
+use crate::texts::put_text;
+use pp_assembler::{Assembly, assemble};
+use pp_disassembly::{disassemble, write_source};
+use pp_listing::{complaints_text, lines_text, listing_text, names_text, words_text};
 use pp_loading::load_lines;
+use pp_notation::{Cell, are_cells};
 use std::alloc::{AllocError, Global};
 
 /// What is written of a source.
@@ -39,25 +38,28 @@ fn text_of(alloc: Global, made: &Assembly, form: u32) -> Result<Vec<u8>, AllocEr
     }
 }
 
-/// Writes a text into a slice, if it has room for all of it. Returns `DONE` or `ROOM`.
-fn put_text(text: &[u8], into: &mut [u8]) -> u32
-    ensures done { result ≡ DONE → length text.now ≤ length into.new }
-    ensures text { result ≡ DONE → take (length text.now) into.new ≡ text.now }
-    ensures room { result ≡ ROOM → length into.new < length text.now }
-    ensures unchanged { result ≢ DONE → into.new ≡ into.old }
-    ensures status { (result ≡ DONE) ⊎ (result ≡ ROOM) }
+/// Returns whether a cell has this address.
+fn has_address(cells: &[Cell], address: u16) -> bool
+    ensures { IsTrue result ↔ Any (λ cell. cell.address ≡ address) cells.now }
 {
-    let count = text.len();
-    if count > into.len() {
-        return ROOM;
+    cells.iter().any(|cell| cell.address == address)
+}
+
+/// Returns whether each address is there once.
+fn have_own_addresses(cells: &[Cell]) -> bool
+    ensures { IsTrue result ↔ AllPairs (λ a b. a.address ≢ b.address) cells.now }
+{
+    for k in 0..cells.len() {
+        if has_address(&cells[..k], cells[k].address) {
+            return false;
+        }
     }
-    into[..count].copy_from_slice(text);
-    DONE
+    true
 }
 
 /// Assembles a source, and writes into a slice what is wrong with it (`form` 0), its words (1), its listing (2), the numbers of the lines
 /// that the words are of (3) or its names (4). `count` is how many bytes that are, and `messages` how many faults the source has. Returns
-/// `DONE`; `ROOM` if the slice has room for fewer bytes, and then nothing is written; `REFUSED` if there is no such form; or `NO_MEMORY`.
+/// `DONE`; `ROOM` if the slice has room for fewer bytes, and then it is as it was; `REFUSED` if there is no such form; or `NO_MEMORY`.
 #[unsafe(no_mangle)]
 pub extern "C" fn pp6600_assemble(
     alloc: Global,
@@ -67,11 +69,9 @@ pub extern "C" fn pp6600_assemble(
     count: &mut usize,
     messages: &mut usize,
 ) -> u32
-    ensures done { result ≡ DONE → count.new ≤ length into.new }
-    ensures text { result ≡ DONE → IsWritten source.now form (take count.new into.new) }
-    ensures room { result ≡ ROOM → length into.new < count.new }
-    ensures unchanged { result ≢ DONE → into.new ≡ into.old }
-    ensures refused { (result ≡ REFUSED) ↔ (NAMES < form) }
+    ensures { Assembles source.now form
+        (record { into = into.old; count = count.old; messages = messages.old })
+        (record { into = into.new; count = count.new; messages = messages.new }) result }
 {
     if form > NAMES {
         return REFUSED;
@@ -83,8 +83,7 @@ pub extern "C" fn pp6600_assemble(
         return NO_MEMORY;
     };
     *messages = made.messages.len();
-    *count = text.len();
-    put_text(text.as_slice(), into)
+    put_text(text.as_slice(), into, count)
 }
 
 /// Assembles a source, and writes into a slice the lines of the console that load its program into a processor. `count` is how many bytes
@@ -99,12 +98,9 @@ pub extern "C" fn pp6600_load_lines(
     count: &mut usize,
     messages: &mut usize,
 ) -> u32
-    ensures done { result ≡ DONE → (count.new ≤ length into.new) × (messages.new ≡ 0) }
-    ensures loads { result ≡ DONE → IsLoading processor (take count.new into.new) }
-    ensures room { result ≡ ROOM → length into.new < count.new }
-    ensures unchanged { result ≢ DONE → into.new ≡ into.old }
-    ensures processor { PROCESSORS ≤ processor → result ≡ REFUSED }
-    ensures refused { result ≡ REFUSED → (PROCESSORS ≤ processor) ⊎ (0 < messages.new) }
+    ensures { LoadsLines source.now processor
+        (record { into = into.old; count = count.old; messages = messages.old })
+        (record { into = into.new; count = count.new; messages = messages.new }) result }
 {
     if processor >= PROCESSORS {
         return REFUSED;
@@ -112,16 +108,17 @@ pub extern "C" fn pp6600_load_lines(
     let Ok(made) = assemble(alloc, source) else {
         return NO_MEMORY;
     };
-    *messages = made.messages.len();
-    if !made.messages.is_empty() {
+    let faults = made.messages.len();
+    if faults > 0 {
+        *messages = faults;
         return REFUSED;
     }
     let program = &made.program;
     let Ok(text) = load_lines(alloc, program.cells(), program.start(), processor as u8) else {
         return NO_MEMORY;
     };
-    *count = text.len();
-    put_text(text.as_slice(), into)
+    *messages = 0;
+    put_text(text.as_slice(), into, count)
 }
 
 /// Writes into a slice a source that assembles to cells. What a processor reaches from the entries on is code, and the rest is data.
@@ -135,13 +132,11 @@ pub extern "C" fn pp6600_disassemble(
     into: &mut [u8],
     count: &mut usize,
 ) -> u32
-    ensures done { result ≡ DONE → (count.new ≤ length into.new) × All IsCell cells.now }
-    ensures text { result ≡ DONE → IsSource cells.now (take count.new into.new) }
-    ensures room { result ≡ ROOM → length into.new < count.new }
-    ensures unchanged { result ≢ DONE → into.new ≡ into.old }
-    ensures refused { result ≡ REFUSED → All IsCell cells.now → ⊥ }
+    ensures { Disassembles cells.now
+        (record { into = into.old; count = count.old })
+        (record { into = into.new; count = count.new }) result }
 {
-    if !are_cells(cells) {
+    if !are_cells(cells) || !have_own_addresses(cells) {
         return REFUSED;
     }
     let Ok(statements) = disassemble(alloc, cells, entries) else {
@@ -150,6 +145,5 @@ pub extern "C" fn pp6600_disassemble(
     let Ok(text) = write_source(alloc, statements.as_slice()) else {
         return NO_MEMORY;
     };
-    *count = text.len();
-    put_text(text.as_slice(), into)
+    put_text(text.as_slice(), into, count)
 }

@@ -1,17 +1,7 @@
 //! What C calls. `pp6600.h` has the same calls, with what C owes them.
-ghost use Rattle.pp_console.specs.Answering.{AnswersPart};
-ghost use Rattle.pp_console.specs.Commands.{Value, present};
-ghost use Rattle.pp_console.specs.declared.answering.End.{End};
-ghost use Rattle.pp_history.specs.SessionValue.{IsAt, after_back, after_forward};
-ghost use Rattle.pp_library.specs.Calls.{Again, Does, IsUnopened, Looks, Reads, Turns, WritesText, wanted};
-ghost use Rattle.pp_library.specs.Moving.{MovesOr};
-ghost use Rattle.pp_library.specs.Status.{end_status, run_status};
-ghost use Rattle.pp_library.specs.declared.status.TheConstants.{CLOSED, DONE, NO_MEMORY, OPEN, REFUSED};
-ghost use Rattle.pp_program.specs.Opening.{IsOpened};
-ghost use Rattle.pp_rig.specs.Rules.{rules};
-ghost use Rattle.pp_rig.specs.Stopping.{newest_changed};
-ghost use Rattle.std.specs.Int.{from_bool};
-ghost use Rattle.std.specs.Prelude.{◌≡◌, ◌≢◌, ◌<◌, ◌≤◌, ◌⊎◌, IfSome, IsSome, IsSomeAnd, None, length};
+ghost use Rattle.pp_library.specs.Calls.{Again, AnswersLines, Closes, Counts, GoesBack, GoesForward, Looks, Opens, ReadsNumbers, Turns};
+ghost use Rattle.pp_library.specs.Calls.{WritesText, wanted};
+ghost use Rattle.std.specs.Prelude.{◌≡◌};
 
 use crate::console::Console;
 use crate::handle::Handle;
@@ -23,7 +13,7 @@ use std::alloc::Global;
 
 /// Writes the text of a trouble into a slice, as far as it has room. Returns how many bytes that are.
 fn write_text(trouble: &Trouble, text: &mut [u8]) -> usize
-    ensures { WritesText trouble.now text.new result }
+    ensures { WritesText trouble.now text.old text.new result }
 {
     let line = trouble.text();
     let count = line.len().min(text.len());
@@ -47,11 +37,9 @@ pub extern "C" fn pp6600_open(
     text_count: &mut usize,
     status: &mut u32,
 ) -> u32
-    ensures open { IsSome session.old.value → (result ≡ OPEN) × (session.new.value ≡ session.old.value) }
-    ensures done { result ≡ DONE → IsSomeAnd session.new.value (λ console.
-        IsOpened (wanted history central reader printer deck.now panel.now) (IsAt rules console.session)) }
-    ensures refused { session.old.value ≡ None → result ≢ DONE → (session.new.value ≡ None)
-        × IsUnopened (wanted history central reader printer deck.now panel.now) result text.new text_count.new status.new }
+    ensures { Opens (wanted history central reader printer deck.now panel.now)
+        (record { session = session.old.value; text = text.old; text_count = text_count.old; status = status.old })
+        (record { session = session.new.value; text = text.new; text_count = text_count.new; status = status.new }) result }
 {
     if session.is_open(alloc) {
         return OPEN;
@@ -96,10 +84,9 @@ pub extern "C" fn pp6600_answer(
     lines: &mut u32,
     refused: &mut u32,
 ) -> u32
-    ensures closed { session.old.value ≡ None → (result ≡ CLOSED) × (session.new.value ≡ None) × (into.new ≡ into.old) }
-    ensures answers { Does session.old.value session.new.value (λ old new. (end : End) × (result ≡ end_status end)
-        × ((start : Value) → IsAt rules old start → AnswersPart new typed.now into.new start
-        (record { taken = taken.new; count = count.new; lines = lines.new; refused = refused.new; end = end }))) }
+    ensures { AnswersLines typed.now
+        (record { session = session.old.value; into = into.old; taken = taken.old; count = count.old; lines = lines.old; refused = refused.old })
+        (record { session = session.new.value; into = into.new; taken = taken.new; count = count.new; lines = lines.new; refused = refused.new }) result }
 {
     let Some(mut console) = session.take(alloc) else {
         return CLOSED;
@@ -122,10 +109,9 @@ pub extern "C" fn pp6600_numbers(
     first: u32,
     into: &mut [u64],
 ) -> u32
-    ensures same { session.new.value ≡ session.old.value }
-    ensures closed { session.old.value ≡ None → (result ≡ CLOSED) × (into.new ≡ into.old) }
-    ensures numbers { IfSome session.old.value (λ console. (v : Value) → IsAt rules console.session v →
-        Reads first (present v) into.old into.new result) }
+    ensures { ReadsNumbers first
+        (record { session = session.old.value; into = into.old })
+        (record { session = session.new.value; into = into.new }) result }
 {
     let Some(console) = session.take(alloc) else {
         return CLOSED;
@@ -146,10 +132,9 @@ pub extern "C" fn pp6600_counts(
     capacity: &mut u32,
     changed: &mut u32,
 ) -> u32
-    ensures same { session.new.value ≡ session.old.value }
-    ensures closed { session.old.value ≡ None → result ≡ CLOSED }
-    ensures counts { IfSome session.old.value (λ console. (result ≡ DONE) × ((v : Value) → IsAt rules console.session v →
-        (kept.new ≡ v.kept) × (ahead.new ≡ length v.ahead) × (capacity.new ≡ v.capacity) × (changed.new ≡ from_bool (newest_changed v)))) }
+    ensures { Counts
+        (record { session = session.old.value; kept = kept.old; ahead = ahead.old; capacity = capacity.old; changed = changed.old })
+        (record { session = session.new.value; kept = kept.new; ahead = ahead.new; capacity = capacity.new; changed = changed.new }) result }
 {
     let Some(console) = session.take(alloc) else {
         return CLOSED;
@@ -174,10 +159,9 @@ pub extern "C" fn pp6600_turns(
     turns: &mut usize,
     used: &mut usize,
 ) -> u32
-    ensures closed { session.old.value ≡ None → (result ≡ CLOSED) × (session.new.value ≡ None)
-        × (made.new ≡ made.old) × (olds.new ≡ olds.old) }
-    ensures turns { Does session.old.value session.new.value (λ old new.
-        Turns most old new turns.new made.new used.new olds.new result) }
+    ensures { Turns most
+        (record { session = session.old.value; made = made.old; olds = olds.old; actions = turns.old; used = used.old })
+        (record { session = session.new.value; made = made.new; olds = olds.new; actions = turns.new; used = used.new }) result }
 {
     let Some(mut console) = session.take(alloc) else {
         return CLOSED;
@@ -201,10 +185,9 @@ pub extern "C" fn pp6600_again(
     actions: &mut usize,
     used: &mut usize,
 ) -> u32
-    ensures closed { session.old.value ≡ None → (result ≡ CLOSED) × (session.new.value ≡ None)
-        × (made.new ≡ made.old) × (olds.new ≡ olds.old) }
-    ensures again { Does session.old.value session.new.value (λ old new.
-        Again most old new actions.new made.old made.new used.new olds.old olds.new result) }
+    ensures { Again most
+        (record { session = session.old.value; made = made.old; olds = olds.old; actions = actions.old; used = used.old })
+        (record { session = session.new.value; made = made.new; olds = olds.new; actions = actions.new; used = used.new }) result }
 {
     let Some(mut console) = session.take(alloc) else {
         return CLOSED;
@@ -232,9 +215,9 @@ pub extern "C" fn pp6600_looks(
     into: &mut [u64],
     turns: &mut usize,
 ) -> u32
-    ensures closed { session.old.value ≡ None → (result ≡ CLOSED) × (session.new.value ≡ None) × (into.new ≡ into.old) }
-    ensures looks { Does session.old.value session.new.value (λ old new.
-        Looks most places.now old new turns.new into.old into.new result) }
+    ensures { Looks most places.now
+        (record { session = session.old.value; into = into.old; turns = turns.old })
+        (record { session = session.new.value; into = into.new; turns = turns.new }) result }
 {
     let Some(mut console) = session.take(alloc) else {
         return CLOSED;
@@ -254,9 +237,7 @@ pub extern "C" fn pp6600_looks(
 /// Undoes the newest actions. Returns `REFUSED`, and undoes none, if fewer can be undone.
 #[unsafe(no_mangle)]
 pub extern "C" fn pp6600_back(alloc: Global, session: &mut Handle, count: u32) -> u32
-    ensures closed { session.old.value ≡ None → (result ≡ CLOSED) × (session.new.value ≡ None) }
-    ensures moves { Does session.old.value session.new.value (λ old new.
-        MovesOr count (length old.records) (λ v. after_back v count) old new result) }
+    ensures { GoesBack count session.old.value session.new.value result }
 {
     let Some(mut console) = session.take(alloc) else {
         return CLOSED;
@@ -269,9 +250,7 @@ pub extern "C" fn pp6600_back(alloc: Global, session: &mut Handle, count: u32) -
 /// Performs actions ahead again, without a stop at a watch. Returns `REFUSED`, and performs none, if fewer are ahead.
 #[unsafe(no_mangle)]
 pub extern "C" fn pp6600_forward(alloc: Global, session: &mut Handle, count: u32) -> u32
-    ensures closed { session.old.value ≡ None → (result ≡ CLOSED) × (session.new.value ≡ None) }
-    ensures moves { Does session.old.value session.new.value (λ old new.
-        MovesOr count (length old.ahead) (λ v. after_forward v count) old new result) }
+    ensures { GoesForward count session.old.value session.new.value result }
 {
     let Some(mut console) = session.take(alloc) else {
         return CLOSED;
@@ -284,9 +263,7 @@ pub extern "C" fn pp6600_forward(alloc: Global, session: &mut Handle, count: u32
 /// Closes a session, and gives its memory back.
 #[unsafe(no_mangle)]
 pub extern "C" fn pp6600_close(alloc: Global, session: &mut Handle) -> u32
-    ensures closed { session.new.value ≡ None }
-    ensures done { IfSome session.old.value (λ _. result ≡ DONE) }
-    ensures was_closed { session.old.value ≡ None → result ≡ CLOSED }
+    ensures { Closes session.old.value session.new.value result }
 {
     match session.take(alloc) {
         Some(console) => {

@@ -1,9 +1,13 @@
 //! The simulator for C: sessions behind handles.
 #![tactic(auto)]
 
+mod about;
 mod assembling;
 mod console;
 mod exports;
 mod handle;
+mod origins;
 mod raw_box;
+mod searches;
 mod status;
+mod texts;

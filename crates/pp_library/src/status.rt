@@ -29,6 +29,9 @@ pub const REFUSED: u32 = 6;
 /// A call answers at most 1,000,000 lines and 268,435,456 bytes (decimal).
 pub const LIMIT: u32 = 7;
 
+/// A condition came to hold in none of the actions that were searched.
+pub const NOT_FOUND: u32 = 8;
+
 /// Returns the status of answers that ended so.
 pub fn end_status(end: End) -> u32
     ensures { result ≡ end_status end }

@@ -21,7 +21,7 @@ use pp_rig::{Action, CentralSize, Place, Rig, Setup, Values, Watched, run};
 use std::alloc::Global;
 use std::process::ExitCode;
 
-/// Returns a machine with one card in its reader.
+/// Returns a machine with one card in its reader, and a dead start panel whose first word loads 5.
 fn machine(alloc: Global) -> Option<Rig> {
     let deck = load_deck(alloc, &mut Counted::new(b"1 2 3\n".as_slice())).ok()?;
     let setup = Setup {
@@ -29,7 +29,7 @@ fn machine(alloc: Global) -> Option<Rig> {
         reader: 0o12,
         printer: 0o13,
         deck,
-        panel: None,
+        panel: Some([0o1405, 0o3420, 0o0300, 0, 0, 0, 0, 0, 0, 0, 0, 0]),
     };
     let rig = Rig::new(alloc, setup).ok()?;
     Some(rig)
@@ -137,6 +137,7 @@ fn work(rt: &HostRuntime) -> Option<()> {
     steps::show(rt)?;
     rigs::show(rt, machine(rt.alloc())?);
     rigs::show_change(rt, session(rt.alloc())?);
+    rigs::show_settings(rt, session(rt.alloc())?);
     consoles::show(rt, session(rt.alloc())?, &summary)
 }
 

@@ -2,9 +2,10 @@
 
 use pp_console::{Counted, load_deck};
 use pp_machine::{
-    Central, CentralSize, Channel, ChannelState, Channels, Frame, Memory12, Place, Pp, Printer,
-    PrinterMode, Reader, ReaderMode,
+    Central, CentralSize, Channel, ChannelState, Channels, Frame, MakeFault, Memory12, Place, Pp,
+    Printer, PrinterMode, Reader, ReaderMode,
 };
+use std::alloc::Global;
 
 /// Writes a cell, a channel and the clock, and reads them.
 fn show_channels(rt: &HostRuntime) -> Option<()> {
@@ -85,10 +86,33 @@ fn show_printer(rt: &HostRuntime) -> Option<()> {
     Some(())
 }
 
+/// Returns what a reader says of a deck of this many cards without a hole.
+fn fault_of(alloc: Global, cards: u16) -> Option<&'static str> {
+    let mut text = Vec::new(alloc);
+    for _ in 0..cards {
+        text.push(b'0').ok()?;
+        text.push(b'\n').ok()?;
+    }
+    let deck = load_deck(alloc, &mut Counted::new(text.as_slice())).ok()?;
+    match Reader::new(deck) {
+        Ok(_reader) => Some("none"),
+        Err(MakeFault::NoMemory) => Some("no memory"),
+        Err(MakeFault::DeckTooLong) => Some("deck too long"),
+    }
+}
+
+/// Makes a reader of a deck that has one card too many.
+fn show_fault(rt: &HostRuntime) -> Option<()> {
+    let fault = fault_of(rt.alloc(), 2001)?;
+    let _ = println!(rt; "fault of a reader: {fault}");
+    Some(())
+}
+
 /// Makes each call of the crate.
 pub fn show(rt: &HostRuntime) -> Option<()> {
     show_channels(rt)?;
     show_words(rt)?;
     show_reader(rt)?;
-    show_printer(rt)
+    show_printer(rt)?;
+    show_fault(rt)
 }

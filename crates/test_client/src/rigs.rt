@@ -1,7 +1,10 @@
 //! The calls of `pp_rig` and `pp_history` that the rest of the client has no use for.
 
-use pp_history::{Reversible, Session};
-use pp_rig::{Action, ActionFault, MOST_OLDS, Old, Place, Rig, Watched, put_newest_old_values};
+use crate::act;
+use pp_history::{BackFault, Reversible, Session};
+use pp_rig::{
+    Action, ActionFault, ChannelState, MOST_OLDS, Old, Place, Rig, Watched, put_newest_old_values,
+};
 
 /// Checks an action, performs another one and undoes it.
 fn show_undo(rt: &HostRuntime, rig: &mut Rig) {
@@ -52,5 +55,55 @@ pub fn show_change(rt: &HostRuntime, mut session: Session<Rig>) {
     let changed = session.back_to_change(&[Place::RegA { pp: 0 }]);
     let ahead = session.ahead();
     let _ = println!(rt; "kept {kept} of {capacity}, back {changed:?}, ahead {ahead}");
+    drop(session);
+}
+
+/// Asks a new session for more than it has kept or has ahead.
+fn show_back_faults(rt: &HostRuntime, session: &mut Session<Rig>) {
+    let back = session.back(1) == Err(BackFault::TooFew { kept: 0 });
+    let places = [Place::RegA { pp: 0 }];
+    let change = session.back_to_change(&places) == Err(BackFault::NoChange { kept: 0 });
+    let forward = session.forward(1) == Err(BackFault::TooFewAhead { ahead: 0 });
+    let _ = println!(rt; "too few kept {back}, no change {change}, too few ahead {forward}");
+}
+
+/// Sets a register, a central word and a channel.
+fn show_sets(rt: &HostRuntime, session: &mut Session<Rig>) {
+    let q = act(session, Action::SetQ { pp: 1, v: 5 });
+    let word = act(session, Action::SetWord { a: 0o20, v: 7 });
+    let channel = Action::SetChannel {
+        c: 5,
+        state: ChannelState::Full,
+        word: Some(0o17),
+    };
+    let channel = act(session, channel);
+    let function = Action::SetChannel {
+        c: 5,
+        state: ChannelState::Function,
+        word: None,
+    };
+    let function = act(session, function);
+    let _ = println!(rt; "set Q {q}, word {word}, channel {channel}, function {function}");
+    let machine = session.machine();
+    let (q, c) = (
+        machine.value(&Place::RegQ { pp: 1 }),
+        machine.value(&Place::ChannelWord { c: 5 }),
+    );
+    let _ = println!(rt; "Q {q}, channel {c:o}");
+}
+
+/// Watches a place, stops watching it, and starts all processors anew.
+pub fn show_settings(rt: &HostRuntime, mut session: Session<Rig>) {
+    show_back_faults(rt, &mut session);
+    show_sets(rt, &mut session);
+    let place = Watched::RegQ { pp: 1 };
+    let watched = act(&mut session, Action::Watch(place));
+    let unwatched = act(&mut session, Action::Unwatch(place));
+    let again = act(&mut session, Action::Unwatch(place));
+    let started = act(&mut session, Action::Deadstart);
+    let p = session.machine().value(&Place::RegP { pp: 0 });
+    let _ = println!(rt;
+        "watched {watched}, unwatched {unwatched} and {again}, started {started} at {p}"
+    );
     drop(session);
 }

@@ -1,9 +1,19 @@
+use Rattle.std.proofs.Common.{◌∙◌, inl, arith}
+use Rattle.pp_library.proofs.Assemblies.{puts_same}
 use Rattle.pp_library.proofs.assembling.pp6600_assemble.Goals as goal
 
-pub returns-clause-text : goal.returns-clause-text
-returns-clause-text c = λ done. record {
-  made = c.in-Ok.made;
-  program = c.in-Ok.ensures.cells;
-  places = c.in-Ok.ensures.messages;
-  written = cc (c.put_text.ensures.text done, c.as_slice.ensures.value, c.len-2.ensures, c.in-Ok-text_of.ensures);
-}
+pub returns : goal.returns
+returns c = inl (
+  omega arith,
+  record {
+    made = c.in-Ok.made;
+    assembly = record {
+      program = c.in-Ok.ensures.cells;
+      start = c.in-Ok.ensures.start;
+      messages = c.in-Ok.ensures.messages;
+      warnings = c.in-Ok.ensures.warnings;
+    };
+    text = puts_same _ _ _ _ _ _ (c.as_slice.ensures.value ∙ c.in-Ok-text_of.ensures) c.put_text.ensures;
+    messages = c.len.ensures ∙ c.in-Ok.made.messages.ok.0;
+  },
+)
