@@ -8,7 +8,6 @@ import re
 import shutil
 import stat
 import subprocess
-import sys
 import tempfile
 
 try:
@@ -17,7 +16,6 @@ except ImportError:  # Windows has none
     resource = None
 
 HERE = os.path.dirname(os.path.realpath(__file__))
-sys.path.insert(0, os.path.realpath(os.path.join(HERE, os.pardir, "tools")))  # in an installation this is a link
 
 from pp6600 import Console, Failure
 from pp6600.shell.command_line import complain

@@ -27,14 +27,22 @@ from .run.forms import Place
 from .run.console import Console
 
 if TYPE_CHECKING:
+    from .engine.library import LibrarySession as Session
     from .run.attached import Attached
     from .run.device import EMPTY, INACTIVE, NOTHING, Device, full
 
-__all__ = ["EMPTY", "INACTIVE", "NOTHING", "Attached", "Console", "Device", "Failure", "Place", "full"]
+__all__ = ["EMPTY", "INACTIVE", "NOTHING", "Attached", "Console", "Device", "Failure", "Place", "Session", "full"]
+__version__: str
 
 
 def __getattr__(name: str) -> Any:
-    """Returns what a session with devices needs, which most tools do not."""
+    """Returns what most tools do not need: the version, a session of the library, and what a session with devices needs."""
+    if name == "__version__":
+        from .engine.choice import version
+        return version()
+    if name == "Session":
+        from .engine.library import LibrarySession
+        return LibrarySession
     if name not in __all__:
         raise AttributeError(f"module {__name__} has no attribute {name}")
     from .run import attached, device

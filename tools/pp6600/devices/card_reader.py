@@ -25,9 +25,11 @@ class Cards(NamedTuple):
 class CardReader(Converter):
     """A card reader with a deck."""
 
-    def __init__(self, deck: Union[str, Iterable[Sequence[int]]] = (), equipment: str = "4", channel: int = 0o12) -> None:
-        """The deck is its cards, each of up to 80 words, or the name of a file as for the option --deck."""
-        super().__init__(equipment_of(equipment), channel)
+    def __init__(self, deck: Union[str, Iterable[Sequence[int]]] = (), equipment: str = "4", channel: int = 0o12,
+                 busy: Union[int, str] = 0) -> None:
+        """The deck is its cards, each of up to 80 words, or the name of a file as for the option --deck. The reader is busy for so many
+        turns after a function, and before each card."""
+        super().__init__(equipment_of(equipment), channel, busy)
         self.deck = deck_of(deck) if isinstance(deck, str) else [tuple(card) for card in deck]
         self.start = ConverterState(Cards())
 
@@ -46,8 +48,9 @@ class CardReader(Converter):
     def given(self, inner: Cards) -> Tuple[Cards, Reply]:
         if inner.column >= COLUMNS:
             return inner, INACTIVE
-        card = self.deck[inner.card - 1]
-        return inner._replace(column=inner.column + 1), full(card[inner.column] if inner.column < len(card) else 0)
+        card, column = self.deck[inner.card - 1], inner.column + 1
+        reply = full(card[inner.column] if inner.column < len(card) else 0)
+        return inner._replace(column=column), reply.remarked(f"CARD {inner.card:o} COLUMN {column:o}")
 
 
 def equipment_of(text: str) -> int:

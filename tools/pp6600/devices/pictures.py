@@ -5,11 +5,13 @@ The symbols are of strokes, and so is everything that is shown here."""
 
 from __future__ import annotations
 
-from typing import Dict, FrozenSet, Iterator, List, NamedTuple, Tuple
+from html import escape
+from typing import Dict, FrozenSet, Iterator, List, NamedTuple, Sequence, Tuple
 
 Point = Tuple[int, int]
 Line = List[Point]
 SIDE = 512  # of a screen, in its units
+COLUMNS, ROWS = 136, 66  # of a page of paper
 GRID = 8  # a symbol of size GRID has a unit of its strokes in one of the screen
 # The strokes of each symbol: x from 0 to 4 and y from 0 to 6 of each point; a blank begins another stroke.
 STROKES = {
@@ -43,9 +45,10 @@ class Mark(NamedTuple):
 
 
 class Picture(NamedTuple):
-    """What is on the screens of a device, from left to right."""
+    """What is on the screens of a device, from left to right; or without screens the lines of a page of paper."""
 
     screens: Tuple[FrozenSet[Mark], ...]
+    lines: Tuple[str, ...] = ()
 
 
 # ---- SVG
@@ -56,7 +59,9 @@ WIDTHS = {0: 3, 8: 1, 16: 1.4, 32: 2}  # of the strokes, by the size of the symb
 
 
 def svg(picture: Picture) -> str:
-    """Returns a picture as SVG, a mark a line."""
+    """Returns a picture as SVG, a mark or a line of paper a line."""
+    if not picture.screens:
+        return paper_as_svg(picture.lines)
     width, height = 2 * FRAME * len(picture.screens), 2 * FRAME
     lines = [f'<svg xmlns="http://www.w3.org/2000/svg" viewBox="0 0 {width} {height}">'
              f'<rect width="{width}" height="{height}" fill="#3a3f42"/>']
@@ -67,6 +72,18 @@ def svg(picture: Picture) -> str:
         lines += map(path_of, sorted(marks))
         lines.append("</g>")
     return "\n".join([*lines, "</svg>", ""])
+
+
+ACROSS_PAPER, DOWN_PAPER = 7, 12  # from a symbol of paper to the next, and from a line
+
+
+def paper_as_svg(lines: Sequence[str]) -> str:
+    """Returns a page of paper as SVG."""
+    width, height = (COLUMNS + 2) * ACROSS_PAPER, (ROWS + 1) * DOWN_PAPER
+    return "\n".join([f'<svg xmlns="http://www.w3.org/2000/svg" viewBox="0 0 {width} {height}" font-family="monospace" font-size="11">'
+                      f'<rect width="{width}" height="{height}" fill="#f6f4ea"/>',
+                      *(f'<text x="{ACROSS_PAPER}" y="{DOWN_PAPER * number}" textLength="{ACROSS_PAPER * len(line)}" xml:space="preserve">'
+                        f"{escape(line)}</text>" for number, line in enumerate(lines, 1) if line), "</svg>", ""])
 
 
 def path_of(mark: Mark) -> str:
@@ -84,8 +101,10 @@ MOST_CELLS, FEWEST_CELLS = 256, 16  # of a screen
 
 
 def braille(picture: Picture, width: int) -> List[str]:
-    """Returns a picture as lines of at most so many cells, the screens beside each other. Its dots are those of braille symbols; a
+    """Returns a picture as lines of at most so many cells, the screens beside each other; paper as its lines. Its dots are those of braille symbols; a
     symbol too small for strokes is a letter. A screen has 16, 32, 64 .. cells a line, so its symbols are at equal distances."""
+    if not picture.screens:
+        return list(picture.lines)
     cells = MOST_CELLS
     while cells > FEWEST_CELLS and (cells + 1) * len(picture.screens) - 1 > width:
         cells //= 2

@@ -11,6 +11,7 @@ from typing import Any, Dict, Iterable, Mapping, Optional, Tuple
 
 from ..failure import Failure
 from .choose import PLAIN, SUFFIXES, default_engine, libraries_beside
+from .numbers_of_calls import checked
 
 COMPLAINTS, WORDS, LISTING, LINES, NAMES = range(5)
 DONE, ROOM = range(2)
@@ -37,17 +38,17 @@ class Assembler:
     def text(self, source: bytes, form: int) -> Tuple[bytes, int]:
         """Returns what is written of a source in a form, and how many faults the source has."""
         messages = c_size_t()
-        text = self._written("assemble", 4 * len(source), source, c_size_t(len(source)), c_uint32(form), after=(byref(messages),))
+        text = self._written("assemble", 4 * len(source), source, c_size_t(len(source)), *checked("assemble", form), after=(byref(messages),))
         return text, messages.value
 
     def load_lines(self, source: bytes, processor: int) -> bytes:
         """Returns the lines of the console that load the program of a source, which has no fault, into a processor."""
         messages = c_size_t()
-        return self._written("load_lines", len(source), source, c_size_t(len(source)), c_uint32(processor), after=(byref(messages),))
+        return self._written("load_lines", len(source), source, c_size_t(len(source)), *checked("load_lines", processor), after=(byref(messages),))
 
     def disassembled(self, cells: Mapping[int, int], entries: Iterable[int]) -> bytes:
         """Returns a source of words by their addresses, whose code is what a processor reaches from the entries on."""
-        given, begins = [Cell(address, word) for address, word in sorted(cells.items())], list(entries)
+        given, begins = [Cell(*checked("disassemble", *cell)) for cell in sorted(cells.items())], [checked("disassemble", one)[0] for one in entries]
         return self._written("disassemble", 64 * len(given), (Cell * len(given))(*given), c_size_t(len(given)),
                              (c_uint16 * len(begins))(*begins), c_size_t(len(begins)))
 

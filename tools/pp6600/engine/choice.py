@@ -23,6 +23,15 @@ THIS_IS = "this is pp6600-python, which is not proved"
 NOT_PROVED = f"the proved program does not start here; {THIS_IS}"
 
 
+def version() -> str:
+    """Returns the version of what is here."""
+    try:
+        with open(os.path.join(HOME, "VERSION"), encoding="ascii") as file:
+            return file.readline().strip()
+    except (OSError, ValueError) as error:
+        raise Failure(f"can't read the file VERSION in {HOME}") from error
+
+
 @functools.lru_cache(maxsize=None)
 def words_to_run(program: str) -> Tuple[str, ...]:
     """Returns the words that run a simulator. For the launcher of a checkout or of a class it is the program that the launcher would
@@ -59,7 +68,7 @@ def verified(top: str, names: Sequence[str], *options: str) -> List[str]:
         return [path for path in (os.path.join(top, "dist", name) for name in names) if os.path.isfile(path)]
     if not names:
         return []
-    words = ["sh", os.path.join(top, "share", "which-build"), *options, *names]
+    words = ["/bin/sh", os.path.join(top, "share", "which-build"), *options, *names]
     import subprocess  # the tools run no program
     done = subprocess.run(words, stdin=subprocess.DEVNULL, capture_output=True, check=False)
     if done.returncode:

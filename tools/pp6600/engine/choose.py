@@ -33,6 +33,12 @@ def engine_of(name: str, words: Sequence[str]) -> Engine:
     return LibraryEngine(path, words)
 
 
+def is_proved(engine: Engine) -> bool:
+    """Returns whether an engine is the proved library."""
+    from .library import LibraryEngine
+    return isinstance(engine, LibraryEngine)
+
+
 @functools.lru_cache(maxsize=None)
 def library_named(name: str) -> Optional[str]:
     """Returns the path of the library that a name means; None where it is the simulator in plain Python."""

@@ -1,4 +1,4 @@
-"""What simulates, as the tools ask it: a session of the machine, by eleven calls. Two engines have them, the proved library and the simulator
+"""What simulates, as the tools ask it: a session of the machine, by fifteen calls. Two engines have them, the proved library and the simulator
 in plain Python."""
 
 from __future__ import annotations
@@ -8,6 +8,7 @@ from array import array
 from typing import List, NamedTuple, Protocol, Sequence, Tuple
 
 from ..failure import Failure
+from .origins import Origins
 
 # The places in the flat order of the engines: a range of them begins at each of these numbers.
 CELLS, A, P, Q, PHASE, STATES, REGISTERS, CLOCK = 0, 40960, 40970, 40980, 40990, 41000, 41012, 41024
@@ -20,6 +21,19 @@ FIRST = {"M": CELLS, "A": A, "P": P, "Q": Q, "PHASE": PHASE, "S": STATES, "H": R
 KINDS, FIRSTS = list(FIRST), list(FIRST.values())
 ONE = [kind for kind in KINDS if " " in kind or kind == "SLOT"]  # kinds with one place
 CELLS_OF_PROCESSOR = 0o10000
+# Of a form: the number at a place is inside or outside a range; one of some numbers changes; one of some places is written; a processor is
+# about to perform the instruction at an address; a processor waits; another alternative begins.
+INSIDE, OUTSIDE, CHANGES, WRITES, PERFORMS, WAITS, OR = range(7)
+MOST_TESTS, MOST_ALTERNATIVES = 8, 64  # of an alternative, and of a condition
+
+
+class Form(NamedTuple):
+    """A test of a turn, or the beginning of another alternative. What a kind does not need is 0."""
+
+    kind: int
+    place: int = 0  # the number of a place, or of a processor
+    first: int = 0  # the least number; how many places from that one on; or the address
+    last: int = 0  # the greatest number
 
 
 class Rejection(Failure):
@@ -68,6 +82,12 @@ class Engine(Protocol):
     def turns(self, most: int) -> Records:
         """Makes turns, at most so many. It ends at a change of a watched number."""
 
+    def origins(self, most: int) -> Tuple[List[Origins], Records]:
+        """Makes turns as `turns` does. Returns also where each number that they wrote comes from."""
+
+    def next_origins(self) -> Origins:
+        """Returns the next turn, with where each number that its processor will write comes from. No turn is made."""
+
     def looks(self, places: Sequence[int], most: int) -> Tuple[Sequence[int], int]:
         """Makes turns as `turns` does. Returns the numbers at some places (1 to 16) after each of them, and how many turns they are."""
 
@@ -75,6 +95,14 @@ class Engine(Protocol):
         """Performs lines, then makes turns as `turns` does, but up to the first after which the first of some places do not have these
         numbers. Returns how many they are, and the numbers at all the places if that turn was made. More turns may have been made and
         undone."""
+
+    def search(self, condition: Sequence[Form], most: int) -> Tuple[int, bool]:
+        """Makes turns, at most so many, up to the first in which a condition comes to hold, whatever is watched. Returns how many they are,
+        and whether it does in the last one."""
+
+    def search_back(self, condition: Sequence[Form]) -> int:
+        """Goes back to the end of the last action before the newest in which a condition came to hold. Returns how many actions were
+        undone; 0 if there is none that can be undone."""
 
     def perform(self, typed: bytes) -> None:
         """Performs lines of actions, none of which is rejected."""

@@ -7,22 +7,25 @@ import ctypes
 import functools
 import os
 from array import array
-from ctypes import byref, c_size_t, c_uint8, c_uint32, c_uint64
-from typing import Any, Dict, List, NamedTuple, Optional, Sequence, Tuple
+from ctypes import byref, c_size_t, c_uint16, c_uint32, c_uint64
+from typing import Any, Dict, Iterator, List, NamedTuple, Optional, Sequence, Tuple
 
 from ..failure import Failure
 from . import interface
-from .choice import HOME
-from .interface import Records, Rejection
+from .choice import HOME, LIBRARIES, machine_here
+from .interface import Form, Records, Rejection
+from .numbers_of_calls import checked, counted
+from .origins import LINK_BYTES, Origins, origins_of
 from .plain.lines import Rejected
 from .plain.program import FILE_BYTES, pieces, read_options, read_words
 
-DONE, ROOM, WATCHED, CLOSED, OPEN, NO_MEMORY, REFUSED, LIMIT = range(8)
+DONE, ROOM, WATCHED, CLOSED, OPEN, NO_MEMORY, REFUSED, LIMIT, NOT_FOUND = range(9)
 MOST_OLDS = 76  # the most places that an action overwrites
 PAIRS_OF_TURN = 6  # more than most turns overwrite
+MOST_LINKS, LINKS_OF_TURN = 44, 8  # the most links of a turn, and more than most turns have
+MOST_CONTROL = 7  # the most control places of a turn
 LEAST_ROOM = 96  # bytes that the answer to a line that is no DUMP always fits in
 TEXT_ROOM, ANSWER_ROOM = 112, 1 << 16  # bytes
-MOST_OF_BYTE, MOST_OF_WORD = 1 << 8, 1 << 32
 
 
 class Refused(Rejection):
@@ -61,17 +64,51 @@ def moments_of(made: Sequence[int], records: Records) -> List[Moment]:
     return [Moment(processor, [next(rest) for _ in range(count)]) for processor, count in zip(made[::2], made[1::2])]
 
 
+class Made(ctypes.Structure):
+    """A turn with origins."""
+    _fields_ = [("processor", c_uint16), ("address", c_uint16), ("word", c_uint16), ("kind", c_uint16),
+                ("links", c_uint16), ("own", c_uint16), ("olds", c_uint32)]
+
+
+def turns_of(made: Sequence[Any], links: bytes) -> Iterator[Origins]:
+    """Yields turns with their origins."""
+    at = 0
+    for one in made:
+        middle, end = at + LINK_BYTES * one.own, at + LINK_BYTES * one.links
+        own, others = ([*origins_of(links[first:last])] for first, last in ((at, middle), (middle, end)))
+        yield Origins(one.processor, one.address, one.word, one.kind, own, others)
+        at = end
+
+
 class Handle(ctypes.Structure):
     _fields_ = [("at", ctypes.c_void_p)]
 
 
+class FormOfC(ctypes.Structure):
+    """A form as C has it."""
+
+    _fields_ = [("kind", c_uint32), ("place", c_uint32), ("first", c_uint64), ("last", c_uint64)]
+
+
 CALLS = ("open", "answer", "numbers", "counts", "turns", "again", "looks", "back", "forward", "close")
+CALLS_OF_ORIGINS, CALLS_OF_SEARCHES = ("origins", "next_origins"), ("until", "back_until")  # which a library before 5.2 does not have
 
 
 def load(path: Optional[str] = None) -> Any:
     """Loads the library from this path, or from $PP6600_LIBRARY, or from where the tools are: a checkout, an installation, a package."""
-    beside = [os.path.join(HOME, folder, "libpp6600.so") for folder in ("dist", "lib", "")]
+    names = LIBRARIES.get(machine_here(), ("libpp6600.so",))
+    beside = [os.path.join(HOME, folder, name) for folder in ("dist", "lib", "") for name in names]
     return loaded(path or os.environ.get("PP6600_LIBRARY") or next((one for one in beside if os.path.isfile(one)), beside[0]))
+
+
+def call_of(library: Any, name: str) -> Any:
+    """Returns a call of the library."""
+    try:
+        call = getattr(library, f"pp6600_{name}")
+    except AttributeError as error:
+        raise Unloadable(f"the library of the simulator can't be loaded: {error}") from error
+    call.restype = c_uint32
+    return call
 
 
 @functools.lru_cache(maxsize=None)
@@ -79,11 +116,39 @@ def loaded(path: str) -> Any:
     """Returns the library of a file."""
     try:
         library = ctypes.CDLL(path)
-        for name in CALLS:
-            getattr(library, f"pp6600_{name}").restype = c_uint32
-    except (OSError, AttributeError) as error:
+    except OSError as error:
         raise Unloadable(f"the library of the simulator can't be loaded: {error}") from error
+    for name in CALLS:
+        call_of(library, name)
     return library
+
+
+def version(path: Optional[str] = None) -> Tuple[int, int, int]:
+    """Returns the version of the library: its major, minor and patch number."""
+    number = call_of(load(path), "version")()
+    return number // 1000000, number // 1000 % 1000, number % 1000
+
+
+def text_of_status(status: int, path: Optional[str] = None) -> str:
+    """Returns what the library says of a status. Fails if there is no such status."""
+    text, count = ctypes.create_string_buffer(TEXT_ROOM), c_size_t()
+    call = call_of(load(path), "text_of_status")
+    if call(*checked("text_of_status", status), text, c_size_t(len(text)), byref(count)) != DONE:
+        raise Failure(f"there is no status {status}")
+    return text.raw[:count.value].decode("ascii")
+
+
+def room_for(kind: Any, count: int) -> Any:
+    """Returns an array of C with so many elements. Fails if there is no memory for it."""
+    try:
+        return (kind * counted(count))()
+    except (MemoryError, OverflowError):
+        raise Failure(f"there is no memory for {count} numbers") from None
+
+
+def calls_of(library: Any) -> Sequence[str]:
+    """Returns the names of the calls on a session that a library has."""
+    return (*CALLS, *(name for name in CALLS_OF_ORIGINS + CALLS_OF_SEARCHES if hasattr(library, f"pp6600_{name}")))
 
 
 def open_status(status: int) -> int:
@@ -94,25 +159,31 @@ def open_status(status: int) -> int:
 
 
 class LibrarySession:
-    """A session: a machine with its undo history. It is used in a `with` block, or closed."""
+    """A session: a machine with its undo history. It is used in a `with` block, or closed.
+
+    What is given and returned is plain numbers, so write 0o106 for an octal one; lines and their answers have octal digits. `history` is
+    1 to 10000 actions, `central` 32768, 65536 or 131072 words (decimal), `reader` and `printer` are channels from 0 to 0o13, and `deck` and
+    `panel` the bytes of their files. What can't be done raises Failure."""
 
     def __init__(self, history: int = 10000, central: int = 131072, reader: int = 0o12, printer: int = 0o13, deck: bytes = b"",
                  panel: bytes = b"", path: Optional[str] = None) -> None:
         self._handle = Handle()
         library, self._at = load(path), byref(self._handle)
-        self.calls = {name: functools.partial(getattr(library, f"pp6600_{name}"), self._at) for name in CALLS}
+        self.calls = {name: functools.partial(getattr(library, f"pp6600_{name}"), self._at) for name in calls_of(library)}
         self.text: Any = ctypes.create_string_buffer(ANSWER_ROOM)  # kept from call to call, with what is said of an answer
         self.answered = c_size_t(), c_size_t(), c_uint32(), c_uint32()
         self.counted = tuple(map(byref, self.answered))
         self.looked: Sequence[int] = ()  # the places of the latest looks, and for how many turns there is room
         self.most_seen, self.is_watched = 0, False
+        self.searched: Tuple[Form, ...] = ()  # the latest condition, and as C has it
+        self.forms: Any = (FormOfC * 0)(), c_size_t()
         text, count, status = ctypes.create_string_buffer(TEXT_ROOM), c_size_t(), c_uint32()
-        if not all(0 <= number < MOST_OF_BYTE for number in (reader, printer)) or \
-                not all(0 <= number < MOST_OF_WORD for number in (history, central)):
-            raise Refused("pp6600: BAD ARGUMENTS", 2)
-        opened = library.pp6600_open(
-            c_uint32(history), c_uint32(central), c_uint8(reader), c_uint8(printer), deck, c_size_t(len(deck)), panel, c_size_t(len(panel)),
-            self._at, text, c_size_t(len(text)), byref(count), byref(status))
+        try:
+            machine = checked("open", history, central, reader, printer)
+        except Failure:
+            raise Refused("pp6600: BAD ARGUMENTS", 2) from None
+        opened = library.pp6600_open(*machine, deck, c_size_t(len(deck)), panel, c_size_t(len(panel)),
+                                     self._at, text, c_size_t(len(text)), byref(count), byref(status))
         if opened != DONE:
             raise Refused(text.raw[:count.value].decode("ascii"), status.value)
 
@@ -133,7 +204,8 @@ class LibrarySession:
     __del__ = close
 
     def answer(self, typed: bytes, room: int = 4096) -> Answers:
-        """Performs lines, and returns their answers. It asks with more room as long as an answer does not fit."""
+        """Performs lines, and returns their answers. It asks with more room as long as an answer does not fit. At the limits of a call it
+        returns what was performed; it fails if the first line is longer than a call takes."""
         texts, lines, refused, taken, size, status = [], 0, 0, 0, max(room, 1), ROOM
         while status == ROOM:
             left, into = typed[taken:], self.text if size <= len(self.text) else ctypes.create_string_buffer(size)
@@ -142,12 +214,15 @@ class LibrarySession:
             texts.append(into[:count])
             lines, refused, taken = lines + performed, refused + rejected, taken + more
             size = max(2 * size, LEAST_ROOM) if more == 0 else max(room, 1)
+        if status == LIMIT and not taken:
+            raise Failure("a line is too long for the library")
         return Answers(b"".join(texts), lines, refused, taken)
 
     def numbers(self, first: int, count: int) -> List[int]:
         """Returns the numbers at consecutive places."""
-        into = (c_uint64 * max(count, 0))()
-        if not 0 <= first < MOST_OF_WORD or self._call("numbers", c_uint32(first), into, c_size_t(count)) != DONE:
+        place, = checked("numbers", first)
+        into = room_for(c_uint64, count)
+        if self._call("numbers", place, into, c_size_t(count)) != DONE:
             raise Failure(f"the machine does not have the places {first} to {first + count - 1}")
         return into[:]
 
@@ -174,22 +249,48 @@ class LibrarySession:
 
     def recorded(self, call: str, most: int, pairs_of_turn: int) -> Tuple[int, Sequence[int], Records]:
         """Makes a call that records actions, with room for so many pairs for each. Returns its status, and what `records` returns."""
-        pairs = pairs_of_turn * most + MOST_OLDS
-        made, olds, turns, used = (c_uint32 * (2 * most))(), (c_uint64 * (2 * pairs))(), c_size_t(), c_size_t()
-        status = self._call(call, c_uint32(most), made, c_size_t(most), olds, c_size_t(pairs), byref(turns), byref(used))
+        at_most, = checked(call, most)
+        pairs = counted(pairs_of_turn) * most + MOST_OLDS
+        made, olds, turns, used = room_for(c_uint32, 2 * most), room_for(c_uint64, 2 * pairs), c_size_t(), c_size_t()
+        status = self._call(call, at_most, made, c_size_t(most), olds, c_size_t(pairs), byref(turns), byref(used))
         of_turns = array("I", memoryview(made).cast("B")[:8 * turns.value].tobytes())
         return status, of_turns, Records(of_turns[1::2], memoryview(olds).cast("B")[:16 * used.value].tobytes(), status == WATCHED)
 
+    @property
+    def has_origins(self) -> bool:
+        """Whether the library has the calls that say where numbers come from."""
+        return all(name in self.calls for name in CALLS_OF_ORIGINS)
+
+    def origins(self, most: int) -> Tuple[List[Origins], Records]:
+        """As `turns`, in as few as there is room for. Returns each with where the numbers that it wrote come from, and what they overwrote."""
+        at_most, = checked("origins", most)
+        pairs, links = PAIRS_OF_TURN * most + MOST_OLDS, LINKS_OF_TURN * most + MOST_LINKS
+        made, of_links, olds = room_for(Made, most), room_for(ctypes.c_char, LINK_BYTES * links), room_for(c_uint64, 2 * pairs)
+        turns, linked, used = c_size_t(), c_size_t(), c_size_t()
+        status = self._call("origins", at_most, made, c_size_t(most), of_links, c_size_t(links), olds, c_size_t(pairs), byref(turns),
+                            byref(linked), byref(used))
+        turns_made = made[:turns.value]
+        records = Records([one.olds for one in turns_made], memoryview(olds).cast("B")[:16 * used.value].tobytes(), status == WATCHED)
+        return list(turns_of(turns_made, of_links.raw[:LINK_BYTES * linked.value])), records
+
+    def next_origins(self) -> Origins:
+        """Returns the next turn, with where the numbers that its processor will write come from. No turn is made."""
+        made, of_links, count = Made(), ctypes.create_string_buffer(LINK_BYTES * MOST_LINKS), c_size_t()
+        control, places = (c_uint64 * MOST_CONTROL)(), c_size_t()
+        self._call("next_origins", byref(made), of_links, c_size_t(MOST_LINKS), byref(count), control, c_size_t(MOST_CONTROL), byref(places))
+        return next(turns_of([made], of_links.raw[:LINK_BYTES * count.value]))._replace(control=control[:places.value])
+
     def looks(self, most: int, places: Sequence[int]) -> Tuple[List[List[int]], bool]:
         """Performs turns as `turns` does. Returns the numbers at the places after each, and whether the last changed a watched number."""
-        turns, width = self.look(most, [*places]), len(places)
+        turns, width = self.look(most, places), len(places)
         numbers = self.seen[:turns * width].tolist()
         return [numbers[at:at + width] for at in range(0, turns * width, width)], self.is_watched
 
     def look(self, most: int, places: Sequence[int]) -> int:
         """As `looks`, but returns how many turns; what was seen is in `seen`."""
-        if self.looked is not places or most > self.most_seen:
-            self._make_room(most, places)
+        checked("looks", most)
+        if most > self.most_seen or self.looked != tuple(places):
+            self._make_room(most, tuple(places))
         self.most.value = most
         status = self._looks()
         if status > WATCHED:
@@ -198,20 +299,44 @@ class LibrarySession:
         self.is_watched = status == WATCHED
         return int(self.answered[0].value)
 
-    def _make_room(self, most: int, places: Sequence[int]) -> None:
+    def _make_room(self, most: int, places: Tuple[int, ...]) -> None:
         """Makes room for the numbers at places after so many turns. What is passed in each call is converted once."""
-        width, room = len(places), (c_uint64 * (most * len(places)))()
+        for place in places:
+            checked("looks", place)
+        width, room = len(places), room_for(c_uint64, most * len(places))
         self.looked, self.most_seen, self.most, self.seen = places, most, c_uint32(), memoryview(room).cast("B").cast("Q")
         self._looks = functools.partial(self.calls["looks"], self.most, byref((c_uint32 * width)(*places)), c_size_t.from_param(width),
                                         byref(room), c_size_t.from_param(most * width), self.counted[0])
 
+    def until(self, condition: Sequence[Form], most: int) -> Tuple[int, bool]:
+        """Performs turns, up to the first in which a condition comes to hold. Returns how many, and whether it does in the last one."""
+        found = self._search("until", condition, *checked("until", most))
+        return self.answered[2].value, found
+
+    def back_until(self, condition: Sequence[Form]) -> int:
+        """Goes back to the end of the last action before the newest in which a condition came to hold. Returns how many actions were
+        undone; 0 if there is none."""
+        return self.answered[2].value if self._search("back_until", condition) else 0
+
+    def _search(self, call: str, condition: Sequence[Form], *most: object) -> bool:
+        """Makes a call that searches. Returns whether it found something. The latest condition is converted once."""
+        if call not in self.calls:
+            raise Failure("the library has no searches: it is older than 5.2")
+        if self.searched != tuple(condition):
+            forms = [FormOfC(*(number.value for number in checked("form", *form))) for form in condition]
+            self.searched, self.forms = tuple(condition), ((FormOfC * len(forms))(*forms), c_size_t(len(forms)))
+        status = self._call(call, *self.forms, *most, self.counted[2])
+        if status == REFUSED:
+            raise Failure("these are no tests of places that the machine has, or more than 64 alternatives, or more than 8 tests in one")
+        return status == DONE
+
     def back(self, count: int) -> bool:
         """Undoes actions. Returns whether there were enough; if not, none is undone."""
-        return self._call("back", c_uint32(count)) == DONE
+        return self._call("back", *checked("back", count)) == DONE
 
     def forward(self, count: int) -> bool:
         """Performs undone actions again. Returns whether there were enough; if not, none is performed."""
-        return self._call("forward", c_uint32(count)) == DONE
+        return self._call("forward", *checked("forward", count)) == DONE
 
 
 class LibraryEngine:
@@ -230,7 +355,7 @@ class LibraryEngine:
             self.session = LibrarySession(**options, path=path)
         except Unloadable as failure:
             raise Failure(f"{path} is not the library of the simulator: {failure.__cause__}") from failure
-        self.numbers, self.close = self.session.numbers, self.session.close
+        self.words, self.numbers, self.close = words, self.session.numbers, self.session.close
         self._answer, self._refused, self._size = self.session.calls["answer"], self.session.answered[3], c_size_t()
         self._answers = byref(self.session.text), c_size_t.from_param(ANSWER_ROOM), *self.session.counted
 
@@ -251,6 +376,12 @@ class LibraryEngine:
 
     def turns(self, most: int) -> Records:
         return self.session.records(most)[1]
+
+    def origins(self, most: int) -> Tuple[List[Origins], Records]:
+        return self.session.origins(most)
+
+    def next_origins(self) -> Origins:
+        return self.session.next_origins()
 
     def again(self, count: int) -> Records:
         status, _, records = self.session.recorded("again", count, MOST_OLDS)
@@ -279,6 +410,12 @@ class LibraryEngine:
         if same + 1 < made:
             self.back(made - same - 1)
         return same + 1, seen[same * width:same * width + width].tolist()
+
+    def search(self, condition: Sequence[Form], most: int) -> Tuple[int, bool]:
+        return self.session.until(condition, most)
+
+    def search_back(self, condition: Sequence[Form]) -> int:
+        return self.session.back_until(condition)
 
     def back(self, count: int) -> None:
         if not self.session.back(count):

@@ -4,20 +4,23 @@ from __future__ import annotations
 
 import bisect
 from array import array
-from typing import Iterator, List, Sequence, Tuple
+from typing import Callable, Iterator, List, Optional, Sequence, Tuple
 
 from ..failure import Failure
 from . import interface as flat
-from .interface import Counts, Records, Rejection
+from . import plain_origins as origins
+from .interface import Counts, Form, Records, Rejection
+from .origins import Origin, Origins, Reading
 from .plain import places
 from .plain.lines import Rejected
 from .plain.machine import Record
-from .plain.program import console_of, read_words
+from .plain.program import USAGE, console_of, read_words
+from .plain_conditions import Done, alternatives_of, comes_to_hold
 
 # The places of the flat order by ranges: the first one, and the place of the simulator that it is.
 RANGES: Sequence[Tuple[int, int]] = (
     (flat.CELLS, places.M), (flat.A, places.A), (flat.P, places.P), (flat.Q, places.Q), (flat.PHASE, places.PHASE),
-    (flat.STATES, places.STATE), (flat.REGISTERS, places.H), (flat.FRAME, places.FRAME), (flat.CARD, places.CARD),
+    (flat.STATES, places.STATE), (flat.REGISTERS, places.H), (flat.CLOCK, places.CLOCK), (flat.FRAME, places.FRAME), (flat.CARD, places.CARD),
     (flat.PAPER_LENGTH, places.PAPER_LENGTH), (flat.PAPER, places.PAPER), (flat.SLOT, places.SLOT), (flat.CENTRAL, places.C))
 FIRST = [first for first, _ in RANGES]
 OWN = sorted((own, first) for first, own in RANGES)
@@ -44,7 +47,7 @@ class PlainEngine:
         try:
             self.console = console_of(read_words(words))
         except Rejected as rejected:
-            status, text = rejected.args
+            status, text = rejected.args or (0, USAGE)  # if help is asked for
             raise Rejection(f"pp6600: {text}", status) from None
         self.machine = self.console.machine
 
@@ -69,6 +72,20 @@ class PlainEngine:
         made = list(self._made(most))
         return records_of(made, self.is_watched)
 
+    def origins(self, most: int) -> Tuple[List[Origins], Records]:
+        turns: List[Origins] = []
+
+        def turn() -> Record:
+            made, record = origins.turn(self.machine)
+            turns.append(of_flat_places(made)._replace(control=()))
+            return record
+
+        made = list(self._made(most, turn))
+        return turns, records_of(made, self.is_watched)
+
+    def next_origins(self) -> Origins:
+        return of_flat_places(origins.next_turn(self.machine))
+
     def looks(self, places: Sequence[int], most: int) -> Tuple[Sequence[int], int]:
         own, numbers = [own_place(place) for place in places], self.machine.numbers
         found = array("Q")
@@ -84,11 +101,37 @@ class PlainEngine:
                 return made, [machine[place] for place in own]
         return made, []
 
-    def _made(self, most: int) -> Iterator[Record]:
+    def search(self, condition: Sequence[Form], most: int) -> Tuple[int, bool]:
+        alternatives = alternatives_of(condition)
+        for made in range(1, most + 1):
+            if comes_to_hold(alternatives, self._done(self.machine.turn())):
+                return made, True
+        return most, False
+
+    def search_back(self, condition: Sequence[Form]) -> int:
+        alternatives, last = alternatives_of(condition), len(self.machine.history) - 1
+        for undone in range(1, last + 1):
+            self.machine.back()
+            if comes_to_hold(alternatives, self._done(self.machine.history[-1])):
+                return undone
+        self.forward(max(last, 0))
+        return 0
+
+    def _done(self, record: Record) -> Done:
+        """Returns the newest action, by what it overwrote."""
+        numbers = self.machine.numbers
+
+        def old(place: int) -> int:
+            own = own_place(place)
+            return int(record.get(own, numbers[own]))
+
+        return Done(old, lambda place: int(numbers[own_place(place)]), [flat_place(place) for place in record])
+
+    def _made(self, most: int, turn: Optional[Callable[[], Record]] = None) -> Iterator[Record]:
         """Makes turns, at most so many, up to a change of a watched number. Yields what each overwrote."""
         watches, self.is_watched = self.console.watches(), False
         while most and not self.is_watched:
-            record = self.machine.turn()
+            record = turn() if turn else self.machine.turn()
             yield record
             self.is_watched = bool(watches) and self.console.hit(record, watches) is not None
             most -= 1
@@ -113,6 +156,13 @@ class PlainEngine:
 
     def close(self) -> None:
         """Nothing is to be given back."""
+
+
+def of_flat_places(turn: Origins) -> Origins:
+    """Returns a turn with its places in the flat order."""
+    own, others = ([Origin(flat_place(place), operation, tuple(Reading(flat_place(one), field) for one, field in reads))
+                    for place, operation, reads in part] for part in (turn.own, turn.others))
+    return turn._replace(own=own, others=others, control=[flat_place(place) for place in turn.control])
 
 
 def records_of(made: Sequence[Record], is_watched: bool) -> Records:

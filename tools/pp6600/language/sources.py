@@ -46,7 +46,12 @@ def texts_in(folder: Optional[str]) -> Optional[Texts]:
 
     def lines(deck: str) -> Optional[List[str]]:
         found = [name for name in names if deck and deck.upper() in (name.upper(), name.upper().partition(".")[0])]
-        return source_lines(os.path.join(str(folder), found[0])) if found else None
+        if not found:
+            return None
+        path = os.path.join(str(folder), found[0])
+        if not os.path.isfile(path):  # one that is a pipe would be waited for
+            raise Failure(f"can't read {path}: it is no plain file")
+        return source_lines(path)
     return lines
 
 
@@ -156,13 +161,6 @@ class Source(AddressNames):
         """Returns the cells of return addresses by the addresses of the jumps back: of NAME and NAMEX, and of the second word of an
         LJM that an RJM names, to which a program may return by UJN NAME-1."""
         return self.jumps
-
-    def subroutine_of(self, address: int) -> Optional[int]:
-        """Returns the address of the jump back of the subroutine that an address is in; None if it is in none. A subroutine ends
-        where the next one begins, or where the source leaves out a cell."""
-        first = max((jump for jump in self.jumps if jump <= address), default=None)
-        is_whole = first is not None and all(cell in self.at_location for cell in range(first, address + 1))
-        return first if is_whole else None
 
     # ---- whose line a cell is
 

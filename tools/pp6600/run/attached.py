@@ -47,6 +47,7 @@ class Attached(Session):
             raise
         self.plain = PlainScript(self.history.room, self.tape)
         self.counts = UnitCounts(self.history, self.plain.history)
+        self.papers = [""] * len(self.devices)  # as they were shown last
         self.told: Dict[Position, Tuple[int, Any]] = {}  # the number of a device and what it was told, by the position after it
 
     def _check_channels(self) -> None:
@@ -67,6 +68,19 @@ class Attached(Session):
         """Returns the present state of a device."""
         self._recall()
         return self.pasts[number].value.state
+
+    def printed(self) -> List[str]:
+        """Returns what devices have printed since this was asked last, each line after the name of its device. What is taken back is printed
+        no more."""
+        found = []
+        for number, device in enumerate(self.devices):
+            if type(device).paper is not Device.paper:
+                paper, shown = device.paper(self.state(number)), self.papers[number]
+                new = paper[len(shown):] if paper.startswith(shown) else ""
+                whole = new.rpartition("\n")[0]
+                self.papers[number] = paper
+                found += [f"  {name_of(device)}: {line}" for line in re.sub("[\f\r]", "", whole).split("\n") if line]
+        return found
 
     @property
     def unit(self) -> Units:

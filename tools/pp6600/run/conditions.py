@@ -1,150 +1,160 @@
-"""Conditions on the machine, as P 0 = 105 and PP 3 waits: what each is about, and whether it holds at looks at the machine."""
+"""Conditions on the machine, as P 0 = 105 and PP 3 waits: how they are read, and the tests that the engines judge.
+
+A condition is alternatives joined by *or*, each of tests joined by *and*. A test is one form of the engines, or several of which one must
+hold, as a channel changes if its state or its register does. Two kinds of tests are more than a turn: a processor waits if its latest turn
+was a wait, so `PP 1 waits and PP 2 waits` can hold; and a subroutine returns wrongly only after it was called."""
 
 from __future__ import annotations
 
-import operator
 import re
-from itertools import chain, compress
-from typing import Any, Callable, Dict, List, Optional, Sequence, Tuple
+from itertools import product
+from typing import Any, Iterable, List, NamedTuple, Optional, Sequence, Tuple, Union
 
 from ..engine import interface as flat
+from ..engine.interface import CHANGES, INSIDE, MOST_TESTS, OR, OUTSIDE, PERFORMS, WRITES, Form
 from ..failure import Failure
 from ..language.names import AllSymbols
 from ..shell.options import octal
-from .forms import CELLS, CLOCK, PROCESSORS, REGISTERS, STATES, Place
-from .recording import Recording
-from .search import Column, Condition, Looks, Test
+from .forms import CLOCK, PROCESSORS, REGISTERS, STATES, Place
 from .session import Session
-from .turn import BLOCK_GOES_ON, COMPLETES
 
-FORM = ("a condition is PLACE = 105 (also != < > <= >=), PLACE outside 100 117, PLACE inside 100 117, PLACE changes, "
-        "M 0 100 117 changes, H 12 is F, H 12 changes state, PP 3 waits, PP 3 in a block, PP 3 not in a block or PP 3 returns wrongly; "
-        "conditions are joined by and")
-COMPARISONS = {"=": operator.eq, "!=": operator.ne, "<": operator.lt, ">": operator.gt, "<=": operator.le, ">=": operator.ge}
+FORM = ("a condition is PLACE = 105 (also != < > <= >=), PLACE outside 100 117, PLACE inside 100 117, PLACE changes or is written, "
+        "M 0 100 117 changes or is written, H 12 is F, H 12 changes state, PP 3 performs 105, PP 3 waits, PP 3 in a block, "
+        "PP 3 not in a block or PP 3 returns wrongly; conditions are joined by and, and these by or")
+GREATEST = (1 << 64) - 1
+# Of each comparison the kind of its form, and the ends of the range for a number: None is the number.
+COMPARISONS = {"=": (INSIDE, None, None), "!=": (OUTSIDE, None, None), "<=": (INSIDE, 0, None), ">=": (INSIDE, None, GREATEST),
+               "<": (OUTSIDE, None, GREATEST), ">": (OUTSIDE, 0, None)}
 OF_A_PROCESSOR = ("M", "A", "P", "Q")
-RJM = "RJM"
-MOST_LOOKED = 4  # places of a test
 STATE_OF_CLOCK = "F"
+Numbers = List[Tuple[str, str]]  # names, with digits
 
 
-class Is(Test):
-    """Whether a number is as it must be."""
+class Column(NamedTuple):
+    """Numbers of the machine that are shown together: a place, or some cells from it on."""
 
-    column: Column
+    place: Place
+    size: int = 1
 
-    def __init__(self, column: Column, test: Callable[[int], bool], place: Optional[int] = None) -> None:
-        """It is the first number of the column, or that at another place."""
-        self.column, self.test = column, test
-        self.places = [column.places[0] if place is None else place]
-        self.known: Dict[int, bool] = {}  # the verdicts on numbers
+    @property
+    def places(self) -> range:
+        """Their places in the flat order of the engines."""
+        first = self.place.number
+        return range(first, first + self.size)
 
-    def verdict(self, number: int) -> bool:
-        if number not in self.known:
-            self.known[number] = self.test(number)
-        return self.known[number]
-
-    def begin(self, run: Session) -> bool:
-        super().begin(run)
-        return self.verdict(*self.last.values())
-
-    def verdicts(self, looks: Looks) -> bytes:
-        number, (place, before) = self.column.processor, *self.last.items()
-        values = looks.own(number, place)
-        distinct = {one: self.verdict(one) for one in set(values)}
-        if all(distinct.values()) or not any(distinct.values()):
-            found = bytes([any(distinct.values())]) * len(values)
-        else:
-            found = bytes(map(distinct.__getitem__, values))
-        return looks.spread(number, found, self.verdict(before))
+    def shown(self, run: Session) -> Numbers:
+        """Returns what is shown of them as they are: names and digits, and of a channel the state too."""
+        found = [(Place.at(place).text, f"{number:0{self.place.digits}o}")
+                 for place, number in zip(self.places, run.engine.numbers(self.places[0], self.size))]
+        if self.place.kind == "H" and self.place.numbers[0] < CLOCK:
+            (state,) = run.engine.numbers(flat.STATES + self.place.numbers[0], 1)
+            found = [(name, f"{STATES[state]} {digits}") for name, digits in found]
+        return found
 
 
-class Changes(Test):
-    """Whether the numbers of a column have changed in the latest turn."""
+class Test(NamedTuple):
+    """A test: forms of which one must hold, and the numbers that are shown."""
 
-    is_change = True
-    column: Column
-
-    def __init__(self, column: Column, with_state: bool = False, with_number: bool = True) -> None:
-        """Of a channel it is its state, its number, or both."""
-        self.column = column
-        self.looked = [flat.STATES + column.place.numbers[0]] * with_state + [*column.places] * with_number
-        self.places = self.looked if len(self.looked) <= MOST_LOOKED else []
-
-    def verdicts(self, looks: Looks) -> bytes:
-        number, held = self.column.processor, 0
-        if not self.places:
-            return self.of_many(looks)
-        for place, before in self.last.items():
-            values = looks.own(number, place)
-            if {*values} - {before}:
-                held |= int.from_bytes(bytes(map(operator.ne, chain((before,), values), values)), "big")
-        return looks.once(number, held.to_bytes(len(values), "big"))
-
-    def of_many(self, looks: Looks) -> bytes:
-        """As `verdicts`, of more cells than are looked at: by what the turns overwrote."""
-        found, cells = bytearray(looks.turns), {*self.looked}
-        if not looks.written.isdisjoint(cells):
-            for at, was, now in Recording(looks.run, looks.first, looks.position(looks.turns)).turns_back():
-                found[at] = any(place in cells and number != now[place] for place, number in was.items())
-        return bytes(found)
+    forms: Tuple[Form, ...]
+    column: Optional[Column] = None
 
 
-class Waits(Test):
-    """Whether the latest turn of a processor was a wait: it changed no register, by an instruction that may wait. A setting is no turn."""
+class Waits(NamedTuple):
+    """Whether the latest turn of a processor was a wait. A setting is no turn."""
 
-    def __init__(self, number: int) -> None:
-        self.number, self.holds = number, False
-        self.places = [first + number for first in (flat.P, flat.A, flat.Q, flat.PHASE)]
-
-    def begin(self, run: Session) -> bool:
-        super().begin(run)
-        return self.holds
-
-    def verdicts(self, looks: Looks) -> bytes:
-        held, registers = self.holds, [(*one,) for one in zip(*(looks.own(self.number, place) for place in self.places))]
-        same = bytes(map(operator.eq, chain((tuple(self.last.values()),), registers), registers))
-        if any(same):
-            same = self.waited(looks, registers, same)
-        self.holds = bool(same[-1]) if same else held
-        return looks.spread(self.number, same, held)
-
-    def waited(self, looks: Looks, registers: Sequence[Tuple[int, ...]], same: bytes) -> bytes:
-        """Returns which turns waited, of those that changed no register: those whose instruction may, or block transfer."""
-        own, found = looks.first_own(self.number), bytearray(len(same))
-        for at, (p, _, _, phase) in compress(enumerate(registers), same):
-            word = phase or int(looks.words_at(self.number, p, own + PROCESSORS * at)[0], 8)
-            found[at] = word >> 6 in (BLOCK_GOES_ON if phase else COMPLETES)
-        return bytes(found)
+    number: int
 
 
-class Returns(Test):
-    """Whether a subroutine of a processor returned to another address than its RJM stored. Its cells are known by their labels."""
+class Returns(NamedTuple):
+    """Whether a subroutine of a processor returns to another address than its RJM stored. The entries are the cells of return addresses."""
 
-    is_change = remembers = True
+    number: int
+    entries: Tuple[int, ...]
 
-    def __init__(self, number: int, entries: Dict[int, int]) -> None:
-        """The entries are the cells of return addresses by the addresses of the jumps back."""
-        self.number, self.jumps, self.firsts = number, entries, {cell + 1: jump for jump, cell in entries.items()}
-        self.column = Column(Place("P", (number,)))
-        self.places = [*self.column.places]
-        self.stored: Dict[int, int] = {}  # by the address of the jump back: the return address
+    @property
+    def column(self) -> Column:
+        return Column(Place("P", (self.number,)))
 
-    def verdicts(self, looks: Looks) -> bytes:
-        own, first = [*self.last.values(), *looks.own(self.number, flat.P + self.number)], looks.first_own(self.number)
-        if {*own}.isdisjoint({*self.jumps, *self.firsts}):
-            return bytes(looks.turns)
-        return looks.once(self.number, bytes([self.verdict(was, address, first + PROCESSORS * at, looks)
-                                              for at, (was, address) in enumerate(zip(own, own[1:]))]))
 
-    def verdict(self, was: int, address: int, at: int, looks: Looks) -> bool:
-        if address in self.firsts and was != address:
-            processor = looks.processor_at(at)
-            if processor.name == RJM and not processor.phase:  # the subroutine was called
-                self.stored[self.firsts[address]] = (was + processor.row.words) % CELLS
-        if was not in self.jumps or was == address or looks.processor_at(at).phase:
-            return False
-        return self.stored.pop(was, address) != address
+AnyTest = Union[Test, Waits, Returns]
 
+
+class Alternative(NamedTuple):
+    """Tests that must hold together."""
+
+    tests: Tuple[AnyTest, ...]
+
+    @property
+    def waits(self) -> List[int]:
+        """The processors that must wait."""
+        return [test.number for test in self.tests if isinstance(test, Waits)]
+
+    @property
+    def returns(self) -> List[Returns]:
+        return [test for test in self.tests if isinstance(test, Returns)]
+
+    @property
+    def forms(self) -> List[List[Form]]:
+        """The alternatives of its other tests, as the engines have them; none if there are no others."""
+        others = [test.forms for test in self.tests if isinstance(test, Test)]
+        return [list(forms) for forms in product(*others)] if others else []
+
+
+class Condition:
+    """Alternatives, of which one must come to hold."""
+
+    def __init__(self, alternatives: Iterable[Sequence[AnyTest]]) -> None:
+        self.alternatives = [Alternative(tuple(tests)) for tests in alternatives]
+        columns = [test.column for one in self.alternatives for test in one.tests if not isinstance(test, Waits) and test.column]
+        self.columns = list(dict.fromkeys(columns))  # those that are shown
+
+    @property
+    def remembers(self) -> bool:
+        """Whether what came before matters, so that a search begins with the first turn."""
+        return any(one.returns for one in self.alternatives)
+
+
+def joined(alternatives: Iterable[Sequence[Form]]) -> Tuple[Form, ...]:
+    """Returns the forms of some alternatives, as the engines have a condition."""
+    found: List[Form] = []
+    for forms in alternatives:
+        found += [Form(OR), *forms] if found else forms
+    return tuple(found)
+
+
+# ---- the tests
+
+def is_number(column: Column, first: int, last: int, kind: int = INSIDE, place: Optional[int] = None) -> Test:
+    """Returns the test of a number, the first one of a column, or that at another place."""
+    return Test((Form(kind, column.places[0] if place is None else place, first, last),), column)
+
+
+def changes(column: Column, with_state: bool = False, with_number: bool = True) -> Test:
+    """Returns the test whether numbers have changed. Of a channel it is its state, its number, or both."""
+    state = [Form(CHANGES, flat.STATES + column.place.numbers[0], 1)] if with_state else []
+    return Test((*state, *([Form(CHANGES, column.places[0], column.size)] if with_number else [])), column)
+
+
+def is_written(place: int, count: int = 1) -> Form:
+    return Form(WRITES, place, count)
+
+
+def written(column: Column) -> Test:
+    """Returns the test whether one of some places is written."""
+    return Test((is_written(column.places[0], column.size),), column)
+
+
+def are_written(words: Sequence[str]) -> bool:
+    """Returns whether words begin with "is written"."""
+    return [word.lower() for word in words[:2]] == ["is", "written"]
+
+
+def performs(number: int, address: int) -> Form:
+    """Returns the test whether a processor is about to perform the instruction at an address."""
+    return Form(PERFORMS, number, address)
+
+
+# ---- what is typed
 
 def parsed(text: str, symbols: Any = AllSymbols()) -> Condition:
     """Returns the condition of a text. An address may be a label of its processor."""
@@ -156,12 +166,16 @@ def parsed(text: str, symbols: Any = AllSymbols()) -> Condition:
 
 def first_of(words: List[str], symbols: Any = AllSymbols()) -> Tuple[Condition, List[str]]:
     """Returns the condition that the words begin with, and the words after it."""
-    tests: List[Test] = []
-    words = ["and", *words]
-    while words and words[0].lower() == "and":
+    alternatives: List[List[AnyTest]] = []
+    words = ["or", *words]
+    while words and words[0].lower() in ("or", "and"):
+        if words[0].lower() == "or":
+            alternatives.append([])
+        if len(alternatives[-1]) == MOST_TESTS:
+            raise Failure(f"at most {MOST_TESTS:o} tests are joined by and")
         test, words = first_test(words[1:], symbols)
-        tests.append(test)
-    return Condition(tests), words
+        alternatives[-1].append(test)
+    return Condition(alternatives), words
 
 
 def first_place(words: List[str], symbols: Any, also: Sequence[str] = ()) -> Tuple[Place, List[str]]:
@@ -177,43 +191,48 @@ def first_place(words: List[str], symbols: Any, also: Sequence[str] = ()) -> Tup
     return Place.first_of(words, also)
 
 
-def first_test(words: List[str], symbols: Any) -> Tuple[Test, List[str]]:
+def first_test(words: List[str], symbols: Any) -> Tuple[AnyTest, List[str]]:
     """Returns the test that the words begin with, and the words after it."""
     if words[:1] and words[0].upper() == "PP":
         return processor_test(words, symbols)
     if not words:
         raise Failure(FORM)
     place, rest = first_place(words, symbols)
-    if place.kind == "M" and [word.lower() for word in rest[1:2]] == ["changes"]:
+    if place.kind == "M" and ([word.lower() for word in rest[1:2]] == ["changes"] or are_written(rest[1:])):
         last = number_of(rest[0], place, symbols)
         if last < place.numbers[1]:
             raise Failure(f"{rest[0]} is before the first cell of {place.short}")
-        return Changes(Column(place, last - place.numbers[1] + 1)), rest[2:]
+        column = Column(place, last - place.numbers[1] + 1)
+        return (written(column), rest[3:]) if are_written(rest[1:]) else (changes(column), rest[2:])
     kind = rest[0].lower() if rest else ""
+    if are_written(rest):
+        return written(column_of(place)), rest[2:]
     if kind == "changes" and place.kind == "H" and rest[1:2] and rest[1].lower() == "state":
-        return state_of_clock(place, False) if place.numbers[0] == CLOCK else Changes(column_of(place), True, False), rest[2:]
+        return never(place) if place.numbers[0] == CLOCK else changes(column_of(place), True, False), rest[2:]
     if kind == "changes":
-        return Changes(column_of(place)), rest[1:]
+        return changes(column_of(place)), rest[1:]
     if kind == "is" and place.kind == "H":
         return state_test(place, rest)
     count = 1 if kind in COMPARISONS else 2 if kind in ("outside", "inside") else None
     if count is None or len(rest) <= count:
         raise Failure(FORM)
     numbers = [number_up_to(text, place, symbols) for text in rest[1:count + 1]]
-    return Is(column_of(place), test_of(kind, numbers)), rest[count + 1:]
+    return number_test(column_of(place), kind, numbers), rest[count + 1:]
 
 
-def test_of(kind: str, numbers: Sequence[int]) -> Callable[[int], bool]:
-    """Returns whether a number is as it must be."""
+def number_test(column: Column, kind: str, numbers: Sequence[int]) -> Test:
+    """Returns the test of a number by a comparison, or by a range."""
     if kind in COMPARISONS:
-        return lambda number: bool(COMPARISONS[kind](number, numbers[0]))
+        of, *ends = COMPARISONS[kind]
+        first, last = (numbers[0] if end is None else end for end in ends)
+        return is_number(column, first, last, of)
     first, last = numbers
     if first > last:
         raise Failure(f"{first:o} is over {last:o}")
-    return lambda number: (first <= number <= last) == (kind == "inside")
+    return is_number(column, first, last, INSIDE if kind == "inside" else OUTSIDE)
 
 
-def processor_test(words: List[str], symbols: Any) -> Tuple[Test, List[str]]:
+def processor_test(words: List[str], symbols: Any) -> Tuple[AnyTest, List[str]]:
     """Returns the test of a processor, and the words after it."""
     if len(words) < 3:
         raise Failure(FORM)
@@ -225,16 +244,19 @@ def processor_test(words: List[str], symbols: Any) -> Tuple[Test, List[str]]:
         raise Failure(f"{words[1]} is no processor: it is 0 to {PROCESSORS - 1:o}")
     if is_in and kind[:1] == ["waits"]:
         return Waits(number), words[3:]
+    if is_in and kind[:1] == ["performs"] and len(words) > 3:
+        place = Place("P", (number,))
+        return Test((performs(number, number_up_to(words[3], place, symbols)),), Column(place)), words[4:]
     if is_in and kind[:2] == ["returns", "wrongly"]:
         entries = symbols.of[number].entries() if number in symbols.of else {}
         if not entries:
             raise Failure(f"PP {number:o} returns wrongly needs labels of a subroutine: NAMEX, and NAME at the cell after it")
-        return Returns(number, entries), words[4:]
+        return Returns(number, tuple(entries.values())), words[4:]
     if kind[:3] == ["in", "a", "block"]:
-        return Is(Column(Place("PHASE", (number,))), lambda phase: (phase != 0) == is_in), words[5 if is_in else 6:]
+        return is_number(Column(Place("PHASE", (number,))), 0, 0, OUTSIDE if is_in else INSIDE), words[5 if is_in else 6:]
     if kind[:1] and kind[0].upper() in REGISTERS:
         meant = " ".join((kind[0].upper(), f"{number:o}", *("=" if word.lower() == "is" else word for word in words[3:5])))
-        raise Failure(f"PP {number:o} comes before waits, in a block and returns wrongly; for a register write {meant}")
+        raise Failure(f"PP {number:o} comes before performs, waits, in a block and returns wrongly; for a register write {meant}")
     raise Failure(FORM)
 
 
@@ -244,14 +266,14 @@ def state_test(place: Place, words: List[str]) -> Tuple[Test, List[str]]:
     if len(letter) != 1 or letter not in STATES:
         raise Failure(f"a channel is {', '.join(STATES[:-1])} or {STATES[-1]}")
     wanted = STATES.index(letter)
-    if place.numbers[0] == CLOCK:
-        return state_of_clock(place, letter == STATE_OF_CLOCK), words[2:]
-    return Is(column_of(place), wanted.__eq__, flat.STATES + place.numbers[0]), words[2:]
+    if place.numbers[0] == CLOCK:  # whose state is always F
+        return is_number(Column(place), 0, GREATEST) if letter == STATE_OF_CLOCK else never(place), words[2:]
+    return is_number(column_of(place), wanted, wanted, INSIDE, flat.STATES + place.numbers[0]), words[2:]
 
 
-def state_of_clock(place: Place, held: bool) -> Test:
-    """Returns the test of the state of the clock, which is always F: it holds always or never."""
-    return Is(Column(place), lambda number: held)
+def never(place: Place) -> Test:
+    """Returns a test that never holds."""
+    return is_number(Column(place), 0, GREATEST, OUTSIDE)
 
 
 def column_of(place: Place) -> Column:

@@ -35,15 +35,21 @@ class Event(NamedTuple):
 
 class Reply(NamedTuple):
     """What a device does: it makes its channel inactive (I), empty (E) or full (F) with a word; and `wake` turns later its method
-    `due` is called. Each part may be left out."""
+    `due` is called. Each part may be left out. The remark is REJECT, or says where the word is from, as CARD 1 COLUMN 12: words in
+    capitals, and octal numbers. The tools show it."""
 
     state: Optional[str] = None
     word: Optional[int] = None
     wake: Optional[int] = None
+    remark: str = ""
 
     def waking(self, turns: int) -> Reply:
         """Returns this reply with a call of `due` so many turns later."""
         return self._replace(wake=turns)
+
+    def remarked(self, remark: str) -> Reply:
+        """Returns this reply with a remark."""
+        return self._replace(remark=remark)
 
 
 INACTIVE, EMPTY, NOTHING = Reply("I"), Reply("E"), Reply()
@@ -94,6 +100,10 @@ class Device:
     def told(self, state: Any, event: Event) -> Answer:
         """Handles what the user has done to the device, for example which key was pressed: event.word."""
         return state, NOTHING
+
+    def paper(self, state: Any) -> str:
+        """Returns all that the device has printed."""
+        return ""
 
     def picture(self, state: Any) -> Optional[Picture]:
         """Returns what the device shows in a state; None if it shows nothing."""
@@ -217,7 +227,7 @@ def called(device: Device, value: Value, event: Event, now: Channel) -> Tuple[Va
     state, reply = answer
     if state is not before and not is_value(state):
         raise failure(device, event, f"returned a state that can be changed in place: {state!r:.60}")
-    letter, word, wake = reply
+    letter, word, wake, _ = reply
     if wake is not None:
         if type(wake) is not int or wake < 1:
             raise failure(device, event, f"can't wake after {wake!r:.60} turns")

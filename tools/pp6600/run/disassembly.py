@@ -8,6 +8,7 @@ from .turn import NAMES, RELATIVE_JUMPS, TWO_WORDS, target_of
 Word = Callable[[int], str]  # the digits of a cell, by its address
 
 FROM_BEFORE = 8  # more cells before a window, so that its rows begin where the instructions do
+HIGH = 20  # rows of a window from which on the present one stands in its middle
 LEAST_ABOVE = 2  # rows in a window above the one that it must show, if it has room
 
 
@@ -55,9 +56,11 @@ def rows_around(word: Word, address: int, before: int, after: int, heads: Contai
     return rows[at - before:at + after + 1]
 
 
-def rows_above(at: Optional[int], count: int, top: int) -> Optional[int]:
+def rows_above(at: Optional[int], count: int, top: int, is_centred: bool = False) -> Optional[int]:
     """Returns how many rows a window of so many moves to have above the one that it must show; None if it stays. That one is at `at`
-    now, or not in the window; nothing is above address 0."""
+    now, or not in the window; nothing is above address 0. In a high window it may have to be in the middle third."""
+    if is_centred and count >= HIGH:
+        return None if at is not None and (count // 3 <= at < count - count // 3 or top == 0 and at < count // 3) else count // 2
     if at is None:
         return count // 3
     least = min(LEAST_ABOVE, count // 3)

@@ -1,19 +1,20 @@
-"""The search for where a number came from: from the end of a run backwards, in windows of turns, to the write of each place that is
-still asked for."""
+"""The search for where a number came from: from the end of a run backwards, to the last write of a place that is still asked for."""
 
 from __future__ import annotations
 
 from typing import Any, Callable, Dict, List, Optional, Sequence, Set, Tuple
 
-from ..engine.interface import CARD, PAPER_LENGTH
+from ..engine.interface import CARD, PAPER_LENGTH, P
+from ..engine.origins import PUNCHED, Origins
 from ..failure import Failure
+from .conditions import is_written
 from .forms import CELLS, CLOCK, Place
-from .recording import AT_ONCE, Recording, last_part_with
+from .search import conditions_of, last_turn, ranges_of
 from .session import Session
 from .tape import STEP, Position
-from .turn import Processor, Read, Turn, Write, device_put_a_word, places_of_setting
+from .turn import Processor, Read, places_of_setting
+from .written import Write, addresses_of, made_turn, reasons_of, writes_of
 
-FIRST_SIZE, WIDER, MOST_SIZE = 0o1000, 8, 0o2000000  # turns: those that are looked at, and at most those that are recorded at once
 CLOCK_PLACE = Place("H", (CLOCK,))
 CARD_COLUMN = CARD + 1
 
@@ -30,17 +31,18 @@ class Link:
     def __init__(self, owner: Optional[Step], place: Place, parts: Optional[Tuple[int, ...]] = None) -> None:
         self.owner, self.place, self.parts = owner, place, parts
         self.step: Optional[Step] = None
+        self.number = ""  # what was read, of a step whose number is computed
 
 
 class Step:
     """A write of a place: what wrote it and when, and the sources."""
 
-    turn: Turn  # the processor's turn that wrote it, if one did
-    write: Write
+    turn: Origins  # the processor's turn that wrote it, if one did, and the processor before it
     processor: Processor
+    write: Write
 
     def __init__(self, place: Place, cause: int, position: Position = Position(0), detail: Any = None) -> None:
-        """The position is that after the action that wrote it. The detail: of a turn a pair of it and its write; of a SET or a
+        """The position is that after the action that wrote it. The detail: of a turn it, its processor and its write; of a SET or a
         DEADSTART a pair of its line and the number of the word, from 1, or None; of the reader a pair of card and column, or None."""
         self.place, self.cause, self.position, self.first_position, self.detail = place, cause, position, position, detail
         self.times = 1
@@ -49,10 +51,11 @@ class Step:
         self.code: List[Link] = []  # links to the words of its instruction that have its constants, and were written in the run
         self.block: Optional[Link] = None  # the link to the write of the phase, of a turn of a block transfer
         self.number = ""
+        self.reasons: List[Tuple[Place, int]] = []  # what decided beside P and the instruction, with its number before the turn
         self.constants: Tuple[str, ...] = ()
         if cause == TURN:
-            self.turn, self.write = detail
-            self.processor, self.constants = self.turn.processor, self.write.constants
+            self.turn, self.processor, self.write = detail
+            self.constants = self.write.constants
 
 
 class OriginSearch:
@@ -105,15 +108,14 @@ class OriginSearch:
 
     def _follow(self, step: Step, parts: Optional[Set[int]], position: Position) -> None:
         """Asks for the sources of a step; of a central word or a word of the frame so many parts are asked for."""
-        turn, write = step.turn, step.write
-        if turn.processor.phase:
-            step.block = Link(step, Place("PHASE", (turn.number,)))
+        if step.processor.phase:
+            step.block = Link(step, Place("PHASE", (step.turn.processor,)))
             self._ask(step.block, position)
         if step.place.kind == "PHASE":
             return
-        step.links = [Link(step, place, wanted) for place, wanted in wanted_sources(write, parts)]
+        step.links = [Link(step, place, wanted) for place, wanted in wanted_sources(step.write, parts)]
         if self.with_addresses:
-            step.addresses = [Link(step, place) for place in turn.addresses()]
+            step.addresses = [Link(step, place) for place in addresses_of(step.turn)]
         step.code = [Link(step, place) for place in self._written_words(step)]
         if self.most_steps is None or self.count < self.most_steps:
             for link in (*step.links, *step.addresses, *step.code):
@@ -121,7 +123,7 @@ class OriginSearch:
 
     def _written_words(self, step: Step) -> List[Place]:
         """Returns the cells that have the constants of a step and a word that was not loaded."""
-        number, processor = step.turn.number, step.processor
+        number, processor = step.turn.processor, step.processor
         distances = sorted({at for name in step.constants for at in WORDS_OF_CONSTANT.get(name, ())})
         cells = [((processor.p + at) % CELLS, processor.words[at]) for at in distances]
         return [Place("M", (number, address)) for address, word in cells if not self.is_loaded(number, address, word)]
@@ -129,23 +131,29 @@ class OriginSearch:
     # ---- backwards
 
     def _go_back(self, position: Position) -> None:
-        size = FIRST_SIZE
         while self.asked and position:
             self.progress(position)
             part = self.tape.run_before(position)
+            first = self.tape.starts[part]
             if self.tape.runs[part].line != STEP:
                 self._look_at_line(self.tape.runs[part].line, position)
-                position = Position(position - 1)
-                continue
-            first = max(self.tape.starts[part], Position(position - size))
-            if position - first > MOST_SIZE:
-                written = last_part_with(self.run, first, position, [place.number for place in self.asked], self.progress)
-                position, size = written, WIDER * size if written == first else AT_ONCE
-                continue
-            self._look_at_turns(Recording(self.run, first, position))
-            position, size = first, WIDER * size
+            else:
+                position = self._last_write(first, position)
+                if position == first:
+                    continue
+                self._look_at_turn(position)
+            position = Position(position - 1)
         for place in list(self.asked):
             self._found(Step(place, START))
+
+    def _last_write(self, first: Position, last: Position) -> Position:
+        """Returns the position after the last turn between two positions that wrote a place that is asked for; the first if there is none."""
+        ranges = ranges_of(place.number for place in self.asked)
+        for condition in conditions_of([[is_written(place, size)] for place, size in ranges]):
+            self.run.goto(last)
+            if last_turn(self.run, condition, first, self.progress):
+                first = self.run.position
+        return first
 
     def _look_at_line(self, line: str, position: Position) -> None:
         """Looks at a SET or a DEADSTART."""
@@ -153,53 +161,43 @@ class OriginSearch:
         for place in self.asked.keys() & places.keys():
             self._found(Step(place, cause, position, (line, places[place])))
 
-    def _look_at_turns(self, recording: Recording) -> None:
-        """Looks at the turns that wrote what is asked for, the last one first."""
-        at = recording.last - recording.first
-        writes: Dict[Place, int] = {}
-        while self.asked:
-            writes = {place: writes[place] if writes.get(place, at) < at else recording.last_write(place.number, at)
-                      for place in self.asked}
-            at = max(writes.values())
-            if at < 0:
-                return
-            position = recording.position(at)
-            for place in [place for place in self.asked if writes[place] == at and place.kind in ("H", "LP")]:
-                self._look_at_device(recording, at, place, position)
-            for place in self.asked.keys() - writes.keys():  # the printer's word may have come in the same turn
-                writes[place] = recording.last_write(place.number, at + 1)
-            if any(writes.get(place) == at for place in self.asked):
-                self._look_at_turn(recording.turn(at), position)
-
-    def _look_at_device(self, recording: Recording, at: int, place: Place, position: Position) -> None:
-        """Looks whether a device wrote a place in a turn."""
-        if place.kind == "LP":
-            self._printed(recording, at, place, position)
-            return
-        cause = {self.run.reader_channel: READER, self.run.printer_channel: PRINTER}.get(place.numbers[0])
-        before, after = (recording.state(place.numbers[0], one) for one in (at, at + 1))
-        if cause is not None and device_put_a_word(place.numbers[0], recording.turn(at).writes(), before, after):
-            has_read = cause == READER and CARD_COLUMN in recording.wrote(at)
-            read = (recording.number(CARD, at), recording.number(CARD_COLUMN, at)) if has_read else None
-            self._found(Step(place, cause, position, read))
-
-    def _printed(self, recording: Recording, at: int, place: Place, position: Position) -> None:
-        """Takes the turn that printed a symbol, which came from the printer's channel."""
-        step = Step(place, PAPER, position, place.numbers[0] - recording.number(PAPER_LENGTH, at))
-        self._found(step)
-        link = Link(step, Place("H", (self.run.printer_channel,)))
-        step.links = [link]
-        self._ask(link, position)
-
-    def _look_at_turn(self, turn: Turn, position: Position) -> None:
-        """Looks at a turn: of all that it wrote and is asked for, the sources were read before."""
-        written = [(Step(write.place, TURN, position, (turn, write)), write) for write in turn.writes() if write.place in self.asked]
+    def _look_at_turn(self, position: Position) -> None:
+        """Looks at the turn before a position: of all that it wrote and is asked for, the sources were read before."""
+        run, numbers = self.run, self.run.engine.numbers
+        run.goto(Position(position - 1))
+        processor, control = run.processor(run.next_slot), run.engine.next_origins().control
+        reasons = [(place, *numbers(place.number, 1)) for place in reasons_of(control)]
+        card, column, length = (numbers(place, 1)[0] for place in (CARD, CARD_COLUMN, PAPER_LENGTH))
+        turn = made_turn(run)
+        self._look_at_devices(turn, position, (card, column), length)
+        writes = [write for write in writes_of(turn, *numbers(P + turn.processor, 1)) if write.place in self.asked]
+        steps = [Step(write.place, TURN, position, (turn, processor, write)) for write in writes]
         followed = []
-        for step, _ in written:
+        for step in steps:
+            step.reasons = reasons
             if not self._is_counted_again(step):
                 followed.append((step, self._found(step)))
         for step, parts in followed:
             self._follow(step, parts, Position(position - 1))
+
+    def _look_at_devices(self, turn: Origins, position: Position, read: Tuple[int, int], length: int) -> None:
+        """Looks at what the reader and the printer wrote in a turn, before which the reader was at a card and column, and the paper had so many
+        symbols."""
+        written = {origin.place: origin.operation for origin in turn.others}
+        for place in [place for place in self.asked if place.number in written]:
+            if place.kind == "LP":
+                self._printed(place, position, length)
+            elif place.kind == "H":
+                cause = READER if place.numbers[0] == self.run.reader_channel else PRINTER
+                self._found(Step(place, cause, position, read if written[place.number] == PUNCHED else None))
+
+    def _printed(self, place: Place, position: Position, length: int) -> None:
+        """Takes the turn that printed a symbol on a paper of so many, which came from the printer's channel."""
+        step = Step(place, PAPER, position, place.numbers[0] - length)
+        self._found(step)
+        link = Link(step, Place("H", (self.run.printer_channel,)))
+        step.links = [link]
+        self._ask(link, position)
 
     def _is_counted_again(self, step: Step) -> bool:
         """Joins a step with the one that asks for it if the same instruction has counted the same place before, and asks for the
@@ -208,7 +206,7 @@ class OriginSearch:
         later = links[0].owner
         if later is None or later.links != links or later.place != step.place or later.cause != TURN or later.write != step.write:
             return False
-        if step.write.is_moved or self._instruction(step) != self._instruction(later) or step.turn.addresses() and self.with_addresses:
+        if step.write.is_moved or self._instruction(step) != self._instruction(later) or addresses_of(step.turn) and self.with_addresses:
             return False
         if step.processor.phase and later.block and later.block.step:  # the later one's block has begun since
             return False
@@ -220,7 +218,7 @@ class OriginSearch:
     def _instruction(step: Step) -> Tuple[int, Any]:
         """The processor and its instruction, with the address; in a block transfer P is none."""
         processor = step.processor
-        return step.turn.number, processor.phase or (processor.registers["P"], processor.words)
+        return step.turn.processor, processor.phase or (processor.registers["P"], processor.words)
 
     # ---- the paper, and the numbers
 
@@ -242,6 +240,10 @@ class OriginSearch:
             if step.cause == START:
                 step.number = step.place.digits * "0"
                 continue
+            if step.cause == TURN and not step.write.is_moved:
+                self.run.goto(Position(step.position - 1))
+                for link in step.links:
+                    link.number = self.run.number_at(link.place)
             self.run.goto(step.position)
             step.number = self._symbol(*step.place.numbers) if step.cause == PAPER else self.run.number_at(step.place)
 

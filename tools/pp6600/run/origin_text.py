@@ -12,7 +12,7 @@ from .forms import Place
 from .origin_search import DEADSTART, LINE_END, PAPER, PRINTER, READER, SET, START, TICK, TURN, Link, OriginSearch, Step
 from .session import Session
 from .tape import Position, ReplyLine, SourceLine, Tape
-from .turn import AT_END_OF_BLOCK, AT_END_OF_INPUT, IN_BLOCK, NO_WORD, RETURN, TWO_WORDS, ZERO, Processor
+from .turn import IN_BLOCK, NO_WORD, RETURN, STATE_LETTERS, TWO_WORDS, ZERO, Processor
 
 MOST_STEPS = 0o40  # by processors, without --all
 INDENT = "  "
@@ -38,7 +38,8 @@ class WordFile:
         raise IndexError(index)
 
 
-def origin_rows(run: Session, place: Place, position: Position, *how: Any, symbols: Any = AllSymbols()) -> List[Shown]:
+def origin_rows(run: Session, place: Place, position: Position, *how: Any, symbols: Any = AllSymbols(),
+                with_reasons: bool = False) -> List[Shown]:
     """Returns the lines of the origin of the number that is at a place at a position, each with its step. How it is searched is as
     `OriginSearch` has it."""
     search, now = OriginSearch(run, *how), None
@@ -47,15 +48,15 @@ def origin_rows(run: Session, place: Place, position: Position, *how: Any, symbo
     if place.kind == "P":
         run.goto(position)
         now = run.number_at(place)
-    return list(Writer(run.tape, run.words, symbols).rows(step, now))
+    return list(Writer(run.tape, run.words, symbols, with_reasons).rows(step, now))
 
 
 class Writer:
     """Makes the lines."""
 
-    def __init__(self, tape: Tape, words: Sequence[str], symbols: Any = AllSymbols()) -> None:
+    def __init__(self, tape: Tape, words: Sequence[str], symbols: Any = AllSymbols(), with_reasons: bool = False) -> None:
         """The words are the program and its options, which name the deck file and the panel file."""
-        self.tape, self.symbols = tape, symbols
+        self.tape, self.symbols, self.with_reasons = tape, symbols, with_reasons
         self.deck, self.panel = (WordFile(words[words.index(option) + 1] if option in words else None) for option in ("--deck", "--panel"))
 
     def rows(self, root: Step, now: Optional[str] = None) -> Iterator[Shown]:
@@ -141,40 +142,40 @@ class Writer:
     def source_line(self, step: Step) -> str:
         """Returns the line of the source whose instruction wrote a number, after two blanks."""
         processor = self.performer(step) if step.cause == TURN else None
-        return str(self.symbols.line_at_p(step.turn.number, processor)) if processor else ""
+        return str(self.symbols.line_at_p(step.turn.processor, processor)) if processor else ""
 
     def instruction(self, step: Step) -> str:
         """Returns the processor, and the address and the text of its instruction."""
         processor, at = step.processor, ""
         code, second, performer = processor.code, "", self.performer(step)
         if performer:
-            at = self.symbols.beside(step.turn.number, performer.registers["P"])
+            at = self.symbols.beside(step.turn.processor, performer.registers["P"])
         if not processor.phase:
             second = f" {processor.words[1]}" if code in TWO_WORDS and code not in IN_BLOCK else ""
         begun = "" if at else " BEGUN BY DEADSTART"
-        return f"PP {step.turn.number:02o}{at and ' AT ' + at} {processor.name} {processor.channel:02o}{second}{begun}"
+        return f"PP {step.turn.processor:02o}{at and ' AT ' + at} {processor.name} {processor.channel:02o}{second}{begun}"
 
     def times(self, step: Step) -> List[str]:
         first = self.tape.turn(step.first_position)
         return [f"{step.times:o} TIMES SINCE TURN {first:o}"] if step.times > 1 else []
 
     def sources(self, step: Step, links: Sequence[Link]) -> List[str]:
-        """Returns from what an instruction wrote a number."""
+        """Returns from what an instruction wrote a number, and how it computed one."""
         names = [self.name(link) for link in links] + [self.constant(step, name) for name in step.constants]
-        if step.place.kind == "P" and step.turn.effects() in (AT_END_OF_BLOCK, AT_END_OF_INPUT):
-            verb = "END OF BLOCK OF "
-        elif not step.write.is_moved:
-            verb = "OF "
-        else:
-            verb = "FROM " if links else ""
+        verb = f"{step.write.words} " if not step.write.is_moved else "FROM " if links else ""
         code = "".join(f" IN {link.place.text}" for link in step.code)
         addresses = "".join(f", ADDRESS IN {link.place.text}" for link in step.addresses)
-        return [f"{verb}{' AND '.join(names) or 'ZERO'}{code}{addresses}"]
+        return [f"{verb}{' AND '.join(names) or 'ZERO'}{code}{addresses}{self.why(step)}"]
+
+    def why(self, step: Step) -> str:
+        """Returns what decided in the turn of a step."""
+        reasons = [f"{reason_name(place)} WAS {reason_number(place, number)}" for place, number in step.reasons] if self.with_reasons else []
+        return f", BECAUSE {' AND '.join(reasons)}" if reasons else ""
 
     @staticmethod
     def name(link: Link) -> str:
         parts = f" PART{'S' * (len(link.parts) > 1)} {' '.join(map(str, link.parts))}" if link.parts else ""
-        return link.place.text + parts
+        return f"{link.place.text}{parts} {link.number}".rstrip()
 
     @staticmethod
     def constant(step: Step, name: str) -> str:
@@ -183,3 +184,12 @@ class Writer:
         if name in numbers:
             return f"CONSTANT {numbers[name]}"
         return {RETURN: "RETURN ADDRESS", ZERO: "ZERO", NO_WORD: "ZERO PAST THE LAST WORD"}[name]
+
+
+def reason_name(place: Place) -> str:
+    """Returns the name of a place that decided; that of a channel's state is its channel's."""
+    return Place("H", place.numbers).text if place.kind == "S" else place.text
+
+
+def reason_number(place: Place, number: int) -> str:
+    return list(STATE_LETTERS)[number].upper() if place.kind == "S" else f"{number:0{place.digits}o}"

@@ -66,5 +66,6 @@ class Past:
         found = self.replies.get(reply)
         if found is None:
             line = f"SET H {self.device.channel:02o} {reply.state}{'' if reply.word is None else f' {reply.word:o}'}"
-            found = self.replies[reply] = Action(ReplyLine(line, name_of(self.device))), line.encode("ascii")
+            name = f"{name_of(self.device)}{f' {reply.remark}' if reply.remark else ''}"
+            found = self.replies[reply] = Action(ReplyLine(line, name)), line.encode("ascii")
         return found

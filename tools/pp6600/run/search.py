@@ -1,178 +1,202 @@
-"""The search for the turns of a run at which a condition comes to hold: forward from a turn, or backward in widening spans.
+"""The search for the turns of a run that are found: at which a condition comes to hold, or another finder says so; forward from a turn, or
+backward in widening spans.
 
-A condition is tests that must hold together. A test names the places that it looks at, and says of many turns at once whether it holds at
-the end of each. The session that searches is not the one of a user, which stays where it is. A function `progress` is called with a
-number of turns after each batch. It may raise an exception, which ends the search."""
+What an engine can judge it finds itself, by one call for many turns. A finder of rows of waits and one of wrong returns make several of these
+calls. The session that searches is not the one of a user, which stays where it is. A function `progress` is called with a number of turns
+after each part. It may raise an exception, which ends the search."""
 
 from __future__ import annotations
 
-import functools
+import heapq
 import itertools
 from collections import deque
-from typing import Any, Callable, Dict, Iterator, List, NamedTuple, Optional, Sequence, Set, Tuple
+from typing import Any, Callable, Dict, Iterable, Iterator, List, NamedTuple, Optional, Protocol, Sequence, Tuple
 
 from ..engine import interface as flat
-from .forms import CELLS, CLOCK, PROCESSORS, STATES, Place, Registers
-from .recording import recorded
+from ..engine import plain_conditions
+from ..engine.interface import CHANGES, INSIDE, MOST_ALTERNATIVES, PERFORMS, WAITS, Form
+from .conditions import Alternative, Column, Numbers, is_written, joined
+from .forms import PROCESSORS, Registers
 from .session import Session
-from .tape import Position
+from .tape import STEP, Position
 from .turn import Processor
 
 FIRST_SPAN = 0o10000  # of turns at the end that are searched first
 WIDER = 8  # times as many in each span before
-MOST_PLACES = 16  # of the looks of an engine
-HELD = b"\1"
-OF_A_PROCESSOR = ("M", "A", "P", "Q", "PHASE")
+PARTS = 64  # of a run that are searched one by one
 
 Progress = Callable[[int], object]
 Found = Tuple[Position, int]  # the position before a turn, and its number from 1
-Numbers = List[Tuple[str, str]]  # names, with digits
+Forms = Sequence[Form]
 
 
-class Column(NamedTuple):
-    """Numbers of the machine that are shown together: a place, or some cells from it on."""
-
-    place: Place
-    size: int = 1
-
-    @property
-    def places(self) -> range:
-        """Their places in the flat order of the engines."""
-        first = self.place.number
-        return range(first, first + self.size)
-
-    @property
-    def processor(self) -> Optional[int]:
-        """The processor in whose turns alone they may change; None if there is no such."""
-        return self.place.numbers[0] if self.place.kind in OF_A_PROCESSOR else None
-
-    def shown(self, run: Session) -> Numbers:
-        """Returns what is shown of them as they are: names and digits, and of a channel the state too."""
-        found = [(Place.at(place).text, f"{number:0{self.place.digits}o}")
-                 for place, number in zip(self.places, run.engine.numbers(self.places[0], self.size))]
-        if self.place.kind == "H" and self.place.numbers[0] < CLOCK:
-            (state,) = run.engine.numbers(flat.STATES + self.place.numbers[0], 1)
-            found = [(name, f"{STATES[state]} {digits}") for name, digits in found]
-        return found
+def first_turn(run: Session, condition: Forms, most: int) -> bool:
+    """Makes turns of a run, at most so many and as many as it keeps, up to the first in which a condition comes to hold. Returns whether it
+    does."""
+    made, is_found = run.engine.search(condition, min(most, run.history.room))
+    run.history.performed(made)
+    return is_found
 
 
-class Looks:
-    """The numbers at some places at the end of each of some turns that a session has made."""
-
-    def __init__(self, run: Session, places: Sequence[int], most: int) -> None:
-        """Makes turns, at most so many."""
-        self.run, self.first = run, run.position
-        self.slot = run.next_slot
-        self.words: Dict[Tuple[int, int], List[str]] = {}  # those that no turn wrote, by processor and address
-        self.columns: Dict[int, Sequence[int]] = {}
-        for begin in range(0, max(len(places), 1), MOST_PLACES):
-            looked = places[begin:begin + MOST_PLACES] or [flat.SLOT]
-            run.goto(self.first)
-            numbers, self.turns = run.engine.looks(looked, most)
-            run.history.performed(self.turns)
-            self.columns.update((place, numbers[at::len(looked)]) for at, place in enumerate(looked))
-
-    def first_own(self, number: int) -> int:
-        """Returns how many turns come before the first one of a processor."""
-        return (number - self.slot) % PROCESSORS
-
-    def own(self, number: Optional[int], place: int) -> Sequence[int]:
-        """Returns the numbers at a place at the end of each turn, of a processor if there is one."""
-        return self.columns[place] if number is None else self.columns[place][self.first_own(number)::PROCESSORS]
-
-    def spread(self, number: Optional[int], verdicts: bytes, before: bool) -> bytes:
-        """Returns the verdicts at the end of each turn, which only turns of a processor change, if there is one: they are after each of
-        these."""
-        if number is None:
-            return verdicts
-        if verdicts.count(before) == len(verdicts):
-            return bytes([before]) * self.turns
-        begin, found = self.first_own(number), bytearray([before]) * self.turns
-        for at in range(PROCESSORS):
-            part = range(begin + at, self.turns, PROCESSORS)
-            found[part.start:self.turns:PROCESSORS] = verdicts[:len(part)]
-        return bytes(found)
-
-    def once(self, number: Optional[int], verdicts: bytes) -> bytes:
-        """Returns the verdicts at the end of each turn, which hold right after turns of a processor alone, if there is one."""
-        if number is None:
-            return verdicts
-        found = bytearray(self.turns)
-        found[self.first_own(number)::PROCESSORS] = verdicts
-        return bytes(found)
-
-    def position(self, at: int) -> Position:
-        """Returns the position before a turn."""
-        return Position(self.first + at)
-
-    def processor_at(self, at: int) -> Processor:
-        """Returns the processor of a turn as it was before it."""
-        with self.run.at(self.position(at)) as run:
-            return run.processor(run.next_slot)
-
-    def words_at(self, number: int, address: int, at: int) -> List[str]:
-        """Returns the words of two cells of a processor before a turn."""
-        if (number, address) not in self.words:
-            cells = {flat.CELLS + CELLS * number + (address + more) % CELLS for more in (0, 1)}
-            if not self.written.isdisjoint(cells):
-                with self.run.at(self.position(at)) as run:
-                    return run.words_at(number, address)
-            self.words[number, address] = self.run.words_at(number, address)
-        return self.words[number, address]
-
-    @functools.cached_property
-    def written(self) -> Set[int]:
-        """The places that the turns wrote. They are made once more."""
-        self.run.goto(self.first)
-        return set(recorded(self.run, self.turns).places)
+def is_met(run: Session, forms: Iterable[Form]) -> bool:
+    """Returns whether tests of the machine hold as it is. One of a turn does not."""
+    return all(plain_conditions.is_met(form, lambda place: run.engine.numbers(place, 1)[0]) for form in forms)
 
 
-class Test:
-    """A part of a condition. By itself it holds never."""
+def ranges_of(numbers: Iterable[int]) -> List[Tuple[int, int]]:
+    """Returns some numbers as ranges, each by its first one and its size."""
+    found: List[Tuple[int, int]] = []
+    for number in sorted(numbers):
+        if found and sum(found[-1]) == number:
+            found[-1] = found[-1][0], found[-1][1] + 1
+        else:
+            found.append((number, 1))
+    return found
 
-    is_change = False  # so that it never holds for two turns
-    remembers = False  # what came before, so that it is looked at from the first turn on
-    column: Optional[Column] = None  # whose numbers are shown
-    places: Sequence[int] = ()  # that it looks at
 
-    def begin(self, run: Session) -> bool:
-        """Looks before some turns. Returns whether it holds."""
-        self.last = {place: run.engine.numbers(place, 1)[0] for place in self.places}
+def arrivals(number: int, addresses: Iterable[int]) -> List[Forms]:
+    """Returns alternatives of which one comes to hold in each turn in which a processor comes to one of some addresses: P or the phase has
+    changed, and it is in no block transfer."""
+    found: List[Forms] = []
+    out_of_block = Form(INSIDE, flat.PHASE + number)
+    for first, size in ranges_of(addresses):
+        if size == 1:
+            found.append([Form(PERFORMS, number, first)])
+        else:
+            within = Form(INSIDE, flat.P + number, first, first + size - 1)
+            found += [[Form(CHANGES, place + number, 1), within, out_of_block] for place in (flat.P, flat.PHASE)]
+    return found
+
+
+class Finder(Protocol):
+    """What finds turns."""
+
+    remembers: bool  # what came before, so that it must see all turns
+
+    def begin(self, run: Session) -> None:
+        """Sees where a run is, before some turns. What came before may have been a setting."""
+
+    def next(self, run: Session, most: int) -> bool:
+        """Makes turns of a run, at least one and at most so many, up to the first that is found. Returns whether one is."""
+
+
+def conditions_of(alternatives: Sequence[Forms]) -> List[Forms]:
+    """Returns some alternatives as conditions. An engine takes only so many at once."""
+    return [joined(alternatives[at:at + MOST_ALTERNATIVES]) for at in range(0, len(alternatives), MOST_ALTERNATIVES)]
+
+
+class TurnFinder:
+    """Finds the turns in which alternatives come to hold that an engine can judge."""
+
+    remembers = False
+
+    def __init__(self, alternatives: Sequence[Forms]) -> None:
+        self.conditions = conditions_of(alternatives)
+
+    def begin(self, run: Session) -> None:
+        """Whether a condition holds already depends on the machine alone."""
+
+    def next(self, run: Session, most: int) -> bool:
+        first, is_found = run.position, False
+        for condition in self.conditions:
+            run.goto(first)
+            if first_turn(run, condition, most):
+                is_found, most = True, run.position - first
+        return is_found
+
+
+class RowFinder:
+    """Finds the turns in which an alternative comes to hold that has processors wait: the latest turn of each was a wait. It goes from one
+    turn to the next in which one of them begins or ends to wait, or in which the other tests come to hold while all wait."""
+
+    remembers = False
+
+    def __init__(self, alternative: Alternative) -> None:
+        self.numbers, self.others = alternative.waits, alternative.forms
+        self.waiting: Dict[int, bool] = {}
+
+    def begin(self, run: Session) -> None:
+        self.waiting = {number: waits(run, number) for number in self.numbers}
+
+    def next(self, run: Session, most: int) -> bool:
+        end = run.position + most
+        while run.position < end and first_turn(run, self.condition(), end - run.position):
+            number = run.tape.slot(Position(run.position - 1))
+            if number in self.waiting:
+                self.waiting[number] = holds_in_latest(run, [Form(WAITS, number)])
+            if all(self.waiting.values()) and hold(run, self.others):
+                return True
         return False
 
-    def verdicts(self, looks: Looks) -> bytes:
-        """Returns whether it holds at the end of each turn, a byte for each. Before them the numbers were the last ones."""
-        return bytes(looks.turns)
-
-    def after(self, looks: Looks) -> bytes:
-        """Returns the verdicts, and sees the numbers after the turns."""
-        found = self.verdicts(looks)
-        self.last = {place: looks.columns[place][-1] for place in self.last}
-        return found
+    def condition(self) -> Forms:
+        """Returns what comes next: a wait, the end of one, or what else must hold while all wait."""
+        ends = [[is_written(flat.P + number)] if is_waiting else [Form(WAITS, number)] for number, is_waiting in self.waiting.items()]
+        return joined([*ends, *(self.others if all(self.waiting.values()) else ())])
 
 
-class Condition:
-    """Tests that must hold together."""
+def hold(run: Session, alternatives: Sequence[Forms]) -> bool:
+    """Returns whether all tests of one of some alternatives hold of the latest turn; with no alternative they do."""
+    return not alternatives or any(is_met(run, forms) or holds_in_latest(run, forms) for forms in alternatives)
 
-    def __init__(self, tests: Sequence[Test]) -> None:
-        self.tests = tests
-        self.is_change = any(test.is_change for test in tests)
-        self.remembers = any(test.remembers for test in tests)
-        self.columns = list(dict.fromkeys(test.column for test in tests if test.column))  # those that are shown
-        self.places = list(dict.fromkeys(place for test in tests for place in test.places))
 
-    def begin(self, run: Session) -> bool:
-        return all([test.begin(run) for test in self.tests])
+def holds_in_latest(run: Session, condition: Forms) -> bool:
+    """Returns whether a condition comes to hold in the latest turn, which is made again."""
+    run.goto(Position(run.position - 1))
+    return first_turn(run, condition, 1)
 
-    def verdicts(self, looks: Looks) -> bytes:
-        """Returns whether it holds at the end of each turn, a byte for each."""
-        first, *others = [test.after(looks) for test in self.tests]
-        if not others:
-            return first
-        held = int.from_bytes(first, "big")
-        for verdicts in others:
-            held &= int.from_bytes(verdicts, "big")
-        return held.to_bytes(looks.turns, "big")
+
+def last_turn(run: Session, condition: Forms, first: Position, progress: Callable[[Position], object]) -> bool:
+    """Goes back to the end of the last turn after a position in which a condition comes to hold, or else to that position. Turns alone are
+    in between. Returns whether there is one. What the engine no longer keeps is made anew by parts, up to the last of them that has one."""
+    begin, end = max(first, run.history.oldest), run.position
+    if last_kept(run, condition, begin):
+        return True
+    begin, end = first, begin
+    while end - begin > run.history.room:
+        size = max(run.history.room, (end - begin) // PARTS)
+        parts = ((Position(at), min(Position(at + size), end)) for at in range(begin, end, size))
+        begin, end = ([part for part in parts if is_between(run, condition, *part, progress)] or [(first, first)])[-1]
+    run.goto(begin)
+    run.goto(end)
+    if not last_kept(run, condition, begin):
+        run.goto(first)
+        return False
+    return True
+
+
+def last_kept(run: Session, condition: Forms, first: Position) -> bool:
+    """Goes back to the end of the last turn after a position in which a condition comes to hold. The engine keeps the turns after it. Returns
+    whether there is one."""
+    most = run.position - first
+    if most <= 0 or holds_in_latest(run, condition):
+        return most > 0
+    undone = run.engine.search_back(condition)
+    if undone >= most:
+        run.engine.forward(undone)
+        return False
+    run.history.moved(-undone)
+    return undone > 0
+
+
+def is_between(run: Session, condition: Forms, first: Position, last: Position, progress: Callable[[Position], object]) -> bool:
+    """Returns whether a condition comes to hold in a turn between two positions."""
+    run.goto(first)
+    while run.position < last:
+        if first_turn(run, condition, last - run.position):
+            return True
+        progress(run.position)
+    return False
+
+
+def waits(run: Session, number: int) -> bool:
+    """Returns whether the latest turn of a processor was a wait."""
+    here, at = run.position, run.tape.latest_turn(number, run.position)
+    if at is None:
+        return False
+    run.goto(at)
+    is_wait = first_turn(run, [Form(WAITS, number)], 1)
+    run.goto(here)
+    return is_wait
 
 
 class Made(NamedTuple):
@@ -204,85 +228,75 @@ class FoundTurn(NamedTuple):
 class Search:
     """A search over the tape of a session of its own."""
 
-    by_settings = False  # whether the settings after a turn are found too by which the condition comes to hold
-
-    def __init__(self, run: Session, condition: Condition, progress: Optional[Progress] = None) -> None:
-        self.run, self.condition, self.progress = run, condition, progress or (lambda turn: None)
-        self.held = True
-        for column in condition.columns:
+    def __init__(self, run: Session, finders: Sequence[Finder], columns: Sequence[Column] = (), progress: Optional[Progress] = None) -> None:
+        """It finds the turns of each finder."""
+        self.run, self.finders, self.columns, self.progress = run, finders, columns, progress or (lambda turn: None)
+        self.remembers = any(finder.remembers for finder in finders)
+        for column in columns:
             run.number_at(column.place)  # which is refused if the machine has no such place
 
     def moments(self, first: int = 0, last: Optional[int] = None) -> Iterator[FoundTurn]:
-        """Yields each turn after `first`, up to `last`, at which the condition comes to hold."""
+        """Yields each turn after `first`, up to `last`, that is found."""
         return itertools.starmap(self.moment, self.found(first, last))
 
     def found(self, first: int = 0, last: Optional[int] = None) -> Iterator[Found]:
         """As `moments`, but yields the position before each turn, and its number."""
-        begin = 0 if self.condition.remembers else max(first - PROCESSORS, 0)  # what waits is known after a round
-        self.run.goto(self.run.tape.after_turn(begin))
-        self.held = True
-        return self.onward(first, last)
+        begin = self.run.tape.after_turn(0 if self.remembers else max(first - PROCESSORS, 0))  # where a processor is, is known after a round
+        found = heapq.merge(*(self.onward(finder, begin, first, last) for finder in self.finders))
+        return (turn for turn, _ in itertools.groupby(found))
 
-    def onward(self, first: int = 0, last: Optional[int] = None) -> Iterator[Found]:
-        """As `found`, from where the session is."""
+    def onward(self, finder: Finder, begin: Position, first: int = 0, last: Optional[int] = None) -> Iterator[Found]:
+        """As `found`, of one finder, from a position on. In between others may have moved the session."""
         run, tape = self.run, self.run.tape
+        run.goto(begin)
         last = tape.turns if last is None else last
         while run.turn < last:
             run.goto(tape.after_turn(run.turn))
-            yield from self.turns(min(tape.starts[tape.run_after(run.position) + 1], tape.at_turn(last)), first)
-        if self.by_settings:
-            run.goto(tape.after_turn(run.turn))
-            yield from self.after_settings(first)
+            yield from self.turns(finder, min(tape.starts[tape.run_after(run.position) + 1], tape.at_turn(last)), first)
 
-    def after_settings(self, first: int) -> Iterator[Found]:
-        """Sees whether the condition holds where settings may have come. Yields the position if they are to be found, and it is."""
-        held, self.held = self.held, self.condition.begin(self.run)
-        if self.by_settings and self.held and not held and self.run.turn >= first:
-            yield self.run.position, self.run.turn
-
-    def turns(self, end: Position, first: int = 0) -> Iterator[Found]:
-        """Makes the turns up to a position, with no other action between, and yields those after `first` that are found."""
-        run, condition = self.run, self.condition
-        yield from self.after_settings(first)
+    def turns(self, finder: Finder, end: Position, first: int = 0) -> Iterator[Found]:
+        """Makes the turns up to a position, with no other action between, and yields those after `first` that a finder finds."""
+        run = self.run
+        finder.begin(run)
         while run.position < end:
-            before = run.turn
-            looks = Looks(run, condition.places, min(end - run.position, run.history.room))
-            verdicts = condition.verdicts(looks)
-            here = run.position
-            for at in comes(verdicts, self.held, condition.is_change):
-                if before + at + 1 > first:
-                    yield looks.position(at), before + at + 1
+            is_found, here, turn = finder.next(run, min(end - run.position, run.history.room)), run.position, run.turn
+            if is_found and turn > first:
+                yield Position(here - 1), turn
+                run.goto(here)
+            self.progress(turn)
+
+    def back(self, condition: Forms, first: int, last: int) -> Iterator[Found]:
+        """Yields each turn after `first`, up to `last`, in which a condition comes to hold, the last one first."""
+        run, tape = self.run, self.run.tape
+        here, begin = tape.at_turn(last), tape.after_turn(first)
+        while here > begin:
             run.goto(here)
-            self.held = bool(verdicts[-1])
-            self.progress(run.turn)
+            part = tape.run_before(here)
+            here = max(tape.starts[part], begin)
+            if tape.runs[part].line == STEP and last_turn(run, condition, here, lambda position: self.progress(tape.turn(position))):
+                here = Position(run.position - 1)
+                yield here, tape.turn(run.position)
 
     def moment(self, position: Position, turn: int) -> FoundTurn:
         """Returns the turn after a position."""
-        was, made, now = around(self.run, position, self.condition.columns)
-        is_range = len(was) > len(self.condition.columns)  # of which the cells that differ are shown
+        was, made, now = around(self.run, position, self.columns)
+        is_range = len(was) > len(self.columns)  # of which the cells that differ are shown
         differ = [(name, old, new) for (name, old), (_, new) in zip(was, now) if old != new or not is_range]
         return FoundTurn(turn, made, differ, len(was) > 1)
 
 
-def comes(verdicts: bytes, held: bool, is_change: bool) -> Iterator[int]:
-    """Yields the turns of some at which a condition comes to hold, by the verdicts at their ends."""
-    at = verdicts.find(HELD)
-    while at >= 0:
-        if is_change or not (verdicts[at - 1] if at else held):
-            yield at
-        after = at + 1 if is_change else verdicts.find(0, at)
-        at = verdicts.find(HELD, after) if after >= 0 else -1
-
-
 def around(run: Session, position: Position, columns: Sequence[Column] = ()) -> Tuple[Numbers, Made, Numbers]:
     """Goes over the turn after a position. Returns it, with the numbers that are shown of columns before and after it."""
-    run.goto(position)
-    slot = run.next_slot
-    processor = run.processor(slot)
-    was = [number for column in columns for number in column.shown(run)]
-    run.goto(Position(position + 1))
-    now = [number for column in columns for number in column.shown(run)]
-    return was, Made(position, slot, processor, run.registers(slot)), now
+    slot, end = run.tape.slot(position), Position(position + 1)
+    numbers: Dict[Position, Numbers] = {}
+    for at in (end, position) if run.position >= end else (position, end):
+        run.goto(at)
+        numbers[at] = [number for column in columns for number in column.shown(run)]
+        if at == position:
+            before = run.processor(slot)
+        else:
+            after = run.registers(slot)
+    return numbers[position], Made(position, slot, before, after), numbers[end]
 
 
 def spans(end: int, first: int = 0, span: int = FIRST_SPAN) -> Iterator[Tuple[int, int]]:
@@ -297,18 +311,13 @@ def last_found(search: Search, most: int, first: int = 0, last: Optional[int] = 
     """Returns the last turns of a run that are found, as many as there are up to `most`, in their order."""
     found: List[Found] = []
     last = search.run.tape.turns if last is None else last
-    for start, end in spans(last, first, max(last, 1) if search.condition.remembers else FIRST_SPAN):
+    if isinstance(search.finders[0], TurnFinder) and len(search.finders) == len(search.finders[0].conditions) == 1:
+        return list(itertools.islice(search.back(search.finders[0].conditions[0], first, last), most))[::-1]
+    for start, end in spans(last, first, max(last, 1) if search.remembers else FIRST_SPAN):
         found[:0] = deque(search.found(start, end), most)
         if len(found) >= most:
             break
     return found[-most:]
-
-
-def last_moments(run: Session, condition: Condition, most: int, first: int = 0, last: Optional[int] = None,
-                 progress: Optional[Progress] = None) -> List[FoundTurn]:
-    """As `last_found`, with what was and is."""
-    search = Search(run, condition, progress)
-    return list(itertools.starmap(search.moment, last_found(search, most, first, last)))
 
 
 def halve(low: int, high: int, holds: Callable[[int], bool]) -> int:

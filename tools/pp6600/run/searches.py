@@ -1,21 +1,25 @@
-"""The searches of the panel, before the present turn and after it: for the turns at which a condition comes to hold, and for those by
-which a processor begins a line of its source. A simulator of its own searches them.
+"""The searches of the tools and of the panel: for the turns at which a condition comes to hold, before the present turn and after it, and for
+those by which a processor begins a line of its source. A simulator of its own searches them.
 
 A processor begins a line by a turn if it is in another line before this turn than before its turn before. So an instruction of two words,
 all instructions that a macro made of a line, and a block transfer with the instruction that began it are one line each.
 `Source.line_of` says whose line a cell is."""
 
+from __future__ import annotations
+
+import itertools
 from contextlib import closing
-from itertools import islice
-from typing import Any, Optional, Sequence
+from typing import Any, List, Optional, Sequence
 
 from ..engine import interface as flat
+from ..engine.interface import CHANGES, INSIDE, Form
 from ..failure import Failure
-from .conditions import parsed
+from .conditions import Condition, joined, parsed
 from .forms import PROCESSORS
-from .search import Condition, FoundTurn, Looks, Progress, Search, Test, last_found, last_moments
+from .search import Finder, FoundTurn, Progress, RowFinder, Search, TurnFinder, first_turn, last_found
 from .session import Session
-from .tape import STEP, Tape
+from .subroutines import ReturnFinder
+from .tape import STEP, Position, Tape
 from .turn import states_of
 
 MOST_NEW = 0o10000000  # turns that are searched after those that were made
@@ -26,6 +30,27 @@ class Stopped(Failure):
 
     def __init__(self) -> None:
         super().__init__("the search was stopped")
+
+
+def search_for(run: Session, condition: Condition, progress: Optional[Progress] = None) -> Search:
+    """Returns the search for the turns in which a condition comes to hold."""
+    finders: List[Finder] = []
+    by_turn = []
+    for one in condition.alternatives:
+        if one.returns:
+            finders.append(ReturnFinder(one))
+        elif one.waits:
+            finders.append(RowFinder(one))
+        else:
+            by_turn += one.forms
+    return Search(run, [*finders, *([TurnFinder(by_turn)] if by_turn else [])], condition.columns, progress)
+
+
+def last_moments(run: Session, condition: Condition, most: int, first: int = 0, last: Optional[int] = None,
+                 progress: Optional[Progress] = None) -> List[FoundTurn]:
+    """Returns the last turns of a run in which a condition comes to hold, as `last_found`, with what was and is."""
+    search = search_for(run, condition, progress)
+    return list(itertools.starmap(search.moment, last_found(search, most, first, last)))
 
 
 def going_on(session: Any) -> Session:
@@ -39,7 +64,7 @@ def next_found(session: Any, text: str, symbols: Any, progress: Progress) -> Opt
     """Returns the first turn after the present one at whose end the condition holds, and at whose beginning it did not: one
     that was made, or a new one. Returns None if there is none."""
     with closing(going_on(session)) as run:
-        return next(Search(run, parsed(text, symbols), progress).moments(session.history.turns), None)
+        return next(search_for(run, parsed(text, symbols), progress).moments(session.history.turns), None)
 
 
 def last_before(session: Any, text: str, symbols: Any, progress: Progress) -> Optional[FoundTurn]:
@@ -48,49 +73,59 @@ def last_before(session: Any, text: str, symbols: Any, progress: Progress) -> Op
         return next(iter(last_moments(run, parsed(text, symbols), 1, 0, session.history.turns - 1, progress)), None)
 
 
-class BeginsLine(Test):
-    """Whether a processor begins a line of its source by the latest turn. Where its P is as before its turn before, and in a
-    block transfer, it is in the same line."""
+class LineFinder:
+    """Finds the turns by which a processor begins a line of its source. Where its P is as before its turn before, and in a block
+    transfer, it is in the same line."""
 
-    is_change = True
+    remembers = False
 
     def __init__(self, number: int, source: Any) -> None:
         self.number, self.source = number, source
-        self.places = [flat.P + number, flat.PHASE + number]
+        out_of_block = Form(INSIDE, flat.PHASE + number)
+        self.moves = joined([Form(CHANGES, first + number, 1), out_of_block] for first in (flat.P, flat.PHASE))
         self.line: Optional[int] = None  # the number of the line that it is in, if it is in one
         self.left: Optional[int] = None  # after how many turns it left its source
         self.turn = 0  # how many turns it has seen
+        self.has_moved = True  # since its latest turn began
 
     def line_of(self, address: int, words: Sequence[str]) -> Optional[int]:
         line = self.source.line_of(address, *words)
         return line.number if line and line.is_there else None
 
-    def begin_in_line(self, run: Session) -> None:
+    def see(self, run: Session) -> None:
         """Sees which line the processor is in; in a block transfer that of its instruction, if this is still there."""
         number = self.number
         address = run.processor(number).address(lambda cell: int(run.cells(number, cell, cell)[0], 8))
         self.line = None if address is None else self.line_of(address, run.words_at(number, address))
         self.turn = run.turn
 
-    def begin(self, run: Session) -> bool:
-        if run.turn != self.turn:
-            self.begin_in_line(run)
-        self.where = (-1, 0)  # a setting may have changed the cell at P
-        return super().begin(run)
+    def begin(self, run: Session) -> None:
+        """Sees which line the processor is in, if it has not seen the turns before. A setting may have changed P, or the cell there."""
+        if self.turn != run.turn:
+            self.see(run)
+        self.has_moved = True
 
-    def verdicts(self, looks: Looks) -> bytes:
-        p, phases = ([before, *looks.own(self.number, place)] for place, before in self.last.items())
-        self.turn = looks.run.turn
-        own = range(looks.first_own(self.number), looks.turns, PROCESSORS)
-        return looks.once(self.number, bytes([self.begins(one, phase, looks, at) for at, one, phase in zip(own, p, phases)]))
+    def next(self, run: Session, most: int) -> bool:
+        end, is_found = Position(run.position + most), False
+        while run.position < end and not is_found:
+            if self.has_moved:
+                before = Position(run.position + (self.number - run.next_slot) % PROCESSORS)  # its next turn
+                run.goto(min(before, end))
+                if before < end:
+                    is_found = self.begins(run)
+                    self.has_moved = first_turn(run, self.moves, 1)
+            else:
+                self.has_moved = first_turn(run, self.moves, end - run.position)
+        self.turn = run.turn
+        return is_found
 
-    def begins(self, p: int, phase: int, looks: Looks, at: int) -> bool:
-        was, self.where = self.where, (p, phase)
-        if phase or was == self.where:
-            return False
-        old, self.line = self.line, self.line_of(p, looks.words_at(self.number, p, at))
-        if self.line is None and old is not None:
-            self.left = looks.run.tape.turn(looks.position(at))
+    def begins(self, run: Session) -> bool:
+        """Sees which line the processor is in before its turn. Returns whether it begins it."""
+        (p,), (phase,), old = run.engine.numbers(flat.P + self.number, 1), run.engine.numbers(flat.PHASE + self.number, 1), self.line
+        if not phase:
+            self.line = self.line_of(p, run.words_at(self.number, p))
+            if self.line is None and old is not None:
+                self.left = run.turn
         return self.line not in (None, old)
 
     def why_none(self, run: Session) -> str:
@@ -104,10 +139,11 @@ class BeginsLine(Test):
 def turn_of_next_line(session: Any, number: int, source: Any, count: int, progress: Progress) -> int:
     """Returns after how many turns a processor begins the line that comes so many lines later, by a turn that was made or a new one."""
     with closing(going_on(session)) as run:
-        begins = BeginsLine(number, source)
-        run.goto(session.history.in_effect().without_watches().end)
-        begins.begin_in_line(run)
-        found = next(islice(Search(run, Condition([begins]), progress).onward(), count - 1, None), None)
+        begins = LineFinder(number, source)
+        here = session.history.in_effect().without_watches().end
+        run.goto(here)
+        begins.see(run)
+        found = next(itertools.islice(Search(run, [begins], (), progress).onward(begins, here), count - 1, None), None)
         if found is None:
             raise none_found(count, f"up to turn {run.tape.turns:o}{begins.why_none(run)}")
         return found[1] - 1
@@ -116,7 +152,7 @@ def turn_of_next_line(session: Any, number: int, source: Any, count: int, progre
 def turn_of_line_before(session: Any, number: int, source: Any, count: int, progress: Progress) -> int:
     """Returns what `turn_of_next_line` does, of the last lines that were begun before the present position."""
     with closing(Session.of_tape(session.simulator.words, session.history.in_effect())) as run:
-        found = last_found(Search(run, Condition([BeginsLine(number, source)]), progress), count)
+        found = last_found(Search(run, [LineFinder(number, source)], (), progress), count)
         if len(found) < count:
             raise none_found(count, f"before turn {run.tape.turns:o}")
         return found[-count][1] - 1

@@ -10,11 +10,11 @@ from __future__ import annotations
 import contextlib
 import itertools
 import re
-from typing import Iterator, List, Optional, Sequence
+from typing import FrozenSet, Iterator, List, Optional, Sequence
 
 from ..failure import Failure
 from .console import Console
-from .forms import MOST_TURNS, hit_of, refused
+from .forms import MOST_TURNS, refused
 from .tape import STEP, History, Position, Tape, UnitCounts, Units, lines_of, room_of
 
 MOVE = re.compile(r"[ \t]*(BACK|FORWARD)(?:[ \t]+([0-7]{1,10}))?[ \t\r]*", re.I)
@@ -35,6 +35,8 @@ def number_in(line: str) -> int:
 
 class Session(Console):
     """A run, and a position in it."""
+
+    device_channels: FrozenSet[int] = frozenset()  # on which devices of one's own replied when its tape was made
 
     def __init__(self, words: Sequence[str] = (), tape: Optional[Tape] = None, is_search: bool = False) -> None:
         """It begins at the beginning of the tape. A search counts the watches of the tape, and performs none."""
@@ -87,6 +89,10 @@ class Session(Console):
         self.written.append(line)
         return answer
 
+    def printed(self) -> List[str]:
+        """Returns what devices of one's own have printed since this was asked last, a line each."""
+        return []
+
     def act_by_move(self, line: str) -> List[str]:
         """As `act`, but BACK goes back over all actions in effect, and FORWARD on over all that are ahead."""
         asked = MOVE.fullmatch(line)
@@ -123,7 +129,8 @@ class Session(Console):
             if count:
                 self.move(count)
                 self.written += [] if self.is_search else [f"{'BACK' if count < 0 else 'FORWARD'} {abs(count):o}"]
-            self._play(position)
+            if self.position < position:
+                self._play(position)
 
     @contextlib.contextmanager
     def at(self, position: Position) -> Iterator[Session]:
@@ -184,13 +191,6 @@ class Session(Console):
             for line in [*(f"UNWATCH {place}" for place in self.watched), *(f"WATCH {place}" for place in places)]:
                 self.demand(line)
             self.watched, self.history.kept, self.history.ahead = places, 0, 0
-
-    def go_on(self, position: Position) -> None:
-        """Makes the turns up to a position, or to one that changes a watched number."""
-        answer: List[str] = []
-        while self.position < position and not hit_of(answer):
-            answer = self.demand(f"{STEP} {min(position - self.position, MOST_TURNS):o}")
-            self.history.performed(number_in(answer[0]))
 
     def cut(self, position: Position) -> None:
         """Discards what comes after a position, which is not before the present one."""

@@ -16,7 +16,7 @@ import functools
 import re
 from array import array
 from itertools import chain, repeat
-from typing import Any, Container, Iterable, Iterator, List, MutableSequence, NamedTuple, NewType, Optional, Sequence, Tuple, Type, TypeVar
+from typing import Any, Container, Dict, Iterable, Iterator, List, MutableSequence, NamedTuple, NewType, Optional, Sequence, Tuple, Type, TypeVar
 
 from ..failure import Failure
 from .forms import MOST_TURNS, PROCESSORS
@@ -26,7 +26,8 @@ Position = NewType("Position", int)  # how many actions of a tape come before
 Units = NewType("Units", int)  # a number of actions as a user counts them
 L = TypeVar("L", bound="KnownLine")
 STEP = "STEP"
-NOTE_OF_DEVICE = re.compile(r"\* DEVICE (\S+)\r?")  # the line after it is a reply of this device
+NOTE_OF_DEVICE = re.compile(r"\* DEVICE (\S+)((?: [A-Z]+(?: [0-7]+)?)*)\r?")  # the line after it is a reply of this device, with a remark
+REJECT = "REJECT"  # the remark of a device that takes no such code
 REPLY = "SET H "
 WATCH_WORDS = ("WATCH", "UNWATCH")
 
@@ -52,7 +53,7 @@ class ScriptLine(KnownLine):
 
 
 class ReplyLine(KnownLine):
-    """A SET H that is the reply of a device of one's own, with the name of this."""
+    """A SET H that is the reply of a device of one's own, with the name of this, and its remark."""
 
 
 class SourceLine(KnownLine):
@@ -76,7 +77,7 @@ def numbered(lines: Iterable[str]) -> List[str]:
         if isinstance(line, SourceLine):
             found.append(line)
         else:
-            found.append(ReplyLine(line, note[1]) if note and line.startswith(REPLY) else ScriptLine(line, number))
+            found.append(ReplyLine(line, note[1] + note[2]) if note and line.startswith(REPLY) else ScriptLine(line, number))
         note = NOTE_OF_DEVICE.fullmatch(line)
     return found
 
@@ -134,6 +135,7 @@ class Tape:
         self.units_before: MutableSequence[int] = sums()
         self.dead_starts: List[Position] = []  # the positions after them
         self.watches = 0  # how many of them are WATCH or UNWATCH
+        self.seen: Dict[Any, List[Tuple[Position, Any]]] = {}  # what has been found out, each at some positions in their order
         for line, times in actions:
             self.append(line, times)
 
@@ -181,6 +183,9 @@ class Tape:
             self.append(action.line, max(position - self.end, 0))
         while self.dead_starts and self.dead_starts[-1] > position:
             self.dead_starts.pop()
+        for found in self.seen.values():
+            while found[-1][0] > position:
+                found.pop()
 
     # ---- how far
 
@@ -242,6 +247,18 @@ class Tape:
     def before_turn(self, turn: int) -> Position:
         """Returns the position before the turn with a number, from 1."""
         return Position(self.at_turn(turn) - 1)
+
+    def latest_turn(self, number: int, position: Position) -> Optional[Position]:
+        """Returns the position before the latest turn of a processor before a position; None if there is none."""
+        while position:
+            run = self.run_before(position)
+            first = self.starts[run]
+            if self.runs[run].line == STEP:
+                at = position - 1 - (self.slot(Position(position - 1)) - number) % PROCESSORS
+                if at >= first:
+                    return Position(at)
+            position = first
+        return None
 
     def last_tick(self, position: Position) -> Position:
         """Returns the position after the last turn before this one in which the clock changed; 0 if there is none."""

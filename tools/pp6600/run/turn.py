@@ -1,17 +1,14 @@
-"""The instruction table, and what a turn does by it.
+"""The instruction table, and what is read from it.
 
 `Processor` is a processor before a turn: which instruction it will perform, whether that waits as the channels are, and where its operand
-is. `Turn` is a turn that was made: what it wrote, and from what, and its kind: whether it acted, waited, passed, or was in a block
-transfer. Both read the table, and nothing else in the tools decides these. No number is computed here but addresses: each is read from
-the simulator. docs/MACHINE.md has the tables in words."""
+is. No number is computed here but addresses: each is read from the simulator. What a turn wrote, and from what, the engines say; that part of
+the table is for the page of a film alone. docs/MACHINE.md has the tables in words."""
 
 from __future__ import annotations
 
-import enum
-import functools
 from typing import Callable, Dict, List, NamedTuple, Optional, Sequence, Tuple
 
-from .forms import CELLS, CENTRAL_ADDRESSES, CLOCK, FRAME_WORDS, PROCESSORS, REGISTERS, Place, Registers
+from .forms import CELLS, CLOCK, PROCESSORS, REGISTERS, Place, Registers
 
 Cell = Callable[[int], int]  # the number in a cell of a processor, by its address
 
@@ -195,6 +192,10 @@ class Processor:
     def uses(self, channel: int) -> bool:
         return self.code in CHANNEL_CODES and self.channel == channel
 
+    def waited(self, after: Registers) -> bool:
+        """Returns whether its turn was a wait, by the registers after it: it changed none."""
+        return self.goes_on_in is not None and all(self.registers[name] == after[name] for name in REGISTERS)
+
     def would_wait(self, states: Sequence[str]) -> bool:
         """Returns whether its turn is a wait; the states are those of the channels and the clock, by their numbers."""
         if not self.goes_on_in or self.phase and self.registers["A"] == "000000":
@@ -212,14 +213,6 @@ class Processor:
         if self.channel < len(states):
             return states[self.channel]
         return NOT_THERE_IN_BLOCK if self.phase else NOT_THERE
-
-    def cells(self, symbol: str, cell: Cell) -> Optional[Tuple[int, int]]:
-        """Returns the address of the first cell that a letter of the table means, and how many they are; None if it means no
-        cells. The function `cell` returns the number in a cell of this processor."""
-        if symbol == "X":
-            return self.operand(cell), 1
-        first = {"D": self.channel, "I": self.channel, "B": self.p, "R": 0}.get(symbol[0])
-        return None if first is None else (first, int(symbol[1:] or "1"))
 
     def operand(self, cell: Cell) -> int:
         """Returns the address of the operand cell: d, or that in cell d, or m indexed by cell d."""
@@ -242,7 +235,6 @@ def states_of(channels: Sequence[str]) -> List[str]:
 # ---- what a turn wrote
 
 AT_END_OF_BLOCK, AT_END_OF_INPUT = Effect.all_of(END_OF_BLOCK), Effect.all_of(END_OF_INPUT)
-BLOCK_INPUT = 0o71
 EXCHANGE, BLOCKS_OF_CENTRAL = 0o26, (0o61, 0o63)
 A_IS_AN_ADDRESS = (EXCHANGE, 0o60, 0o62)
 # Parts of a word of sixty bits, of twelve each; part 0 is the leftmost.
@@ -252,7 +244,6 @@ WITHOUT_B_FIELD = (0, 1, 2, 3)  # what word 0 of the frame gets of a central wor
 # Constants: what a write has that is no number of a place. d, m and dm are fields of the instruction.
 RETURN, WORD, ZERO, NO_WORD = "return", "word", "zero", "no central word"
 STATE_LETTERS = {"inactive": "I", "empty": "E", "full": "F", "function": "X"}  # of a channel, as the table names its states
-CONSTANTS = ("d", "m", "dm", RETURN, WORD, ZERO, *STATE_LETTERS)
 
 
 class Read(NamedTuple):
@@ -260,163 +251,6 @@ class Read(NamedTuple):
 
     place: Place
     parts: Optional[Tuple[int, ...]] = None
-
-
-class Write(NamedTuple):
-    """A place that is written, and from what. A number that is moved is that of its source, or the lower twelve bits of it. A
-    central word that is moved from several cells has a part of each, in their order."""
-
-    place: Place
-    is_moved: bool  # and not computed
-    sources: Tuple[Read, ...] = ()
-    constants: Tuple[str, ...] = ()
-
-    @property
-    def is_joined(self) -> bool:
-        return self.is_moved and len(self.sources) > 1
-
-
-class TurnKind(enum.Enum):
-    """What a turn was."""
-
-    ACTED = "acted"
-    WAITED = "waited"
-    PASSED = "passed"
-    IN_BLOCK = "in a block"
-
-
-def kind_of_turn(processor: Processor, after: Registers) -> TurnKind:
-    """Returns the kind of a turn, by its processor before it and the registers after it. A wait changes no register."""
-    if processor.goes_on_in is not None and all(processor.registers[name] == after[name] for name in REGISTERS):
-        return TurnKind.WAITED
-    if processor.phase:
-        return TurnKind.IN_BLOCK
-    return TurnKind.ACTED if processor.row.effects else TurnKind.PASSED
-
-
-class Turn:
-    """A turn of a processor that was made."""
-
-    def __init__(self, number: int, processor: Processor, after: Registers, cell: Cell, size: int) -> None:
-        """The processor before it, its registers after it, and the size of central memory. The function `cell` returns the
-        number that was in a cell of this processor before the turn; it is asked where an address is in a cell."""
-        self.number, self.processor, self.after, self.cell, self.size = number, processor, after, cell, size
-
-    # ---- what it did
-
-    @functools.cached_property
-    def kind(self) -> TurnKind:
-        return kind_of_turn(self.processor, self.after)
-
-    def effects(self) -> Tuple[Effect, ...]:
-        """Returns the effects that the turn had, of those in the table."""
-        processor, after = self.processor, self.after
-        before = processor.registers
-        if processor.phase and after["PHASE"] == "0000":
-            return AT_END_OF_INPUT if processor.code == BLOCK_INPUT and before["A"] != "000000" else AT_END_OF_BLOCK
-        return () if self.kind is TurnKind.WAITED else processor.row.effects
-
-    def jumped(self) -> bool:
-        """Returns whether a conditional jump wrote P. One to the instruction after it is as if P had gone on, and a relative
-        one by no cells is a stop."""
-        processor = self.processor
-        if processor.code in RELATIVE_JUMPS and processor.channel in (0o00, 0o77):
-            return False
-        following = (processor.p + processor.row.words) % CELLS
-        return int(self.after["P"], 8) != following
-
-    def writes(self) -> List[Write]:
-        """Returns what it wrote. That P goes on to the next instruction, or a block to its next cell, is no write."""
-        is_conditional = not self.processor.phase and self.processor.code in CONDITIONAL_JUMPS
-        return [write for effect in self.effects() if effect.place != "P" or not is_conditional or self.jumped()
-                for write in self._writes_of(effect)]
-
-    def addresses(self) -> List[Place]:
-        """Returns the places that say where it read or wrote: cell d of an indirect or indexed address, and A."""
-        processor = self.processor
-        if not processor.phase and (processor.code in INDIRECT or processor.channel and processor.code in INDEXED):
-            return self._places("I")
-        return self._places("A") if processor.code in (BLOCKS_OF_CENTRAL if processor.phase else A_IS_AN_ADDRESS) else []
-
-    # ---- the letters of the table as places
-
-    def _central(self, count: int = 1) -> List[Optional[Place]]:
-        """The central words from A on; None for each that there is not."""
-        first = int(self.processor.registers["A"], 8)
-        addresses = [(first + at) % CENTRAL_ADDRESSES for at in range(count)]
-        return [Place("C", (address,)) if address < self.size else None for address in addresses]
-
-    def _places(self, symbol: str) -> List[Place]:
-        return places_of(symbol, self.number, self.processor, self.cell)
-
-    def _writes_of(self, effect: Effect) -> List[Write]:
-        place, sources = effect.place, effect.sources
-        if place == "C":
-            (word,) = self._central()
-            return [Write(word, True, tuple(map(Read, self._places(sources[0]))))] if word else []
-        if place == "C20":
-            return [Write(word, True, (Read(Place("XP", (at,))),)) for at, word in enumerate(self._central(FRAME_WORDS)) if word]
-        if place == "F20":
-            words = enumerate(self._central(FRAME_WORDS))
-            return [of_word(Place("XP", (at,)), word, None if at else WITHOUT_B_FIELD) for at, word in words]
-        if sources == ("C",):
-            (word,) = self._central()
-            return [of_word(cell, word, (at,)) for at, cell in enumerate(self._places(place))]
-        read, constants = self._read(effect)
-        return [Write(one, effect.is_moved, read, constants) for one in self._places(place)]
-
-    def _read(self, effect: Effect) -> Tuple[Tuple[Read, ...], Tuple[str, ...]]:
-        """What an effect read: the sources, and the constants."""
-        places, constants = [], []
-        for symbol in effect.sources:
-            if symbol in CONSTANTS:
-                constants.append(symbol)
-            elif symbol == "F":
-                places.append(Read(Place("XP", (0,)), P_OF_FRAME))
-            elif symbol == "R" and self._has_cleared_its_return():
-                constants.append(ZERO)
-            elif not (symbol == "P" or symbol == "I" and self.processor.channel == 0):
-                places += map(Read, self._places(symbol))
-        return tuple(places), tuple(constants)
-
-    def _has_cleared_its_return(self) -> bool:
-        """Whether the end of an input put its zero into cell 0000, from which P comes in the same turn."""
-        return self.effects() is AT_END_OF_INPUT and self.processor.registers["P"] == "0000"
-
-
-def places_of(symbol: str, number: int, processor: Processor, cell: Cell) -> List[Place]:
-    """Returns the places of a letter of the table that stands for numbers of a processor, or for its channel."""
-    if symbol in ("A", "P", "Q", "PHASE"):
-        return [Place(symbol, (number,))]
-    if symbol in ("H", "S"):
-        return [Place(symbol, (processor.channel,))] if symbol == "H" or processor.channel != CLOCK else []
-    first, count = processor.cells(symbol, cell) or (0, 0)
-    return [Place("M", (number, (first + at) % CELLS)) for at in range(count)]
-
-
-def of_word(place: Place, word: Optional[Place], parts: Optional[Tuple[int, ...]]) -> Write:
-    """Returns the write of a place from these parts of a central word, or from one that is not there."""
-    return Write(place, True, (Read(word, parts),) if word else (), () if word else (NO_WORD,))
-
-
-def state_left(channel: int, writes: Sequence[Write], before: str) -> str:
-    """Returns the state in which the writes of a processor leave a channel. Devices come after it."""
-    states = [STATE_LETTERS[write.constants[0]] for write in writes if write.place == Place("S", (channel,))]
-    return [before, *states][-1]
-
-
-def device_put_a_word(channel: int, writes: Sequence[Write], before: str, after: str) -> bool:
-    """Returns whether the device of a channel wrote its register in a turn: it does so only by making the channel full. The
-    writes are those of the processor; before and after are the states of the channel."""
-    return after == "F" and state_left(channel, writes, before) != "F"
-
-
-def is_made_by(turn: Turn, channel: int, before: str, after: str) -> bool:
-    """Returns whether the processor of a turn made a channel as it is after it, and not a device. Before and after are the states of the
-    channel."""
-    writes = turn.writes()
-    has_written = any(write.place in (Place("S", (channel,)), Place("H", (channel,))) for write in writes)
-    return has_written and state_left(channel, writes, before) == after
 
 
 # ---- what a setting wrote

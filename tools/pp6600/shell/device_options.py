@@ -1,13 +1,16 @@
 """The option --device: a device of one's own on a channel, by its name, or by its file and its class."""
 
 import importlib
+import inspect
 import pkgutil
 import sys
 import types
 from argparse import Namespace
-from typing import Any, List, Sequence, Tuple, Type
+from typing import Any, Dict, List, Sequence, Tuple, Type
 
 from .. import devices
+from ..devices.controller import Controller
+from ..devices.converter import Converter
 from ..failure import Failure, naming_line
 from ..run.attached import Attached
 from ..run.device import Device, DeviceFailure
@@ -18,7 +21,7 @@ from .script import Refusals
 from .text_files import bytes_of, lines_of
 
 FORM = "NAME[:WORD,..]@CHANNEL"
-NAMES = sorted({module.name for module in pkgutil.iter_modules(devices.__path__)} - {"converter", "pictures", "tape_file"})
+NAMES = sorted({module.name for module in pkgutil.iter_modules(devices.__path__)} - {"controller", "converter", "pictures", "tape_file"})
 
 
 def add_devices(parser: Parser) -> None:
@@ -28,8 +31,15 @@ def add_devices(parser: Parser) -> None:
 
 
 def devices_of(asked: Namespace) -> List[Device]:
-    """Returns the devices that a command line names."""
-    return [device_of(text) for text in asked.device]
+    """Returns the devices that a command line names. Equipments on one channel are behind one controller."""
+    on_channels: Dict[int, List[Device]] = {}
+    for device in map(device_of, asked.device):
+        on_channels.setdefault(device.channel, []).append(device)
+    found: List[Device] = []
+    for channel, those in on_channels.items():
+        equipments = [one for one in those if isinstance(one, Converter)]
+        found += [Controller(*equipments, channel=channel)] if len(equipments) == len(those) > 1 else those
+    return found
 
 
 def timeline(words: Sequence[str], attached: Sequence[Device]) -> Session:
@@ -70,13 +80,20 @@ def made(named: str, channel: int) -> Device:
     else:
         kind = class_of_package(name)
     try:
-        device = kind(*(words.split(",") if words else ()))
+        named = named_words(kind, words)
+        device = kind(*(word for word in words.split(",") if words and word.partition("=")[0] not in named), **named)
         device.channel = channel
     except Failure:
         raise
     except Exception as error:
         raise Failure(f"{kind.__name__} can't be made: {type(error).__name__}: {error}") from error
     return device
+
+
+def named_words(kind: Type[Device], words: str) -> Dict[str, str]:
+    """Returns the words NAME=VALUE, whose NAME is one of the constructor's."""
+    known = inspect.signature(kind).parameters
+    return {name: value for name, is_named, value in (word.partition("=") for word in words.split(",")) if is_named and name in known}
 
 
 def class_of_package(name: str) -> Type[Device]:

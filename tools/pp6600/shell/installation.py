@@ -5,20 +5,24 @@ installation is read from its list. Nothing but Python's standard library is use
 
 from __future__ import annotations
 
-import gzip
+import contextlib
 import os
 import re
 import shutil
+import signal
 import subprocess
 import sys
 import tempfile
-from typing import Dict, Iterator, NamedTuple, Optional, Tuple, Union
+from typing import Dict, Iterator, List, Optional, Tuple
 
 from ..__main__ import MODULES
 from ..engine.choice import HOME, LIBRARIES, NAMES, first_that_starts, handed_out, machine_here, of_checkout, verified
 from ..failure import Failure
+from .archives import gzipped
 from .completions import filled
 from .files import checked_program
+from .libraries import for_c, for_javascript
+from .manifest import Entry, File, Manifest, SymbolicLink, entry_at, files_below, read, with_folders
 from .text_files import bytes_of
 
 TOP = os.path.dirname(os.path.dirname(os.path.dirname(os.path.dirname(os.path.realpath(__file__)))))  # the checkout, or OWN below a prefix
@@ -37,6 +41,7 @@ OF_CHECKOUT = re.compile(r"docs/(.*\.(py|txt)|evaluate)$")  # what makes pages, 
 ALL = "all"  # for each machine
 PAGE_MODULE = "pp6600.wasm"  # with which a page of any machine runs
 LOADED = (".so", ".dll", ".wasm")  # how files end that are loaded, and not run
+FRESH, OLDER = ".pp6600-new", ".pp6600-old"  # behind the name of a file until all that is new is there
 # A link of a page, with its text; the file that it leads to is before a #.
 LINKS = {".md": re.compile(r"!?\[(?P<text>[^\[\]]*)\]\((?P<file>[^)#:\s]+)[^)]*\)"),
          ".html": re.compile(r"""<a\b[^>]*? href="(?P<file>[^"#:]+)[^>]*>(?P<text>.*?)</a>""", re.S)}
@@ -48,45 +53,6 @@ def page_module() -> bytes:
         if os.path.exists(path):
             return bytes_of(path)
     raise Failure(f"there is no {PAGE_MODULE} here, with which a page runs")
-
-
-class File(NamedTuple):
-    """The bytes of a file, and whether it is a program."""
-
-    data: bytes
-    runs: bool = False
-
-
-class SymbolicLink(NamedTuple):
-    """A link, to a path from where it is."""
-
-    target: str
-
-
-Entry = Union[File, SymbolicLink]
-Manifest = Dict[str, Entry]
-
-
-def read(path: str) -> File:
-    """Returns a file of the system."""
-    with open(path, "rb") as file:
-        return File(file.read(), os.access(path, os.X_OK))
-
-
-def entry_at(path: str) -> Entry:
-    """Returns a file or a link of the system."""
-    return SymbolicLink(os.readlink(path)) if os.path.islink(path) else read(path)
-
-
-def files_below(folder: str) -> Manifest:
-    """Returns the files and links below a folder, by their paths from there, without what Python keeps."""
-    found = {}
-    for above, folders, names in os.walk(folder):
-        folders[:] = [name for name in folders if name != "__pycache__"]
-        for name in names:
-            path = os.path.join(above, name)
-            found[os.path.relpath(path, folder).replace(os.sep, "/")] = entry_at(path)
-    return found
 
 
 def part(path: str) -> Manifest:
@@ -105,8 +71,8 @@ def manual_pages() -> Manifest:
 
 
 def packed(path: str) -> File:
-    """Returns a file as gzip packs it, without its name and time."""
-    return File(gzip.compress(read(path).data, 9, mtime=0))
+    """Returns a file in gzip's form."""
+    return File(gzipped(read(path).data))
 
 
 def completions() -> Manifest:
@@ -129,8 +95,8 @@ def programs_for(machine: str, *options: str) -> Dict[str, str]:
     return found
 
 
-def of_this_checkout(programs: Dict[str, str]) -> Manifest:
-    """Returns what a checkout installs, with these programs by their names."""
+def of_this_checkout(programs: Dict[str, str], separate: bool = False) -> Manifest:
+    """Returns what a checkout installs, with these programs by their names. If it is said, a library lies in a folder of its machine."""
     found: Manifest = {f"{OWN}/{name}": read(path)._replace(runs=not name.endswith(LOADED)) for name, path in programs.items()}
     found.update({f"{OWN}/{name}": read(os.path.join(TOP, path)) for name, path in IN_OWN.items()})
     found["bin/pp6600"] = read(os.path.join(TOP, "pp6600"))
@@ -140,16 +106,17 @@ def of_this_checkout(programs: Dict[str, str]) -> Manifest:
     found.update({f"{PAGES}/{path}": entry for name in IN_PAGES for path, entry in part(name).items() if not OF_CHECKOUT.match(path)})
     found[f"{PAGES}/tools"] = SymbolicLink(f"../../{OWN}/tools")
     found.update({f"share/doc/pp6600/{name}": SymbolicLink(f"../../pp6600/{name}") for name in ("tools", *(path.split("/")[0] for path in IN_PAGES))})
+    found.update(for_c(TOP, OWN, programs, separate))
+    if PAGE_MODULE in programs:
+        found.update(for_javascript(TOP, f"{OWN}/{PAGE_MODULE}"))
     found["share/doc/pp6600/changelog.gz"] = packed(os.path.join(TOP, "CHANGELOG.md"))
     return without_lost_links({**found, **completions(), **manual_pages()})
 
 
 def of_this_installation(programs: Dict[str, str]) -> Manifest:
     """Returns what this installation has, by its list, with these programs in the place of its own."""
-    prefix = os.path.join(TOP, os.pardir, os.pardir)
-    with open(os.path.join(prefix, LIST), encoding="utf-8") as file:
-        paths = [path for path in file.read().splitlines() if path != LIST]
-    return {**{path: entry_at(os.path.join(prefix, path)) for path in paths}, **{f"{OWN}/{name}": read(path) for name, path in programs.items()}}
+    prefix = os.path.normpath(os.path.join(TOP, os.pardir, os.pardir))
+    return {**{path: entry_at(os.path.join(prefix, path)) for path in listed(prefix) if path != LIST}, **{f"{OWN}/{name}": read(path) for name, path in programs.items()}}
 
 
 def whole(machine: Optional[str] = None, program: Optional[str] = None) -> Manifest:
@@ -195,48 +162,134 @@ def without_lost_links(manifest: Manifest) -> Manifest:
     return changed
 
 
-def with_folders(path: str) -> Iterator[str]:
-    """Yields a path, and the folders above it."""
-    while path:
-        yield path
-        path = os.path.dirname(path)
+def listed(prefix: str) -> List[str]:
+    """Returns the paths that the installation below a prefix has, by its list. Fails if one leads out of the prefix, or is of another
+    package."""
+    whole = os.path.join(prefix, LIST)
+    try:
+        paths = bytes_of(whole).decode("utf-8").removesuffix("\n").split("\n")
+    except UnicodeDecodeError as error:
+        raise Failure(f"{whole} is no list of files, so nothing is changed") from error
+    wrong = next((path for path in paths if not is_own(path)), None)
+    if wrong is not None:
+        raise Failure(f"{whole} names {wrong or 'nothing'}, which is no file of pp6600 below {prefix}; nothing is changed")
+    return paths
+
+
+def is_own(path: str) -> bool:
+    """Returns whether a path can be one of an installation: below its prefix, with the name of this package in it."""
+    names = path.split("/")
+    return not {"", os.curdir, os.pardir} & set(names) and "\0" not in path and any(re.match("_*(lib)?pp6600", name) for name in names)
 
 
 def put(manifest: Manifest, folder: str) -> None:
-    """Writes files and links below a folder."""
-    for path, entry in sorted(manifest.items()):
-        whole = os.path.join(folder, path)
-        os.makedirs(os.path.dirname(whole), exist_ok=True)
-        if os.path.lexists(whole):
-            os.remove(whole)
-        if isinstance(entry, SymbolicLink):
-            os.symlink(entry.target, whole)
-            continue
-        with open(whole, "wb") as file:
-            file.write(entry.data)
-        os.chmod(whole, 0o755 if entry.runs else 0o644)
+    """Writes files and links below a folder. All are written beside their places first, so if one can't be, all is as it was."""
+    made: List[str] = []
+    try:
+        for path, entry in sorted(manifest.items()):
+            whole = os.path.join(folder, path)
+            made += folders_made(os.path.dirname(whole))
+            if os.path.isdir(whole) and not os.path.islink(whole):
+                raise Failure(f"{whole} is a folder, and a file is to be there")
+            made.append(whole + FRESH)
+            write_entry(entry, whole + FRESH)
+    except BaseException:
+        for path in reversed(made):
+            remove(path)
+        raise
+    with uninterrupted():
+        for path in sorted(manifest, key=lambda path: (path == LIST, path)):
+            os.replace(os.path.join(folder, path) + FRESH, os.path.join(folder, path))
+
+
+def folders_made(folder: str) -> List[str]:
+    """Makes a folder, and those above it. Returns those that were not there, from above."""
+    missing = []
+    above = folder
+    while above and not os.path.lexists(above):
+        missing.append(above)
+        above = os.path.dirname(above)
+    os.makedirs(folder, exist_ok=True)
+    return missing[::-1]
+
+
+def write_entry(entry: Entry, path: str) -> None:
+    """Writes a file or a link, in the place of another one."""
+    if os.path.lexists(path):
+        os.remove(path)
+    if isinstance(entry, SymbolicLink):
+        os.symlink(entry.target, path)
+        return
+    with open(path, "xb") as file:
+        file.write(entry.data)
+    os.chmod(path, 0o755 if entry.runs else 0o644)
+
+
+def is_removable(path: str) -> bool:
+    """Returns whether there is a file or a link."""
+    return os.path.islink(path) or os.path.isfile(path)
+
+
+def remove(path: str) -> None:
+    """Removes a file, a link, or a folder that is empty; leaves any other folder."""
+    if os.path.isdir(path) and not os.path.islink(path):
+        if not os.listdir(path):
+            os.rmdir(path)
+    elif os.path.lexists(path):
+        os.remove(path)
+
+
+@contextlib.contextmanager
+def uninterrupted() -> Iterator[None]:
+    """Lets an interrupt wait, where the system can."""
+    if not hasattr(signal, "pthread_sigmask"):
+        yield
+        return
+    before = signal.pthread_sigmask(signal.SIG_BLOCK, {signal.SIGINT, signal.SIGTERM, signal.SIGHUP})
+    try:
+        yield
+    finally:
+        signal.pthread_sigmask(signal.SIG_SETMASK, before)
 
 
 def install(manifest: Manifest, prefix: str) -> None:
-    """Puts an installation below a prefix, in the place of an older one."""
-    if os.path.exists(os.path.join(prefix, LIST)):
-        take_away(prefix)
-    listed = "".join(f"{path}\n" for path in sorted([*manifest, LIST]))
-    put({LIST: File(listed.encode()), **manifest}, prefix)
+    """Puts an installation below a prefix, in the place of an older one. That one is as it was if this one can't be put."""
+    older = listed(prefix) if os.path.lexists(os.path.join(prefix, LIST)) else []
+    whole: Manifest = {LIST: File("".join(f"{path}\n" for path in sorted([*manifest, LIST])).encode()), **manifest}
+    folders = {above for path in whole for above in with_folders(os.path.dirname(path))}
+    in_the_way = [os.path.join(prefix, path) for path in older if path in folders and is_removable(os.path.join(prefix, path))]
+    for path in in_the_way:
+        os.replace(path, path + OLDER)
+    try:
+        put(whole, prefix)
+    except BaseException:
+        for path in in_the_way:
+            os.replace(path + OLDER, path)
+        raise
+    for path in in_the_way:
+        os.remove(path + OLDER)
+    remove_listed([path for path in older if path not in whole and path not in folders], prefix)
 
 
 def take_away(prefix: str) -> None:
     """Removes what is listed below a prefix, what Python has kept of it, and the folders that are then empty."""
-    with open(os.path.join(prefix, LIST), encoding="utf-8") as file:
-        paths = file.read().splitlines()
-    for path in [*paths, LIST]:
-        if os.path.lexists(os.path.join(prefix, path)):
-            os.remove(os.path.join(prefix, path))
+    remove_listed([*listed(prefix), LIST], prefix)
+
+
+def remove_listed(paths: List[str], prefix: str) -> None:
+    """Removes files and links below a prefix, what Python has kept of them, and the folders that are then empty. A link in the place of a
+    folder stays, and so does a folder in the place of a file."""
+    for path in paths:
+        for ending in ("", FRESH, OLDER):
+            if is_removable(os.path.join(prefix, path) + ending):
+                os.remove(os.path.join(prefix, path) + ending)
     folders = {above for path in paths for above in with_folders(os.path.dirname(path))}
     for folder in sorted(folders, reverse=True):
-        shutil.rmtree(os.path.join(prefix, folder, "__pycache__"), ignore_errors=True)
-        if os.path.isdir(os.path.join(prefix, folder)) and not os.listdir(os.path.join(prefix, folder)):
-            os.rmdir(os.path.join(prefix, folder))
+        whole = os.path.join(prefix, folder)
+        if is_own(folder):
+            shutil.rmtree(os.path.join(whole, "__pycache__"), ignore_errors=True)
+        if not os.path.islink(whole):
+            remove(whole)
 
 
 def chosen_program() -> Tuple[str, ...]:

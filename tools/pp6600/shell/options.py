@@ -1,13 +1,12 @@
 """The words that a tool is given: the simulator's options, octal numbers and places."""
 
 import argparse
-import os
 import re
 import sys
 from functools import partial
 from typing import Any, Dict, List, Mapping, NamedTuple, NoReturn, Optional, Sequence
 
-from ..engine.choice import HOME
+from ..engine.choice import version
 from ..engine.choose import default_engine
 from ..failure import Failure
 from ..run.forms import CELLS, CLOCK, PROCESSORS
@@ -52,12 +51,7 @@ class Version(argparse.Action):
     """Writes the version and ends."""
 
     def __call__(self, parser: argparse.ArgumentParser, namespace: argparse.Namespace, values: Any, option_string: Optional[str] = None) -> None:
-        try:
-            with open(os.path.join(HOME, "VERSION"), encoding="ascii") as file:
-                version = file.readline().strip()
-        except (OSError, ValueError) as error:
-            raise Failure(f"can't read the file VERSION in {HOME}") from error
-        write(f"{parser.prog} {version}")
+        write(f"{parser.prog} {version()}")
         parser.exit()
 
 

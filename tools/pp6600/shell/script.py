@@ -6,6 +6,7 @@ from typing import Any, Callable, Iterable, List, Optional, Sequence, Tuple
 
 from ..failure import naming_line
 from ..run.console import Console
+from ..run.device import Device, DeviceFailure
 from ..run.forms import is_refusal
 from ..run.reasons import reason
 from ..run.session import Session
@@ -49,8 +50,8 @@ def answer(run: Session, line: str, number: int = 0, refusals: Optional[Refusals
 
 
 def show_answer(run: Session, line: str, lines: List[str]) -> None:
-    """Shows the lines of an answer, at a terminal also why the line was refused."""
-    for text in lines:
+    """Shows the lines of an answer, and what devices have printed; at a terminal also why the line was refused."""
+    for text in [*lines, *run.printed()]:
         write(text)
     if lines and lines[0].startswith("ERR ") and sys.stdout is not None and sys.stdout.isatty():
         why = reason(line, lines[0], run.central_size)
@@ -94,8 +95,24 @@ class Script:
         return self.refusals.status()
 
 
-def performed(words: Sequence[str], lines: Iterable[str]) -> Script:
-    """Performs a script in a simulator of its own."""
+class ScriptWithDevices(Script):
+    """The same with devices of one's own: what is in effect has their replies."""
+
+    def __init__(self, words: Sequence[str], lines: Iterable[str], devices: Sequence[Device]) -> None:
+        from ..run.attached import Attached  # few sessions have devices
+        self.refusals = Refusals()
+        run = Attached(words, devices)
+        for number, line in counted(lines):
+            with naming_line(number, DeviceFailure):
+                self.refusals.note(number, line, run.act(line))
+        self.history = run.history
+        run.end()
+
+
+def performed(words: Sequence[str], lines: Iterable[str], devices: Sequence[Device] = ()) -> Script:
+    """Performs a script in a simulator of its own, with devices if there are any."""
+    if devices:
+        return ScriptWithDevices(words, lines, devices)
     console = Console(words)
     script = Script(console, lines)
     console.end()
@@ -105,7 +122,11 @@ def performed(words: Sequence[str], lines: Iterable[str]) -> Script:
 def replayed(asked: Namespace, symbols: Any, path: Optional[str], turn: Optional[int] = None) -> Tuple[Session, Script]:
     """Performs the script of a command line, after the lines that load its sources. Returns a simulator before the actions that are
     in effect at its end, or after a turn with the settings before the next one; and the script."""
+    from .device_options import devices_of  # which needs this module
     words = simulator(asked)
-    script = performed(words, symbols.loading(script_lines(path)))
+    devices = devices_of(asked) if getattr(asked, "device", None) else []
+    script = performed(words, symbols.loading(script_lines(path)), devices)
     tape = script.tape
-    return Session.of_tape(words, tape if turn is None else tape.part(Position(0), tape.after_turn(turn))), script
+    run = Session.of_tape(words, tape if turn is None else tape.part(Position(0), tape.after_turn(turn)))
+    run.device_channels = frozenset(device.channel for device in devices)
+    return run, script

@@ -2,21 +2,36 @@
 
 import os
 import sys
-from typing import Iterator, List, Optional
+from typing import Iterable, Iterator, List, Optional
 
 from ..failure import Failure
 from .ending import shown_text
 
 
+MOST_BYTES = 1 << 28  # of a file: as many as the program reads
+PIECE = 1 << 20
+
+
 def bytes_of(path: Optional[str]) -> bytes:
-    """Returns the bytes of a file, or of standard input if there is no path."""
+    """Returns the bytes of a file, or of standard input if there is no path. Fails if there are more than MOST_BYTES."""
     if path is None and sys.stdin is None:
         raise Failure("standard input is closed or a folder: name a file, or give the text over a pipe")
     try:
         with open(path, "rb") if path is not None else sys.stdin.buffer as file:
-            return file.read()
+            return whole(iter(lambda: file.read(PIECE), b""), path)
     except OSError as error:
         raise Failure(f"can't read {named(path)}: {error.strerror}") from error
+
+
+def whole(pieces: Iterable[bytes], path: Optional[str]) -> bytes:
+    """Returns the pieces of a file as one."""
+    size, found = 0, []
+    for piece in pieces:
+        size += len(piece)
+        if size > MOST_BYTES:
+            raise Failure(f"can't read {named(path)}: it has more than {MOST_BYTES} (decimal) bytes")
+        found.append(piece)
+    return b"".join(found)
 
 
 def named(path: Optional[str]) -> str:

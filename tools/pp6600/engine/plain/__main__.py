@@ -1,10 +1,15 @@
 """Runs the simulator in Python: by python3 -m pp6600.engine.plain, or by the path of this file."""
 
-import os
 import sys
 
+if not __package__ and not getattr(sys.flags, "safe_path", False):
+    del sys.path[0]  # nothing beside this file is taken for a module of Python's own
+
+import os  # noqa: E402
+
 if not __package__:
-    sys.path.insert(0, os.path.dirname(os.path.dirname(os.path.dirname(os.path.dirname(os.path.realpath(__file__))))))
+    at = [path.endswith("-packages") for path in [*sys.path, "-packages"]].index(True)  # behind Python's own modules
+    sys.path.insert(at, os.path.dirname(os.path.dirname(os.path.dirname(os.path.dirname(os.path.realpath(__file__))))))
 
 from pp6600.engine.plain.program import main  # noqa: E402
 

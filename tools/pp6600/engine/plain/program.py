@@ -2,6 +2,7 @@
 
 from __future__ import annotations
 
+import contextlib
 import os
 import re
 import signal
@@ -169,7 +170,8 @@ def perform(words: Sequence[str], standard_input: Source, write: Callable[[str],
     try:
         given = read_words(words)
     except Help:
-        answer_with([USAGE], write)
+        with contextlib.suppress(OSError):
+            write(USAGE + "\n")
         return 0
     return serve(make(given), given.get("SCRIPT", standard_input), write)
 

@@ -7,13 +7,14 @@ from ...engine.interface import PAPER, PAPER_LENGTH
 from ...language.display_code import SYMBOLS
 from ...language.names import AllSymbols
 from ...language.symbol_options import add_symbols, symbols_of
-from ...run.conditions import Changes, column_of, first_place
-from ...run.recording import AT_ONCE, Recording
-from ...run.search import Condition, Search
+from ...run.conditions import changes, column_of, first_place
+from ...run.recording import next_turn
+from ...run.search import Search, TurnFinder
 from ...run.state import differences
 from ...run.tape import STEP, WATCH_WORDS, SourceLine
 from ...run.turn import places_of_setting
 from ...shell.command_line import arguments, count, words_after, write_lines
+from ...shell.device_options import add_devices
 from ...shell.script import replayed
 
 LINE_END = 0o100  # among the symbols of the paper
@@ -32,11 +33,12 @@ def place_changes(run, place, symbols=AllSymbols()):
     column = column_of(place)
     for word in WATCH_WORDS:
         run.demand(f"{word} {place.short}")  # which is refused if the machine has no such place
-    search = Search(run, Condition([Changes(column)]))
+    finder = TurnFinder([[form] for form in changes(column).forms])
+    search = Search(run, [finder], [column])
     for start, end, action in zip(run.tape.starts, run.tape.starts[1:], run.tape.runs):
         if action.line == STEP:
             run.goto(start)
-            yield from (search.moment(*found).text(symbols) for found in search.turns(end))
+            yield from (search.moment(*found).text(symbols) for found in search.turns(finder, end))
         elif place in places_of_setting(action.line):
             run.goto(start)
             (_, was), = column.shown(run)
@@ -56,24 +58,21 @@ def last_turns(run, count, symbols=AllSymbols()):
     """Yields a line with what it changed for each of the last turns, and the line of each action between them."""
     position = run.tape.at_turn(max(run.tape.turns - count, 0))
     for action in run.tape.actions(position):
-        end = position + action.times
-        if action.line != STEP:
+        if action.line == STEP:
+            run.goto(position)
+            yield from (turn_line(run, symbols) for _ in range(action.times))
+        else:
             yield action.line
-        for first in range(position, end, AT_ONCE) if action.line == STEP else ():
-            yield from lines_of(Recording(run, first, min(first + AT_ONCE, end)), symbols)
-        position = end
+        position += action.times
     run.end()
 
 
-def lines_of(recording, symbols):
-    """Returns a line with what it changed for each turn of a recording."""
-    lines = []
-    for at, was, now in recording.turns_back():
-        slot, processor = recording.processor(at), recording.turn(at).processor
-        changes = ", ".join(f"{place} {before} -> {after}" for place, before, after in shown(was, now)) or "NOTHING"
-        turn = recording.run.tape.turn(recording.position(at))
-        lines.append(f"TURN {turn:o} PP {slot:02o}: {changes}{symbols.line_at_p(slot, processor)}")
-    return reversed(lines)
+def turn_line(run, symbols):
+    """Makes the next turn. Returns a line with what it changed."""
+    slot = run.next_slot
+    processor, (was, now) = run.processor(slot), next_turn(run)
+    changes = ", ".join(f"{place} {before} -> {after}" for place, before, after in shown(was, now)) or "NOTHING"
+    return f"TURN {run.turn:o} PP {slot:02o}: {changes}{symbols.line_at_p(slot, processor)}"
 
 
 def shown(was, now):
@@ -100,6 +99,7 @@ def main():
     parser = arguments(DESCRIPTION, "[OPTION ..] (PLACE | --turns COUNT) [SCRIPT]")
     parser.add_argument("--turns", metavar="COUNT", type=count, help="show what each of the last turns changed, octal")
     add_symbols(parser)
+    add_devices(parser)
     parser.add_argument("words", nargs="*", metavar="PLACE [SCRIPT]", help="without a script, standard input is it")
     asked = parser.parse()
     symbols = symbols_of(asked)

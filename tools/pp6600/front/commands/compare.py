@@ -5,7 +5,7 @@ from ...language.names import AllSymbols
 from ...language.symbol_options import add_files, add_symbols, symbols_from, symbols_of
 from ...language.versions import Versions
 from ...run.forms import PROCESSORS
-from ...run.search import Looks, halve
+from ...run.search import halve
 from ...run.session import Session
 from ...run.state import central_differences, central_of, state_of
 from ...run.tape import STEP
@@ -54,10 +54,12 @@ class Side:
                 continue
             run.goto(start)
             while run.position < end:
-                looks = Looks(run, [P + number], min(end - run.position, run.history.room))
-                first = tape.turn(looks.position(looks.first_own(number))) + 1
-                for at, address in enumerate(looks.own(number, P + number)):
-                    yield first + PROCESSORS * at, self.symbols.name(number, f"{address:04o}") or f"{address:04o}"
+                first, own = run.turn + 1, (number - run.next_slot) % PROCESSORS
+                addresses, made = run.engine.looks([P + number], min(end - run.position, run.history.room))
+                run.history.performed(made)
+                for at in range(own, made, PROCESSORS):
+                    digits = f"{addresses[at]:04o}"
+                    yield first + at, self.symbols.name(number, digits) or digits
 
 
 class Comparison:

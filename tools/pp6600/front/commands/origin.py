@@ -10,13 +10,14 @@ from ...run.origin_text import MOST_STEPS, origin_rows
 from ...run.session import Session
 from ...run.tape import numbered
 from ...shell.command_line import Failure, arguments, count, octal, script_lines, simulator, words_after, write_lines
+from ...shell.device_options import add_devices, devices_of
 from ...shell.script import performed
 
 DESCRIPTION = """Shows where the number at a place (M 0 106, A 0, C 1000, H 12 ..; XP 0: a word of the frame; LP 7: a symbol of the
 paper) came from at the end of a script: the last write, in which turn, by which instruction, and from what; then the same of
 each source, back to a word of the script, a column of a card, a word of the panel, a constant of an instruction or the start. A
-number that was stored again counts as written. FROM a place: the number was moved. OF places: it was computed from these. What
-the script took back and did not perform again counts for nothing."""
+number that was stored again counts as written. FROM a place: the number was moved. SUM OF places and the like: it was computed from
+the numbers that these had. What the script took back and did not perform again counts for nothing."""
 
 PATIENCE = 1  # seconds without progress on the screen
 
@@ -47,14 +48,15 @@ def place_of(words, symbols):
     return place, rest
 
 
-def origin_lines(words, tape, place, turn=None, most_steps=MOST_STEPS, with_addresses=False, symbols=AllSymbols()):
+def origin_lines(words, tape, place, turn=None, most_steps=MOST_STEPS, with_addresses=False, symbols=AllSymbols(),
+                 with_reasons=False):
     """Returns the lines of the origin of the number at a place after so many turns of a tape, or at its end. The words are the program
     and its options."""
     run = Session.of_tape(words, tape)
     if place.kind == "C" and place.numbers[0] >= run.central_size:
         raise Failure(f"there is no {place.short}: central memory has {run.central_size:o} words (octal)")
     position, progress = tape.end if turn is None else tape.after_turn(turn), Progress(tape)
-    rows = origin_rows(run, place, position, most_steps, with_addresses, progress.show, symbols=symbols)
+    rows = origin_rows(run, place, position, most_steps, with_addresses, progress.show, symbols=symbols, with_reasons=with_reasons)
     run.end()
     progress.end()
     return [line for _, line in rows]
@@ -68,13 +70,15 @@ def main():
                         help="follow the sources until N steps by processors are found, octal (40)")
     parser.add_argument("--all", action="store_true", help="follow all sources to their ends")
     parser.add_argument("--addresses", action="store_true", help="follow also the cells and registers that addresses came from")
+    parser.add_argument("--why", action="store_true", help="say also what decided: A, a count, or the state of a channel")
     add_symbols(parser)
+    add_devices(parser)
     parser.add_argument("words", nargs="*", metavar="PLACE [SCRIPT]", help="without a script, standard input is it")
     asked = parser.parse()
     words, symbols = simulator(asked), symbols_of(asked)
     place, rest = place_of(asked.words, symbols)
     (script,) = words_after(rest, 1, "give one place, one script")
-    done = performed(words, numbered(symbols.loading(script_lines(script))))
+    done = performed(words, numbered(symbols.loading(script_lines(script))), devices_of(asked))
     most_steps = None if asked.all else asked.depth
-    write_lines(origin_lines(words, done.tape, place, asked.turn, most_steps, asked.addresses, symbols))
+    write_lines(origin_lines(words, done.tape, place, asked.turn, most_steps, asked.addresses, symbols, asked.why))
     return done.status()

@@ -7,6 +7,7 @@ from ...run.session import Session
 from ...run.tape import counted
 from ...run.turn import states_of
 from ...shell.command_line import add_script, add_turn, arguments, script_lines, simulator, write_lines
+from ...shell.device_options import add_devices, devices_of, timeline
 from ...shell.script import Refusals
 
 DESCRIPTION = """Shows the machine at the end of a script, or after a turn, on one screen: the ten processors with the two words
@@ -64,7 +65,7 @@ def screen(run, symbols):
 
 def performed(asked, symbols):
     """Returns a run that has performed a script, or its actions up to a turn, and the refused lines."""
-    run, refusals = Session(simulator(asked)), Refusals()
+    run, refusals = timeline(simulator(asked), devices_of(asked)), Refusals()
     for number, line in counted(symbols.loading(script_lines(asked.script))):
         refusals.note(number, line, run.act(line))
     if asked.turn is not None:
@@ -77,6 +78,7 @@ def main():
     parser = arguments(DESCRIPTION)
     add_turn(parser)
     add_symbols(parser)
+    add_devices(parser)
     add_script(parser)
     asked = parser.parse()
     symbols = symbols_of(asked)

@@ -1,16 +1,19 @@
 """A run turn by turn."""
 
+from array import array
 from itertools import takewhile
 
 from ...engine import interface as flat
+from ...engine.interface import CHANGES, INSIDE, Form
 from ...language.names import AllSymbols
 from ...language.symbol_options import add_symbols, symbols_of
-from ...run.conditions import Changes
-from ...run.forms import CELLS, CLOCK, PROCESSORS, Place
-from ...run.search import Column, Condition, Search, Test, around, spans
-from ...run.tape import STEP
-from ...run.turn import CHANNEL_CODES, TWO_WORDS, TurnKind, kind_of_turn
+from ...run.conditions import is_written
+from ...run.forms import CELLS, CLOCK, PROCESSORS
+from ...run.search import TurnFinder, around, ranges_of, spans
+from ...run.tape import REJECT, STEP, Position, ReplyLine
+from ...run.turn import CHANNEL_CODES, CHANNEL_JUMPS, TWO_WORDS
 from ...shell.command_line import add_script, arguments, channel, count, processor, write_lines
+from ...shell.device_options import add_devices
 from ...shell.script import replayed
 
 DESCRIPTION = """Shows each turn of a script, as the processor stood before it: the turn, counted in octal from 1, the
@@ -22,6 +25,7 @@ state and register are shown in place of Q and the phase, and WORD LOST if the t
 a block of input has ended and the channel is still full. With --symbols an address has its label after it, and the listing's own
 text is at the end of the line."""
 BLOCK_BEGINS = (0o71, 0o73)
+LEAST_PART = 0o100  # turns that are looked at at once
 
 
 class Tracer:
@@ -35,15 +39,17 @@ class Tracer:
         was = self.shown_at(position)
         _, made, _ = around(self.run, position)
         before, after = made.processor, made.after
-        waited = kind_of_turn(before, after) is TurnKind.WAITED
+        waited = before.waited(after)
         text = f"TURN {self.run.tape.turn(position) + 1:o} PP {made.slot:02o} {self.instruction(made.slot, before)}"
         wait, listed = " WAITS" if waited else "", self.listed(made.slot, before)
+        wait += reject_after(self.run.tape, position + 1)
         if self.channel is None:
             return f"{text} Q {before.registers['Q']} PHASE {before.registers['PHASE']}{wait}{listed}"
         now = self.shown_at(position + 1)
         touched = before.uses(self.channel) and not waited or was != now
         step = f"H {self.channel:02o} {was if was == now else f'{was} -> {now}'}"
-        return f"{text}{wait} {step}{fate_of_word(before, after, was, now)}{listed}" if touched else None
+        fate = fate_of_word(before, after, was, now) if before.channel == self.channel else ""
+        return f"{text}{wait} {step}{fate}{listed}" if touched else None
 
     def shown_at(self, position):
         """Returns the state and the register of the channel at a position, if one is asked for."""
@@ -67,8 +73,15 @@ class Tracer:
         return f"  {text}" if text else line
 
 
+def reject_after(tape, position):
+    """Returns which device rejects the code of the turn before a position, if one does."""
+    replies = takewhile(lambda action: isinstance(action.line, ReplyLine), tape.actions(position))
+    rejects = [line.origin.removesuffix(REJECT) for line, _ in replies if line.origin.endswith(f" {REJECT}")]
+    return f" REJECTED BY {rejects[0].rstrip()}" if rejects else ""
+
+
 def fate_of_word(processor, after, was, now):
-    """Returns what the turn did to a word on its channel that nobody has read: DCN loses it, the end of an input leaves it."""
+    """Returns what a turn on a channel did to a word there that nobody has read: DCN loses it, the end of an input leaves it."""
     if processor.name == "DCN" and was[0] == "F" and now[0] == "I":
         return " WORD LOST"
     has_ended = processor.phase and int(after["PHASE"], 8) == 0
@@ -76,55 +89,87 @@ def fate_of_word(processor, after, was, now):
     return " WORD LEFT" if is_left else ""
 
 
-class Touches(Test):
-    """Whether a turn of some processors may have touched a channel: whether it changed it, or its processor uses the channel by a word that
-    was at its P, or in a block transfer."""
+class Touches:
+    """The turns of a run that may have touched a channel; whether one did is seen there. They are those that wrote it; those by which a block
+    transfer began or ended, or that were in one over the clock, which none writes; and those at a word that uses it and need not change it,
+    as a jump by its state."""
 
-    is_change = True
+    def __init__(self, run, channel, processors):
+        self.run, self.processors = run, [*processors]
+        codes = CHANNEL_JUMPS if channel < CLOCK else CHANNEL_CODES  # no instruction changes the clock
+        self.words = {code << 6 | channel for code in codes}
+        written = [flat.REGISTERS + channel, *([flat.STATES + channel] if channel < CLOCK else [])]  # by a device perhaps as it was
+        in_block = [[is_written(flat.P + number), Form(INSIDE, flat.PHASE + number, code << 6 | CLOCK, code << 6 | CLOCK)]
+                    for number in self.processors for code in BLOCK_BEGINS if channel == CLOCK]
+        phases = [[Form(CHANGES, flat.PHASE + number, 1)] for number in self.processors]
+        self.finder = TurnFinder([*([is_written(place)] for place in written), *phases, *in_block])
 
-    def __init__(self, channel, processors):
-        self.channel, self.processors = channel, processors
-        self.changes = Changes(Column(Place("H", (channel,))), channel < CLOCK)
-        self.places = [*self.changes.places, *(flat.P + number for number in processors)]
+    def positions(self, first, last):
+        """Yields the positions before those after turn `first`, up to turn `last`."""
+        run, tape = self.run, self.run.tape
+        run.goto(tape.after_turn(first))
+        while run.turn < last:
+            begin = tape.after_turn(run.turn)
+            end, most = min(tape.starts[tape.run_after(begin) + 1], tape.at_turn(last)), LEAST_PART
+            while begin < end:
+                part, found = self.part(begin, min(end - begin, most, run.history.room))
+                yield from found
+                most = 2 * most if part == most else max(part, LEAST_PART)
+                begin += part
+            run.goto(end)
 
-    def begin(self, run):
-        self.phases = run.engine.numbers(flat.PHASE, PROCESSORS)
-        return self.changes.begin(run) or super().begin(run)
+    def part(self, begin, most):
+        """Returns a number of turns after a position, up to so many, in which no word that a processor performs changes, and the positions
+        before those of them that may have touched the channel."""
+        run = self.run
+        performed = self.performed(begin, most)
+        most = run.position - begin
+        run.goto(begin)
+        cells = {flat.CELLS + CELLS * number + p for number, addresses in performed.items() for p in {*addresses}}
+        users = {first + at for first, size in ranges_of(cells)
+                 for at, word in enumerate(run.engine.numbers(first, size)) if word in self.words}
+        written = cells.intersection(run.engine.turns(most).places)
+        run.history.performed(most)
+        if written:
+            run.goto(begin)
+            TurnFinder([[Form(CHANGES, first, size)] for first, size in ranges_of(written)]).next(run, most)
+        end = run.position
+        found = self.uses(begin, end, performed, users) if users else ()
+        return end - begin, sorted({*found, *self.writes(begin, end)})
 
-    def verdicts(self, looks):
-        found = bytearray(self.changes.after(looks))
-        for number in range(PROCESSORS):
-            if number not in self.processors:
-                found[looks.first_own(number)::PROCESSORS] = bytes(len(looks.own(number, self.changes.places[0])))
-        for number in self.processors:
-            for at in self.of_processor(looks, number):
-                found[at] = 1
-        self.phases = looks.run.engine.numbers(flat.PHASE, PROCESSORS)
-        return bytes(found)
+    def performed(self, begin, most):
+        """Returns P before each turn of each processor, of some turns after a position, and P after the last of these turns."""
+        run, width = self.run, len(self.processors)
+        run.goto(begin)
+        before = run.engine.numbers(flat.P, PROCESSORS)
+        numbers, made = run.engine.looks([flat.P + number for number in self.processors], most)
+        run.history.performed(made)
+        slot = run.tape.slot(begin)
+        return {number: array("Q", [before[number]]) + numbers[width * ((number - slot) % PROCESSORS) + at::width * PROCESSORS]
+                for at, number in enumerate(self.processors)}
 
-    def of_processor(self, looks, number):
-        """Returns the turns of a processor that may use the channel. The run is after them."""
-        memory, first, phase = flat.CELLS + CELLS * number, looks.first_own(number), self.phases[number]
-        p = [self.last[flat.P + number], *looks.own(number, flat.P + number)][:-1]
-        low, addresses = min(p, default=0), {*p}
-        words = looks.run.engine.numbers(memory + low, max(p, default=0) - low + 1)
-        users = {one for one in addresses if self.uses(words[one - low])}
-        if phase and self.uses(phase) or any(words[one - low] >> 6 in BLOCK_BEGINS for one in users) or \
-                not looks.written.isdisjoint(memory + one for one in addresses):
-            users = addresses
-        return [first + PROCESSORS * at for at, one in enumerate(p) if one in users] if users else []
+    def uses(self, begin, end, performed, users):
+        """Yields the positions before the turns between two positions in which a processor performs one of some cells."""
+        slot = self.run.tape.slot(begin)
+        for number, addresses in performed.items():
+            memory = flat.CELLS + CELLS * number
+            positions = range(begin + (number - slot) % PROCESSORS, end, PROCESSORS)
+            yield from (position for position, p in zip(positions, addresses) if memory + p in users)
 
-    def uses(self, word):
-        """Returns whether an instruction uses the channel."""
-        return word & 0o77 == self.channel and word >> 6 in CHANNEL_CODES
+    def writes(self, begin, end):
+        """Yields the positions before the turns between two positions that wrote the channel, or were of a block."""
+        run, tape = self.run, self.run.tape
+        run.goto(begin)
+        while run.position < end:
+            if self.finder.next(run, end - run.position) and tape.slot(Position(run.position - 1)) in self.processors:
+                yield run.position - 1
 
 
 def positions_of(asked, run, first, last):
     """Yields the positions before the turns after one, and up to another, that a command line asks for; of a channel all that may touch it."""
     tape, processors = run.tape, asked.processor or range(PROCESSORS)
     if asked.channel is not None:
-        search = Search(run, Condition([Touches(asked.channel, processors)]))
-        return (position for position, _ in search.found(first, last))
+        return Touches(run, asked.channel, processors).positions(first, last)
     end = tape.at_turn(last)
     return (position for position, line in takewhile(lambda stop: stop[0] < end, tape.stops(first, processors)) if line == STEP)
 
@@ -148,6 +193,7 @@ def main():
     parser.add_argument("--from", metavar="N", type=count, dest="first", default=1, help="the turns from N on, octal")
     parser.add_argument("--to", metavar="N", type=count, dest="to", help="the turns up to N, octal")
     add_symbols(parser)
+    add_devices(parser)
     add_script(parser)
     asked = parser.parse()
     symbols = symbols_of(asked)

@@ -5,14 +5,15 @@ from itertools import islice
 from ...language.names import AllSymbols
 from ...language.symbol_options import add_symbols, symbols_of
 from ...run import conditions
-from ...run.search import Search, last_moments
+from ...run.searches import last_moments, search_for
 from ...shell.command_line import Failure, arguments, count, words_after, write
+from ...shell.device_options import add_devices
 from ...shell.script import replayed
 
 DESCRIPTION = """Shows the first turn at whose end a condition holds and at whose beginning it did not. A condition is PLACE = 105,
-also != < > <= >= (in quotation marks, for the shell), PLACE outside 100 117 or inside, PLACE changes, M 0 100 117 changes,
-H 12 is F, H 12 changes state, PP 3 waits, PP 3 in a block or not in a block, or PP 3 returns wrongly (with the labels NAMEX and
-NAME of its subroutines); conditions are joined by and. A place is
+also != < > <= >= (in quotation marks, for the shell), PLACE outside 100 117 or inside, PLACE changes or is written, M 0 100 117 changes or
+is written, H 12 is F, H 12 changes state, PP 3 performs 105 (it is about to), PP 3 waits, PP 3 in a block or not in a block, or PP 3 returns
+wrongly (with the labels NAMEX and NAME of its subroutines); conditions are joined by and, and these by or. A place is
 M n a, A n, P n, Q n, C a or H c. All numbers are octal; with --symbols a label may be in the place of an address. A line has
 the turn, counted from 1, the processor whose turn it was, its P before the turn, the name of its instruction, and the numbers
 before and after. A processor waits if its latest turn was a wait. If there is no such turn, the tool writes NONE and ends with
@@ -36,7 +37,7 @@ def turns_found(asked, condition, run):
     most = run.tape.turns if asked.all else asked.count or 1
     if asked.last:
         return last_moments(run, condition, most, first)
-    return islice(Search(run, condition).moments(first), most)
+    return islice(search_for(run, condition).moments(first), most)
 
 
 def main():
@@ -47,6 +48,7 @@ def main():
     much.add_argument("--all", action="store_true", help="show each turn that is found, not one alone")
     much.add_argument("--count", metavar="K", type=count, help="show at most K turns, octal")
     add_symbols(parser)
+    add_devices(parser)
     parser.add_argument("words", nargs="*", metavar="CONDITION [SCRIPT]", help="without a script, standard input is it")
     asked = parser.parse()
     symbols = symbols_of(asked)

@@ -1,18 +1,25 @@
 """The processors that wait."""
 
+import sys
 from contextlib import closing
 from typing import NamedTuple
 
+from ...engine import interface as flat
+from ...engine.choose import is_proved
+from ...engine.interface import CHANGES, Form
 from ...language.names import AllSymbols
 from ...language.symbol_options import add_symbols, symbols_of
-from ...run.conditions import Changes, Is
+from ...run.conditions import Column, Condition, changes
 from ...run.forms import CELLS, CLOCK, MOST_TURNS, MOST_WATCHES, PROCESSORS, REGISTERS, Place
-from ...run.search import Column, Condition, Search, last_found, last_moments
+from ...run.search import Search, TurnFinder, last_found
+from ...run.searches import last_moments
 from ...run.session import Session
 from ...run.state import central_of, state_of
 from ...run.tape import STEP
-from ...run.turn import CHANNEL_JUMPS, Turn, is_made_by
+from ...run.turn import CHANNEL_JUMPS, places_of_setting
+from ...run.written import made_turn
 from ...shell.command_line import add_script, add_turn, arguments, write_lines
+from ...shell.device_options import add_devices
 from ...shell.script import replayed
 
 DESCRIPTION = """Shows each processor that waits at the end of a script: the address of its instruction and its name, P,
@@ -41,12 +48,9 @@ class Waiting(NamedTuple):
 
     def in_place_since(self, run):
         """Returns the number of turns after which its registers and its instruction stay those of the end."""
-        processor = self.processor
-        numbers = {Place(name, (self.number,)): processor.registers[name] for name in REGISTERS}
-        numbers[Place("M", (self.number, processor.p))] = processor.words[0]
-        search = Search(run, Condition([Is(Column(place), int(digits, 8).__eq__) for place, digits in numbers.items()]))
-        search.by_settings = True
-        return max((turn for _, turn in last_found(search, 1)), default=0)
+        places = {*(Place(name, (self.number,)) for name in REGISTERS), Place("M", (self.number, self.processor.p))}
+        found = last_found(Search(run, [TurnFinder([[Form(CHANGES, place.number, 1)] for place in places])]), 1)
+        return max(found[0][1] if found else 0, last_set(run, places))
 
     def first_turn(self, run):
         """Returns since which turn it waits: its first one in its place, or the turn that it will have."""
@@ -55,6 +59,22 @@ class Waiting(NamedTuple):
             if line == STEP:
                 return f"SINCE TURN {tape.turn(position) + 1:o}"
         return f"FROM TURN {tape.turns + 1 + (self.number - tape.slot(tape.end)) % PROCESSORS:o}"
+
+
+def last_set(run, places):
+    """Returns the number of turns before the last setting that changed the number at one of some places; 0 if there is none."""
+    tape = run.tape
+    for end, turns, action in zip(reversed(tape.starts), reversed(tape.turns_before), reversed(tape.runs)):
+        if action.line != STEP and not places.isdisjoint(places_of_setting(action.line)):
+            was, now = (numbers_at(run, position, places) for position in (end - action.times, end))
+            if was != now:
+                return turns
+    return 0
+
+
+def numbers_at(run, position, places):
+    run.goto(position)
+    return [run.engine.numbers(place.number, 1) for place in places]
 
 
 def drop_moved(run, turns, numbers):
@@ -87,7 +107,7 @@ def waiting_for_ever(words, tape, numbers):
 
 def last_change(run, channel, symbols):
     """Returns the turn of the last change of a channel, or the one before a setting, and who made it."""
-    found, setting = last_moments(run, Condition([Changes(Column(Place("H", (channel,))), True)]), 1), last_setting(run.tape, channel)
+    found, setting = last_moments(run, Condition([[changes(Column(Place("H", (channel,))), True)]]), 1), last_setting(run.tape, channel)
     turn = found[0].turn if found else 0
     if setting[0] >= turn:
         return setting
@@ -105,9 +125,9 @@ def last_setting(tape, channel):
 
 def maker(run, channel, found, symbols):
     """Returns who changed a channel in a turn: its processor, or else a device."""
-    made, ((_, was, now),) = found.made, found.numbers
-    turn = Turn(made.slot, made.processor, made.after, lambda address: 0, run.central_size)
-    if is_made_by(turn, channel, was[0], now[0]):
+    made = found.made
+    run.goto(made.position)
+    if {flat.STATES + channel, flat.REGISTERS + channel}.isdisjoint(origin.place for origin in made_turn(run).others):
         line = symbols.line_at_p(made.slot, made.processor)
         return f"PP {made.slot:02o} P {symbols.beside(made.slot, made.processor.registers['P'])} {made.processor.name}{line}"
     return {run.reader_channel: "THE READER", run.printer_channel: "THE PRINTER"}.get(channel, "A DEVICE")
@@ -153,7 +173,7 @@ def channel_line(state, number):
 def waits(run, symbols=AllSymbols()):
     """Yields a line for each processor that waits, and one for its channel."""
     found, state = at_end(run, symbols)
-    numbers = [one.number for one in found]
+    numbers = [one.number for one in found if one.processor.channel not in run.device_channels]  # a device may end its wait
     for_ever = set().union(*(waiting_for_ever(run.words, run.tape, numbers[at:at + MOST_WATCHES])
                              for at in range(0, len(numbers), MOST_WATCHES)))
     channels = sorted({one.processor.channel for one in found if one.processor.channel < CLOCK})
@@ -169,10 +189,13 @@ def main():
     parser = arguments(DESCRIPTION)
     add_turn(parser)
     add_symbols(parser)
+    add_devices(parser)
     add_script(parser)
     asked = parser.parse()
     symbols = symbols_of(asked)
     run, script = replayed(asked, symbols, asked.script, asked.turn)
+    if not is_proved(run.engine) and sys.stderr and sys.stderr.isatty():
+        print("waits: searching; this takes minutes with the simulator in Python", file=sys.stderr, flush=True)
     write_lines(waits(run, symbols), "NO PROCESSOR WAITS", at_once=True)
     run.close()
     return script.status()

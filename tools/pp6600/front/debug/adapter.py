@@ -9,6 +9,7 @@ from ...run.device import DeviceFailure
 from ...run.forms import PROCESSORS
 from ...run.tape import counted
 from ...shell.device_options import device_of
+from ...shell.ending import shown_text
 from ...shell.options import OPTIONS, processor
 from ...shell.text_files import script_lines, shown
 from .breakpoints import DATA, Breakpoints
@@ -85,7 +86,7 @@ class Adapter(Requests, Setting):
             body = self.method(command)(**(request.get("arguments") or {}))
             answer.update({"body": body} if body is not None else {})
         except (Failure, TypeError, KeyError, ValueError, AttributeError, OverflowError) as error:
-            text = str(error) if isinstance(error, Failure) else self.fault_of(command, request.get("arguments"))
+            text = shown_text(str(error) if isinstance(error, Failure) else self.fault_of(command, request.get("arguments")))
             answer = {"success": False, "message": text,
                       "body": {"error": {"id": 1, "format": text.replace("{", "(").replace("}", ")"), "showUser": True}}}
         self.wire.write(type="response", request_seq=request["seq"], command=command, **answer)
@@ -110,10 +111,10 @@ class Adapter(Requests, Setting):
                 after()
         except DeviceFailure as failure:
             self.machine.goto(position)
-            self.wire.say(failure, "stderr")
+            self.wire.say(str(failure), "stderr")
             self.stopped("exception", self.shown, str(failure))
         except Failure as failure:
-            self.wire.say(failure, "stderr")
+            self.wire.say(str(failure), "stderr")
             has_failed = True
         self.is_running = False
         if self.is_terminated:

@@ -20,11 +20,6 @@ def is_turn(tape, position):
     return next(tape.actions(position)).line == STEP
 
 
-def latest_turn(tape, number, position):
-    """Returns the position before the latest turn of a processor before a position; None if there is none."""
-    return next((at for at in reversed(range(position)) if tape.slot(at) == number and is_turn(tape, at)), None)
-
-
 class Debugged:
     """What a session that is debugged has beside its run: its scouts, the hits of its breakpoints, and its state as it was when it was last
     looked at."""

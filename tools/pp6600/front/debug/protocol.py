@@ -8,6 +8,7 @@ import sys
 import threading
 
 from ...failure import Failure
+from ...shell.ending import shown_text
 from ...shell.text_files import named
 
 NO_MESSAGE = "what the editor wrote is no message: it"
@@ -86,7 +87,7 @@ class Wire:
 
     def say(self, text, category="console"):
         """Shows a line to the user."""
-        self.event("output", category=category, output=f"{text}\n")
+        self.event("output", category=category, output=f"{shown_text(text)}\n")
 
     def note(self, mark, message):
         if self.log:

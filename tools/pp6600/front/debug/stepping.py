@@ -3,10 +3,8 @@
 A step by lines goes over waits, block transfers and subroutines. A subroutine ends where P is the address that its entry has then, so
 one that counts its return address up ends too."""
 
-from ...language.calls import call_of, has_returned
-from ...run.conditions import RJM
 from ...run.forms import CELLS
-from .debugged import latest_turn
+from ...run.subroutines import RJM, calls_at
 from .stops import Aim
 
 ALL_CELLS = frozenset(range(CELLS))
@@ -32,7 +30,7 @@ class Stepper:
 
     def latest_turn(self, position):
         """Returns the position before the processor's latest turn before a position; None if there is none."""
-        return latest_turn(self.machine.tape, self.number, position)
+        return self.machine.tape.latest_turn(self.number, position)
 
     # ---- forward
 
@@ -77,11 +75,13 @@ class Stepper:
         return stop
 
     def entry_of_call(self):
-        """Returns the address of the entry of the subroutine that the processor is in; None if it was not called, or a block is on."""
-        position, processor = self.machine.position, self.processor
-        jump = self.source.subroutine_of(processor.p) if self.source and not processor.phase else None
-        call = call_of(self.scout, self.number, jump, position) if jump is not None else None
-        return jump + 1 if call and not has_returned(self.scout, self.number, call, position) else None
+        """Returns the address of the entry of the subroutine that the processor is in; None if it is in none, or a block is on."""
+        calls = [] if self.processor.phase else self.calls(self.machine.position)
+        return calls[-1].entry if calls else None
+
+    def calls(self, position):
+        """Returns the calls of the processor that have not returned at a position, the innermost last."""
+        return calls_at(self.scout, self.number, self.source.entries().values(), position) if self.source else []
 
     # ---- back
 
@@ -109,5 +109,5 @@ class Stepper:
         """Returns the position before the call of the subroutine that the turn at a position ended; else that position."""
         processor = self.processor_at(at)
         is_return = not processor.phase and processor.p in self.source.entries() and self.source.is_loaded(processor.p, processor.words[0])
-        call = call_of(self.scout, self.number, processor.p, at) if is_return else None
-        return call.rjm.position - 1 if call else at
+        calls = self.calls(at) if is_return else []
+        return next((call.position - 1 for call in reversed(calls) if call.entry == (processor.p + 1) % CELLS), at)

@@ -3,21 +3,22 @@
 A position is the machine between two actions. At it a processor has come to a breakpoint if its turn is next, its P is there, it
 is in no block transfer, and before its latest turn it was elsewhere. So a processor that waits comes there once. A position after a
 setting, at which the same processor is where it was before that, is not another one. A place changes by a turn or by a setting:
-the stop is after that. A scout looks where the processors are, and at the places, after each of many turns at once; what a setting does
-is seen by a look after it.
+the stop is after that. A scout makes turns up to the next one in which a processor comes to an address or a place changes; what a setting
+does is seen by a look after it.
 
 A condition is judged where the processor has come to the breakpoint, and of a data breakpoint after the change. That a number changes, or
 that a processor waits, is judged after the latest turn."""
 
-from itertools import chain, groupby, repeat
+from itertools import chain, groupby
 from typing import FrozenSet, NamedTuple, Optional, Tuple
 
 from ...engine import interface as flat
-from ...run.conditions import Changes, Waits
-from ...run.forms import CELLS, MOST_WATCHES, PROCESSORS, Place
-from ...run.search import Looks
+from ...engine.interface import CHANGES, Form
+from ...run.conditions import Waits, is_written
+from ...run.forms import CELLS, PROCESSORS, Place
+from ...run.search import TurnFinder, arrivals, holds_in_latest, is_met, ranges_of, waits
 from .breakpoints import ProcessorCell
-from .debugged import is_turn, latest_turn
+from .debugged import is_turn
 from .terms import Terms
 
 
@@ -62,15 +63,15 @@ class StopSearch:
             self.addresses.setdefault(number, set()).add(address)
         # By processor the cell of an address that is one too.
         self.entries = {aim.processor: flat.CELLS + CELLS * aim.processor + aim.entry} if aim and aim.entry is not None else {}
-        registers = [first + number for number in self.addresses for first in (flat.P, flat.PHASE)]
-        self.looked = list(dict.fromkeys([*self.numbers, *registers, *self.entries.values()]))
+        self.fixed = [[Form(CHANGES, place, size)] for place, size in ranges_of(self.numbers)]
+        for number, addresses in self.addresses.items():
+            self.fixed += arrivals(number, addresses)
 
     def stops(self, first, last):
         """Yields the stops after a position, up to a later one, in their order, those of one position together. Turns alone are between,
         or one other action."""
-        if self.looked:
-            can_watch = not self.addresses and len(self.places) <= MOST_WATCHES and last - first > self.scout.history.room
-            by = self.by_setting if not is_turn(self.tape, first) else self.by_watches if can_watch else self.by_turns
+        if self.fixed or self.entries:
+            by = self.by_turns if is_turn(self.tape, first) else self.by_setting
             yield from filter(None, map(self.judged, by(first, last)))
 
     def at(self, position):
@@ -82,25 +83,29 @@ class StopSearch:
         found = [stop for number in self.addresses for stop in self.came(number, first) if stop.position > first]
         scout.goto(first)
         while scout.position < last:
-            before = {place: self.number(place) for place in self.looked}
-            looks = Looks(scout, self.looked, min(last - scout.position, scout.history.room))
+            is_found = self.finder().next(scout, min(last - scout.position, scout.history.room))
             here = scout.position
-            found = sorted([*found, *self.changes(looks, before), *self.arrivals(looks, before)],
-                           key=lambda stop: (stop.position, not stop.place))
+            found = sorted([*found, *(self.after_turn(here) if is_found else ())], key=lambda stop: (stop.position, not stop.place))
             for _, some in groupby([stop for stop in found if stop.position <= here], lambda stop: stop.position):
                 yield some
             found = [stop for stop in found if stop.position > here]
             scout.goto(here)
 
-    def by_watches(self, first, last):
-        """As `by_turns`, of changes alone: a scout of its own watches the places, which is faster."""
-        scout = self.machine.scout(f"watches of {self.name}")
-        scout.goto(first)
-        scout.watch([place.short for place in self.places])
-        while scout.position < last:
-            before = [scout.engine.numbers(place, 1)[0] for place in self.numbers]
-            scout.go_on(last)
-            yield self.changed(scout.position, before, [scout.engine.numbers(place, 1)[0] for place in self.numbers])
+    def finder(self):
+        """Returns what finds the next turn after which there may be a stop. Where an entry leads may change, and is seen anew."""
+        entries = [[is_written(cell)] for cell in self.entries.values()]
+        for number, cell in self.entries.items():
+            entries += arrivals(number, {self.number(cell)})
+        return TurnFinder([*self.fixed, *entries])
+
+    def after_turn(self, position):
+        """Returns the stops that the turn before a position makes: after the change of a place, and before the processor's next turn."""
+        number = self.tape.slot(position - 1)
+        self.scout.goto(position - 1)
+        before, was = list(map(self.number, self.numbers)), self.where(number)
+        self.scout.goto(position)
+        came = [Stop(position + PROCESSORS - 1, number, address) for address in self.arrived(number, was)]
+        return [*self.changed(position, before, map(self.number, self.numbers)), *came]
 
     def by_setting(self, position, _):
         (was, *before), (now, *after) = self.seen(position), self.seen(position + 1)
@@ -125,40 +130,25 @@ class StopSearch:
 
     def came(self, number, position):
         """Yields the stop before the next turn of a processor, if it came to a breakpoint by its latest turn before a position."""
+        at = self.tape.latest_turn(number, position)
         if number not in self.addresses:
             return
-        self.scout.goto(position)
-        (p, phase), at = self.where(number), latest_turn(self.tape, number, position)
-        if phase or not (p in self.addresses[number] or number in self.entries and p == self.number(self.entries[number])):
-            return
+        was = None
         if at is not None:
             self.scout.goto(at)
-        if at is None or self.where(number) != (p, phase):
-            yield Stop(position + (number - self.tape.slot(position)) % PROCESSORS, number, p)
+            was = self.where(number)
+        self.scout.goto(position)
+        for address in self.arrived(number, was):
+            yield Stop(position + (number - self.tape.slot(position)) % PROCESSORS, number, address)
 
-    def arrivals(self, looks, before):
-        """Yields the stops before the next turns of processors that come to a breakpoint in some turns. Where they were before is known."""
-        for number, addresses in self.addresses.items():
-            places = flat.P + number, flat.PHASE + number
-            p, phases = (looks.own(number, place) for place in places)
-            if number not in self.entries and addresses.isdisjoint(p):
-                continue
-            entries = looks.own(number, self.entries[number]) if number in self.entries else repeat(None)
-            last, first = tuple(map(before.get, places)), looks.first_own(number) + PROCESSORS
-            for at, (*where, entry) in enumerate(zip(p, phases, entries)):
-                was, last = last, tuple(where)
-                if was != last and not last[1] and (last[0] in addresses or last[0] == entry):
-                    yield Stop(looks.position(first + PROCESSORS * at), number, last[0])
+    def arrived(self, number, was):
+        """Yields the address of a breakpoint at which a processor is, if it was elsewhere."""
+        p, phase = self.where(number)
+        if (p, phase) != was and not phase and number in self.addresses:
+            if p in self.addresses[number] or number in self.entries and p == self.number(self.entries[number]):
+                yield p
 
     # ---- what changes
-
-    def changes(self, looks, before):
-        """Yields the stops after changes in some turns. What the numbers were before is known."""
-        for place, number in zip(self.places, self.numbers):
-            values = looks.columns[number]
-            if values.count(before[number]) < len(values):
-                pairs = enumerate(zip(chain((before[number],), values), values), 1)
-                yield from (self.change(looks.position(at), place, was, now) for at, (was, now) in pairs if was != now)
 
     def changed(self, position, before, after):
         """Returns the stops at a position after the changes of all places that had other numbers before."""
@@ -195,18 +185,11 @@ class StopSearch:
     def holds(self, point, position):
         """Returns whether the condition of a breakpoint holds at a position."""
         condition = point.terms.condition
-        return condition is None or all(self.test_holds(test, position) for test in condition.tests)
+        return condition is None or any(all(self.test_holds(test, position) for test in one.tests) for one in condition.alternatives)
 
     def test_holds(self, test, position):
+        self.scout.goto(position)
         if isinstance(test, Waits):
-            at = latest_turn(self.tape, test.number, position)
-        elif isinstance(test, Changes):
-            at = position - 1 if position and is_turn(self.tape, position - 1) else None
-        else:
-            self.scout.goto(position)
-            return test.begin(self.scout)
-        if at is None:
-            return False
-        self.scout.goto(at)
-        test.begin(self.scout)
-        return bool(test.verdicts(Looks(self.scout, test.places, 1))[-1])
+            return waits(self.scout, test.number)
+        is_after_turn = position and is_turn(self.tape, position - 1)
+        return any(is_met(self.scout, [form]) or is_after_turn and holds_in_latest(self.scout, [form]) for form in test.forms)

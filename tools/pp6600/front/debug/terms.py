@@ -11,8 +11,7 @@ from itertools import chain
 from typing import Callable, NamedTuple, Optional
 
 from ...failure import Failure
-from ...run.conditions import first_place, parsed
-from ...run.search import Column, Condition
+from ...run.conditions import Column, Condition, first_place, parsed
 
 SIGNS = {"=": operator.eq, "==": operator.eq, ">": operator.gt, ">=": operator.ge, "<": operator.lt, "<=": operator.le,
          "%": lambda count, number: count % number == 0}

@@ -4,8 +4,8 @@ import re
 
 from ...failure import Failure
 from ...language.names import AllSymbols
+from ...run.conditions import Column
 from ...run.forms import KINDS, PROCESSORS, REGISTERS, Place
-from ...run.search import Column
 from .breakpoints import ProcessorCell, checked
 from .terms import of_processor
 

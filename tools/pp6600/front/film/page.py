@@ -4,6 +4,7 @@ recorded in it: opening it performs the script."""
 from __future__ import annotations
 
 import base64
+import hashlib
 import html
 import json
 import os
@@ -22,13 +23,10 @@ from ...run.turn import (
     AT_END_OF_BLOCK, AT_END_OF_INPUT, IN_BLOCK, INSTRUCTIONS, NAMES, RELATIVE_JUMPS, STATE_LETTERS, TWO_WORDS, WAITS_FOR)
 from ...shell.options import given_options, in_words
 from ..keys import for_page
+from .joining import joined
 
 WEB = os.path.join(os.path.dirname(os.path.abspath(__file__)), "web")
-# The scripts, in the order in which they are joined: of the page and its worker, of the worker, of the page.
-SCRIPTS = {"shared": ("layout", "turns", "library"),
-           "engine": ("simulator", "recorder", "conditions", "session", "worker"),
-           "view": ("elements", "rows", "places", "engine", "machine", "program", "source", "pictures", "origin",
-                    "lanes", "barrel", "exercises", "editing", "console", "assembler", "keys", "controls")}
+FIRST = {"engine": os.path.join(WEB, "engine", "worker.js"), "view": os.path.join(WEB, "page", "main.js")}  # modules of the worker and of the page
 
 
 class Files(NamedTuple):
@@ -40,11 +38,19 @@ class Files(NamedTuple):
 
 
 def page(title: str, module: bytes, about: Dict[str, Any]) -> str:
-    """Returns the page; `module` is the simulator, and `about` what the page has to know, as JSON takes it."""
-    parts = {"<!--title-->": html.escape(title), "/*--style--*/": web("page.css"), "<!--simulator-->": packed(module),
-             "<!--film-->": packed(json.dumps(about, separators=(",", ":")).encode("ascii")),
-             **{f"/*--{name}--*/": "\n\n".join(web(f"{one}.js") for one in names) for name, names in SCRIPTS.items()}}
-    return re.sub("|".join(map(re.escape, parts)), lambda mark: parts[mark[0]], web("page.html")) + "\n"
+    """Returns the page; `module` is the simulator, and `about` what the page has to know, as JSON takes it. What the browser keeps of it
+    is kept under the checksum of `about`."""
+    data = json.dumps({**about, "title": title}, separators=(",", ":")).encode("ascii")
+    scripts = {name: f"\n{text}" for name, text in joined(FIRST).items()}
+    engine = packed(scripts.pop("engine").encode("utf-8"))
+    parts = {"title": html.escape(title), "sum": hashlib.sha256(data).hexdigest()[:16], "style": web("page.css"), "film": packed(data),
+             "simulator": packed(module), "engine": engine, **scripts, "scripts": " ".join(f"'sha256-{checksum(scripts[name])}'" for name in ("shared", "view"))}
+    return re.sub(r"<!--(\w+)-->|/\*--(\w+)--\*/", lambda mark: parts[mark[1] or mark[2]], web("page.html")) + "\n"
+
+
+def checksum(script: str) -> str:
+    """Returns what a browser compares with a script that it is allowed to run."""
+    return base64.b64encode(hashlib.sha256(script.encode("utf-8")).digest()).decode("ascii")
 
 
 def web(name: str) -> str:

@@ -20,7 +20,7 @@ from .key_lines import LINES, help_lines, to_turn
 from .picture_page import PicturePage, devices_that
 from .prompt import Prompt
 from .remarks import in_width, remarks
-from .screen import LEAST_COLUMNS, LEAST_ROWS, ScreenContent, is_too_small, layout, log_lines, screen
+from .screen import LEAST_COLUMNS, LEAST_ROWS, ScreenContent, folded_processors, is_too_small, layout, log_lines, screen
 from .text import MarkedLine
 from .text_page import TextPage
 from .view import View
@@ -86,7 +86,8 @@ class Panel:
         self.see()
 
     def memory_rows(self):
-        return layout(self.columns, self.rows, self.view.is_by_rows).memory
+        folded = folded_processors(self.columns, self.session.state, self.session.before, self.view)
+        return layout(self.columns, self.rows, self.view.is_by_rows, len(folded)).memory
 
     def source(self, is_needed=True):
         """Returns the source of the chosen processor, if it has one; else None, or a failure if an action needs it."""

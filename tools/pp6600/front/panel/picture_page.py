@@ -31,6 +31,8 @@ class PicturePage(TextPage):
     def texts(self, columns, rows):
         """Yields the lines of all pictures, each as large as it can be seen whole."""
         def draw(picture):
+            if not picture.screens:  # the end of a page of paper
+                return picture.lines[-max(rows - 4, 1):]
             return braille(picture, min(columns, (2 * (rows - 3) + 1) * len(picture.screens) - 1))
 
         for number, device in self.devices:

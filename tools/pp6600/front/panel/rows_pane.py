@@ -89,12 +89,13 @@ class Cells:
             found += [*(Entry(row, note=note) for note in notes), Entry(row, line)]
         return found
 
-    def window(self, top, address, count):
+    def window(self, top, address, count, is_centred=False):
         """Returns so many entries with a cell among them: from the top on if it is there with rows above it, else with some before it. The
-        top is the address of a row, and how many of its entries are above the window. Returns the top too."""
+        top is the address of a row, and how many of its entries are above the window. Returns the top too. The cell may have to be in the
+        middle."""
         first, above = top
         found = self.entries(rows_from(self.word, first, count + above, self))[above:above + count]
-        before = rows_above(next((at for at, entry in enumerate(found) if entry.has(address)), None), count, first)
+        before = rows_above(next((at for at, entry in enumerate(found) if entry.has(address)), None), count, first, is_centred)
         if before is None:
             return found, top
         found = self.entries(rows_around(self.word, address, before, count - before - 1, self))
@@ -144,13 +145,13 @@ def head_line(shown):
     number, cells, source = shown.view.processor, shown.view.rows, shown.view.source
     at = shown.symbols.name(number, cells.processor.registers["P"])
     where = f"in a block; returns to {cells.back:04o}" if cells.back is not None else f"P is {at}" if at else ""
-    more = "".join(f"   {text}" for text in (where, f"{os.path.basename(source.path)}, lines in decimal" if source else "") if text)
-    return MarkedLine(f"PP {number:02o}  {'SOURCE' if source else 'INSTRUCTIONS'}", HEAD).add(more)
+    name = f"SOURCE {os.path.basename(source.path)}" if source else "INSTRUCTIONS"
+    return MarkedLine(f"PP {number:02o}  {name}", HEAD).add(f"   {where}" if where else "")
 
 
 def rows_pane(shown, count, width):
     """Returns so many lines of the memory by rows, around P or the cursor, below a head."""
-    entries, _ = shown.view.rows.window(shown.view.top_of_rows, shown.view.cell, count)
+    entries, _ = shown.view.rows.window(shown.view.top_of_rows, shown.view.cell, count, shown.view.following)
     lines = (source_line(shown, entry, width) if entry.note or entry.line and entry.line.is_there else instruction_line(shown, entry)
              for entry in entries)
     return [line.fit(width) for line in (head_line(shown), *lines)]

@@ -63,13 +63,14 @@ class Layout(NamedTuple):
     log: int
 
 
-def layout(columns, rows, is_by_rows=False):
-    """Returns how a screen is divided. If memory is shown as instructions or a source, a line is below it."""
+def layout(columns, rows, is_by_rows=False, folded=0):
+    """Returns how a screen is divided. If memory is shown as instructions or a source, a line is below it. So many processors are one line,
+    whose rows the memory has."""
     spare, line = rows - LEAST_ROWS, int(is_by_rows)
     if columns >= WIDE:
         return Layout(True, rows - 2 - MACHINE_ROWS - line, 0, 4 + spare // 3, 0)
     memory, log = spare // 2, spare // 3
-    return Layout(False, 5 + memory, 2, 1 + spare - memory - log, 2 + log - line)
+    return Layout(False, 5 + memory + max(folded - 1, 0), 2, 1 + spare - memory - log, 2 + log - line)
 
 
 # ---- the parts of the machine
@@ -83,6 +84,32 @@ def is_idle(now, was, number):
         return False
     begin, count = (first.p, turns + 1) if turns <= CELLS // 2 else (last.p, CELLS - turns + 1)  # on, or back
     return not any(any((state.memories[number].numbers * 2)[begin:begin + count]) for state in (was, now))
+
+
+def folded_processors(columns, state, before, view):
+    """Returns the processors that are one line of a narrow screen with a source: those that only pass, but for the chosen one."""
+    if columns >= WIDE or view.shows_central:
+        return []
+    passes = lambda number, one: not one.phase and not state.memories[number].number(one.p) and is_idle(state, before, number)
+    return [number for number, one in enumerate(state.processors) if number != view.processor and passes(number, one)]
+
+
+def names_of(numbers):
+    """Returns the numbers of processors, as 01, 03 to 11."""
+    groups = []
+    for number in numbers:
+        if groups and groups[-1][-1] == number - 1:
+            groups[-1].append(number)
+        else:
+            groups.append([number])
+    return ", ".join(f"{group[0]:02o} to {group[-1]:02o}" if len(group) > 1 else f"{group[0]:02o}" for group in groups)
+
+
+def folded_line(shown, numbers):
+    """Returns the line of the processors that only pass; the slot is said if it is at one of them."""
+    slot = shown.state.slot
+    line = MarkedLine(">" if slot in numbers else " ", SLOT).add(f"{names_of(numbers)}: only passing")
+    return line.add(f", next is {slot:02o}") if slot in numbers else line
 
 
 def processor_line(shown, number):
@@ -150,10 +177,15 @@ def central_line(shown, address):
     return MarkedLine(f"{address:06o}").add("*" if changed else "w" if WATCHED in marks else " ", changed).add(now, changed, *marks)
 
 
-def machine_lines(shown, rows, width):
+def machine_lines(shown, rows, width, folded=()):
     """Returns processors, channels, devices, and so many rows of memory: that of the chosen processor with central memory beside it, or a
-    source in the whole width."""
+    source in the whole width, which begins beside the channels if some processors are one line."""
     view = shown.view
+    processors = [processor_line(shown, number) for number in range(PROCESSORS) if number not in folded]
+    left = [MarkedLine(" PP P    AT P          A      Q    PHASE  WAITS FOR", HEAD), *processors]
+    last = [sentence_line(shown)] if view.is_by_rows else []
+    if folded:
+        return source_beside(shown, [*left, folded_line(shown, folded)], rows, width) + last
     if not view.shows_central:
         memory = rows_pane(shown, rows, width)
     else:
@@ -161,9 +193,15 @@ def machine_lines(shown, rows, width):
         top = central_top(view.central_top, view.word, rows, shown.size)
         central = [MarkedLine("CENTRAL MEMORY", HEAD), *(central_line(shown, top + row) for row in range(rows))]
         memory = beside(cells, central, CENTRAL_FROM)
-    processors = [processor_line(shown, number) for number in range(PROCESSORS)]
-    head = MarkedLine(" PP P    AT P          A      Q    PHASE  WAITS FOR", HEAD)
-    return beside([head, *processors], channel_lines(shown), CHANNELS_FROM) + memory + ([sentence_line(shown)] if view.is_by_rows else [])
+    return beside(left, channel_lines(shown), CHANNELS_FROM) + memory + last
+
+
+def source_beside(shown, processors, rows, width):
+    """Returns the processors and so many rows of a source: the first ones beside the channels, the others in the whole width."""
+    channels = channel_lines(shown)
+    count = min(max(len(channels) - len(processors), 0), rows + 1)
+    narrow, wide = rows_pane(shown, rows, CHANNELS_FROM - 1)[:count], rows_pane(shown, rows, width)[count:]
+    return beside([*processors, *narrow], channels, CHANNELS_FROM) + wide
 
 
 # ---- watches, paper and the lines typed
@@ -240,7 +278,7 @@ def narrow_lines(shown, columns, parts):
     watches = watch_rows(shown, columns, parts.watches)
     log = log_rows(shown.log, parts.log + parts.watches - len(watches))
     paper = beside([paper_head(shown)], paper_lines(shown, parts.paper), 14)
-    return machine_lines(shown, parts.memory, columns) + watches + paper + log
+    return machine_lines(shown, parts.memory, columns, folded_processors(columns, shown.state, shown.before, shown.view)) + watches + paper + log
 
 
 def wide_lines(shown, columns, parts):
@@ -263,7 +301,7 @@ def screen(shown, columns, rows):
     """Returns the screen of a machine's state on a terminal of so many columns and rows."""
     if is_too_small(columns, rows):
         return small_screen(columns, rows)
-    parts = layout(columns, rows, shown.view.is_by_rows)
+    parts = layout(columns, rows, shown.view.is_by_rows, len(folded_processors(columns, shown.state, shown.before, shown.view)))
     middle = (wide_lines if parts.wide else narrow_lines)(shown, columns, parts)
     bottom, column = bottom_line(shown)
     lines = [line.fit(columns) for line in [title_line(shown, columns), *middle, bottom]]

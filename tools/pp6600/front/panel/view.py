@@ -131,7 +131,7 @@ class View:
         if self.following:
             self.cell = self.rows.present if self.is_by_rows else state.processors[self.processor].p
         if self.is_by_rows:
-            _, self.top_of_rows = self.rows.window(self.top_of_rows, self.cell, rows)
+            _, self.top_of_rows = self.rows.window(self.top_of_rows, self.cell, rows, self.following)
         else:
             self.top = memory_top(self.top, self.cell, rows)
         self.central_top = central_top(self.central_top, self.word, rows, size)

@@ -1,0 +1,288 @@
+// ---- a film: the numbers of the machine are one row, and each moment has the places that it changed with their numbers before and after.
+// Going to and fro computes no turn. Moments come from the worker, at the end.
+
+import { CELLS, CHANNELS, CLOCK, KINDS, PROCESSORS, layout, nameOf, octal, placeAt, placeIn, placeOf, range, setLayout,
+  watchesIn } from "./places.js";
+import { BLOCK, BUSY, IDLE, JUMP, LINE, ROWS, SKIP, WAITING, firstNot } from "./moments.js";
+import { BY_DEVICE, PART, instructionOf, isOfBlock, turning } from "./turns.js";
+
+export const NOT_RECORDED = -1; // in the place of a moment: it may lie in turns that were not recorded
+const MOST_CHANGES = 40; // of a moment that are named
+const isStarts = (name) => /starts$/i.test(name);
+export const countUpTo = (moments, moment) => firstNot(moments.length, (at) => moments[at] <= moment);
+const lastUpTo = (moments, moment) => moments[countUpTo(moments, moment) - 1] || 0;
+
+export class Film {
+  constructor(about) {
+    for (const [name, Kind] of Object.entries(ROWS)) this[name] = new Kind(isStarts(name) ? 1 : 0);
+    this.numbers = new Int32Array(setLayout(about.central));
+    Object.assign(this, { about, labels: about.labels || {}, count: 0, at: -1, highestTurn: 0, firstTurn: -1 });
+    this.lines = []; // each with its answer, and the moments from its first to its last
+    this.lineAt = new Int32Array(0); // of each moment the number of its line, -1 before the first
+    this.jumps = new Map(); // where BACK and FORWARD lead
+    this.breaks = []; // the moments of these, and of turns that were not recorded
+    this.settings = []; // the moments of lines that set a number of a processor
+    this.phases = range(PROCESSORS).map(() => []); // of each processor the moments that changed its phase
+    this.processorLanes = range(PROCESSORS).map(() => new Lane());
+    this.channelLanes = range(CHANNELS).map(() => new Lane());
+    this.used = new Set(); // the parts of the machine that not every run uses, of those that this one does
+    turning.open(about);
+  }
+
+  get last() { return this.count - 1; }
+  isTurn(moment) { return this.kinds[moment] < LINE; }
+
+  // ---- what has come
+
+  grow({ rows, lines }) {
+    if (this.count) this.goTo(this.last);
+    const first = this.count, firstLine = this.lines.length;
+    for (const [name, more] of Object.entries(rows)) this.append(name, more);
+    this.lines.push(...lines);
+    this.count += rows.kinds.length;
+    this.lineAt = longer(this.lineAt, this.count).fill(-1, first);
+    lines.forEach((line, at) => line.acts && this.lineAt.fill(firstLine + at, line.first, line.moment + 1));
+    this.noteFrom(first);
+    this.goTo(this.last);
+  }
+
+  // The worker counts starts from the beginning of its delivery.
+  append(name, more) {
+    const before = this[name].length, base = isStarts(name) ? this[name][before - 1] : 0;
+    this[name] = longer(this[name], before + more.length);
+    this[name].set(base ? more.map((one) => one + base) : more, before);
+  }
+
+  // Notes what the moments from a first one on are.
+  noteFrom(first) {
+    const { kinds, places, now, starts, turn, processor, processorLanes } = this;
+    for (let moment = first; moment < this.count; moment++) {
+      if (kinds[moment] < LINE) processorLanes[processor[moment]].goOn(moment, kinds[moment]);
+      else this.noteLine(moment, kinds[moment]);
+      if (turn[moment] > this.highestTurn) this.highestTurn = turn[moment];
+      for (let at = starts[moment]; at < starts[moment + 1]; at++) if (places[at] >= layout.phase) this.noteChange(moment, places[at], now[at]);
+    }
+    if (this.firstTurn < 0) this.firstTurn = kinds.findIndex((kind) => kind < LINE);
+  }
+
+  noteLine(moment, kind) {
+    if (kind === JUMP) this.jumps.set(moment, this.targetOf(moment));
+    if (kind >= JUMP) this.breaks.push(moment);
+    if (kind === LINE && this.processorSet(moment) >= 0) this.settings.push(moment);
+  }
+
+  noteChange(moment, place, now) {
+    const c = place - layout.states, n = place - layout.phase;
+    if (c >= 0 && c < CHANNELS) this.channelLanes[c].goOn(moment, now);
+    if (n >= 0 && n < PROCESSORS && this.kinds[moment] !== JUMP) this.phases[n].push(moment);
+    if (moment && place >= layout.frame && place < layout.reader) this.used.add("frame");
+    if (moment && place >= layout.central && place < layout.high && !this.used.has("central")) {
+      this.used.add("central");
+      this.firstWord = place - layout.central;
+    }
+  }
+
+  // The processor whose cell or register a line has set, or -1.
+  processorSet(moment) {
+    const [first] = this.places.subarray(this.starts[moment], this.starts[moment + 1]),
+      { kind = "", numbers = [] } = (first >= 0 && placeAt(first)) || {};
+    return ["M", "A", "P", "Q", "PHASE"].includes(kind) ? numbers[0] : -1;
+  }
+
+  // The moment to which a BACK or FORWARD leads: the latest that made the last action in effect.
+  targetOf(jump) {
+    const { kinds, position } = this, to = position[jump];
+    for (let at = jump; at > 0; at--) {
+      if (kinds[at] !== JUMP && position[at - 1] < to && to <= position[at]) return position[at] === to ? at : NOT_RECORDED;
+    }
+    return 0;
+  }
+
+  // ---- to and fro
+
+  goTo(wanted) {
+    const moment = Math.max(0, Math.min(this.last, wanted)), { numbers, places, was, now, starts } = this;
+    for (let at = starts[this.at + 1]; at < starts[moment + 1]; at++) numbers[places[at]] = now[at];
+    for (let at = starts[this.at + 1] - 1; at >= starts[moment + 1]; at--) numbers[places[at]] = was[at];
+    this.at = moment;
+  }
+
+  // What a function returns at another moment.
+  atMoment(moment, ask) {
+    const here = this.at;
+    this.goTo(moment);
+    const answer = ask();
+    this.goTo(here);
+    return answer;
+  }
+
+  momentOfTurn(turn) { const moment = this.turn.indexOf(turn); return moment >= 0 ? moment : this.last; }
+
+  // The moment of the turns that were not recorded and lead over a number of turns, or of actions (a row); -1 if there is none.
+  skipOver(number, row = this.position) {
+    return this.breaks.find((at) => this.kinds[at] === SKIP && row[at - 1] < number && number < row[at]) ?? -1;
+  }
+
+  // The nearest moment in a direction for which something holds; -1 if there is none.
+  nearest(direction, holds) {
+    let at = this.at + direction;
+    while (at > 0 && at < this.count && !holds(at)) at += direction;
+    return at > 0 && at < this.count ? at : -1;
+  }
+
+  // ---- what is in effect at a moment
+
+  // The lines that lead to what is in effect at a moment, without what was taken back: texts, and counts of turns.
+  partsInEffect(moment) {
+    const { kinds, position } = this, parts = [];
+    for (let at = moment, left = position[moment]; left > 0; at--) {
+      const turns = left - position[at - 1];
+      if (kinds[at] === JUMP || turns <= 0) continue;
+      if (kinds[at] === LINE) parts.push(this.lineOf(at).text);
+      else if (typeof parts.at(-1) === "number") parts.push(parts.pop() + turns);
+      else parts.push(turns);
+      left -= turns;
+    }
+    return parts.reverse();
+  }
+
+  // The moment that a BACK or FORWARD leads to, else the moment itself.
+  resolve(moment) { while (moment > 0 && this.kinds[moment] === JUMP) moment = this.jumps.get(moment); return moment; }
+
+  // The latest change in effect at a moment, of those at these moments; 0 if there is none.
+  changeBefore(changes, moment) {
+    let at = this.resolve(moment);
+    while (at > 0) {
+      const end = lastUpTo(this.breaks, at), change = lastUpTo(changes, at);
+      if (change > end) return change;
+      if (this.kinds[end] === SKIP) return NOT_RECORDED;
+      at = this.resolve(end);
+    }
+    return at;
+  }
+
+  // The next change after a moment, or 0; and the line that takes that moment back before any, if one does.
+  changeAfter(changes, moment) {
+    const next = changes[countUpTo(changes, moment)] || 0, { breaks, kinds, position } = this;
+    for (let at = countUpTo(breaks, moment); at < breaks.length && (!next || breaks[at] <= next); at++) {
+      if (kinds[breaks[at]] === SKIP) return { next: NOT_RECORDED, cut: 0 };
+      if (position[breaks[at]] < position[moment]) return { next: 0, cut: breaks[at] };
+    }
+    return { next, cut: 0 };
+  }
+
+  // The moments from a first one on that changed one of the places, in their order.
+  momentsThatChanged(wanted, first = 1) {
+    const { places, starts, kinds } = this, found = [];
+    for (let moment = first, at = starts[first]; moment < this.count; moment++) {
+      let isChanged = false;
+      for (const end = starts[moment + 1]; at < end; at++) if (wanted.includes(places[at])) isChanged = true;
+      if (isChanged && kinds[moment] !== JUMP) found.push(moment);
+    }
+    return found;
+  }
+
+  // ---- numbers
+
+  number(kind, ...indices) { return this.numbers[placeOf(kind, ...indices)]; }
+  cell(n, address) { return this.numbers[n * CELLS + ((address + CELLS) % CELLS)]; }
+  channelState(c) { return c === CLOCK ? 2 : this.number("STATE", c); } // the clock is always full
+  placeNamed(text) { return placeIn(text, this.labels); }
+  watched() { return watchesIn(this.numbers).map(nameOf); } // the names of what is watched
+  text(place) { return this.textOf(place.kind, place.places.map((at) => this.numbers[at])); }
+
+  // The text of a number, from its halves or the one number.
+  textOf(kind, numbers) {
+    const { digits, modes } = KINDS[kind];
+    if (kind === "STATE") return this.about.states[numbers[0]][0];
+    return modes ? this.about.modes[modes][numbers[0]] : numbers.map((number) => octal(number, digits / numbers.length)).join("");
+  }
+
+  // ---- what a moment did
+
+  lineOf(moment) { return this.lines[this.lineAt[moment]]; }
+  turnOf(moment) { return instructionOf(this.turned[moment]); }
+  isBlock(moment) { return isOfBlock(this.turned[moment]); }
+
+  // The places that a moment changed, each with the number before and after it; none of a line that went to and fro.
+  changesOf(moment) {
+    const found = new Set();
+    for (let at = this.starts[moment]; moment && this.kinds[moment] !== JUMP && at < this.starts[moment + 1] && found.size < MOST_CHANGES; at++) {
+      const place = placeAt(this.places[at]);
+      if (place && place.kind !== "SLOT") found.add(place);
+    }
+    return [...found].map((place) => ({ place, was: this.textIn(moment, place, this.was), now: this.textIn(moment, place, this.now) }));
+  }
+
+  textIn(moment, { kind, places }, row) { return this.textOf(kind, places.map((at) => this.numberIn(moment, at, row))); }
+
+  // The number of a place before or after the moment that is shown.
+  numberIn(moment, place, row) {
+    for (let at = this.starts[moment]; at < this.starts[moment + 1]; at++) if (this.places[at] === place) return row[at];
+    return this.numbers[place];
+  }
+
+  // The writes of a moment: each its number, a place, what it was, and the sources: each a place, and of a word its parts as bits, 0 for all.
+  writesOf(moment) {
+    const { writes, writeStarts } = this, found = [];
+    for (let at = writeStarts[moment], end; at < writeStarts[moment + 1]; at = end) {
+      end = at + 3 + writes[at + 2];
+      const sources = [...writes.subarray(at + 3, end)].map((one) => ({ place: one % PART, parts: Math.floor(one / PART) }));
+      found.push({ at, place: writes[at], what: writes[at + 1], sources });
+    }
+    return found;
+  }
+
+  changedByDevice(moment, place) { return this.writesOf(moment).some((one) => one.place === place && one.what & BY_DEVICE); }
+
+  // The word that a turn moved over a channel, or null.
+  wordMoved(moment) {
+    const isRegister = (place) => place >= layout.words && place <= layout.clock;
+    for (const { place, what, sources } of this.isTurn(moment) ? this.writesOf(moment) : []) {
+      const from = sources.length ? sources[0].place : -1, isOutput = isRegister(place);
+      if (what & BY_DEVICE || !(isOutput || isRegister(from))) continue;
+      return { channel: (isOutput ? place : from) - layout.words, isOutput, word: this.numberIn(moment, place, this.now) };
+    }
+    return null;
+  }
+
+  // Where the block transfer was issued that a processor is in after a moment; null if no turn that is known issued it.
+  issuedAt(n, moment) {
+    const at = this.changeBefore(this.phases[n], moment);
+    return at > 0 && this.isTurn(at) && this.processor[at] === n ? this.p[at] : null;
+  }
+
+  // The address of the instruction of a turn; in a block transfer of the one that began it, if that is known.
+  addressOf(moment) { return this.isBlock(moment) ? this.issuedAt(this.processor[moment], moment - 1) : this.p[moment]; }
+
+  // The next turn of a processor: its registers and its instruction.
+  next(n) { return turning.processor(this.numbers, n); }
+}
+
+// ---- lanes: the stretches of moments in which a processor or a channel is of one kind
+
+class Lane {
+  begins = [0];
+  kinds = [IDLE];
+  seen = new Set();
+  active = []; // of a processor the turns in which it did more than pass
+
+  goOn(moment, kind) {
+    this.seen.add(kind);
+    if (kind !== IDLE) this.active.push(moment);
+    if (this.kinds.at(-1) === kind) return;
+    this.begins.push(moment);
+    this.kinds.push(kind);
+  }
+}
+
+// A processor is quiet if it only passes or only waits.
+export const isQuiet = ({ seen }) => !seen.has(BUSY) && !seen.has(BLOCK) && !(seen.has(WAITING) && seen.has(IDLE));
+
+// Makes a row longer. Its room doubles, so that a film may grow a little at a time.
+function longer(row, size) {
+  if (row.buffer.byteLength >= size * row.BYTES_PER_ELEMENT) return new row.constructor(row.buffer, 0, size);
+  const more = new row.constructor(Math.max(size, 2 * row.length));
+  more.set(row);
+  return new row.constructor(more.buffer, 0, size);
+}

@@ -1,0 +1,40 @@
+// ---- lines of the console, and bytes as the characters of a text
+
+import { CELLS, PROCESSORS, octal, placeOf, range, register } from "./places.js";
+
+export const bytesOfText = (text) => Uint8Array.from(text, (letter) => letter.charCodeAt(0) & 0xff);
+export const linesIn = (text) => text.replace(/\n$/, "").split("\n").map((line) => line.replace(/\r$/, "")).slice(text ? 0 : 1);
+
+export const MOST_TURNS = 0o1000000, LONGEST_ANSWER = 40; // of one STEP; lines of an answer that are shown
+export const UNTIL = /^\s*(back\s+)?until\s+(.*)$/i; // a line of the page that is a search
+export const wordsIn = (line) => line.trim().toUpperCase().split(/\s+/);
+export const ofLines = (lines) => lines.map((line) => `${line}\n`).join("");
+
+// Lines that make so many turns.
+export function stepsOf(turns) {
+  const last = turns % MOST_TURNS;
+  return [...Array(Math.floor(turns / MOST_TURNS)).fill(`STEP ${octal(MOST_TURNS)}`), ...(last ? [`STEP ${octal(last)}`] : [])];
+}
+
+// A line with blanks in the place of its tabs.
+export const untabbed = (line) => line.split("\t").reduce((before, part) => before.padEnd((before.length >> 3) * 8 + 8) + part);
+
+// ---- the places that a line writes
+
+export const NO_TURN = 10; // in the place of a processor: an action that is no turn
+
+// The places that a SET or a DEADSTART writes, each with the number of its word in the line; at a dead start that of the panel's word, or
+// 0.
+export function placesOfSetting([command, kind, ...words]) {
+  const [first, address] = words.map((word) => parseInt(word, 8));
+  if (command === "DEADSTART") return placesOfDeadStart();
+  if (command !== "SET") return [];
+  if (kind === "M") return words.slice(2).map((_, at) => [placeOf("M", first, (address + at) % CELLS), 5 + at]);
+  if (kind === "H") return words.length > 2 ? [[placeOf("H", first), 5]] : [];
+  return [[placeOf(kind, first), 4]];
+}
+
+function placesOfDeadStart() {
+  const all = range(PROCESSORS), panel = range(0o16).map((at) => [at, at < 0o15 ? at : 0]);
+  return [...panel, ...all.slice(1).map((n) => [n * CELLS, 0]), ...all.flatMap((n) => [0, 1, 2].map((index) => [register(n, index), 0]))];
+}

@@ -1,0 +1,153 @@
+// ---- where a number came from: the steps by which it came to be in its place, from the writes of the moments of a film
+
+import { COLUMNS, four, isWord, layout, nameOf, octal, range, two } from "./places.js";
+import { LINE, SKIP } from "./moments.js";
+import { AT_END, BY_DEVICE, CONSTANTS, CONSTANT_FROM, MOVED } from "./turns.js";
+import { NOT_RECORDED } from "./film.js";
+import { lineText, turnText, whenText } from "./words.js";
+
+const MOST_STEPS = 32;
+const HAVE_AN_ORIGIN = ["M", "A", "P", "Q", "H", "C", "XP"];
+export const hasOrigin = (place) => place !== null && HAVE_AN_ORIGIN.includes(place.kind);
+
+// ---- steps
+
+// The latest write of a place in effect at a moment (null of the clock), and its moment: 0 if none, -1 if it may be in skipped turns.
+function lastWrite(film, place, moment) {
+  const { writeStarts, writes, places, starts } = film;
+  let at = film.resolve(moment);
+  for (; at > 0; at = film.resolve(at - 1)) {
+    const hasIt = writes.subarray(writeStarts[at], writeStarts[at + 1]).includes(place); // or reads it
+    const write = hasIt && film.writesOf(at).findLast((one) => one.place === place);
+    if (film.kinds[at] === SKIP) return { moment: NOT_RECORDED, write: null };
+    if (write) return { moment: at, write };
+    if (place !== layout.clock || !film.isTurn(at)) continue;
+    if (places.subarray(starts[at], starts[at + 1]).includes(place)) return { moment: at, write: null };
+  }
+  return { moment: at, write: null };
+}
+
+// The sources of a write, of which some parts are wanted.
+function sourcesOf({ place, what, sources }, wanted) {
+  if (!wanted || !(what & MOVED) || !isWord(place)) return sources;
+  if (sources.length > 1) return sources.filter((_, at) => wanted & (1 << at));
+  return sources.map((one) => ({ ...one, parts: one.parts ? one.parts & wanted : wanted })).filter(({ parts }) => parts);
+}
+
+const isOfP = (place) => place >= layout.P && place < layout.Q;
+const isTurnStep = (film, { moment, write }) => moment > 0 && film.isTurn(moment) && write !== null;
+export const isOfDevice = (film, step) => isTurnStep(film, step) && (step.write.what & BY_DEVICE) !== 0;
+
+// The write before it, if by the same instruction (in a block, of the same one), which computes the place from itself alone; or null.
+function isAgain(film, { moment, write }) {
+  const isComputed = (step) => isTurnStep(film, step) && !(step.write.what & (MOVED | BY_DEVICE));
+  const isOfItself = write && write.sources.length === 1 && write.sources[0].place === write.place;
+  if (!isOfItself || !isComputed({ moment, write }) || write.what >> CONSTANT_FROM) return null;
+  const before = lastWrite(film, write.place, moment - 1), { processor, turned, p } = film;
+  if (!isComputed(before) || processor[before.moment] !== processor[moment] || turned[before.moment] !== turned[moment]) return null;
+  const hasBegun = () => film.changeBefore(film.phases[processor[moment]], moment - 1) > before.moment; // or ended a block transfer since
+  return (film.turnOf(moment).isBlock ? !hasBegun() : p[before.moment] === p[moment]) ? before : null;
+}
+
+// The step that wrote a place, with the steps of its sources, the latest first, up to so many.
+function originOf(film, place, moment) {
+  const known = new Map(), root = { place, parts: 0, ...lastWrite(film, place, moment) }, open = [root];
+  const numberOfWrite = ({ write }) => (write ? write.at : -1);
+  for (let count = 0; open.length && count < MOST_STEPS;) {
+    open.sort((one, other) => one.moment - other.moment || numberOfWrite(one) - numberOfWrite(other));
+    const link = open.pop(), key = `${link.place} ${link.moment} ${link.parts}`;
+    link.step = known.get(key);
+    if (link.step) continue;
+    link.step = { ...link, step: null, links: [], times: 1, earliest: link.moment };
+    known.set(key, link.step);
+    if (!isTurnStep(film, link.step)) continue;
+    count++;
+    follow(film, link.step);
+    open.push(...link.step.links);
+  }
+  return root;
+}
+
+// Notes the sources of a step. It is one step with those before it in which the same instruction counted the same place.
+function follow(film, step) {
+  for (let before = isAgain(film, step); before; before = isAgain(film, before)) {
+    step.times++;
+    step.earliest = before.moment;
+  }
+  const sources = isOfDevice(film, step) ? [] : sourcesOf(step.write, step.parts);
+  step.links = sources.map((source) => ({ ...source, ...lastWrite(film, source.place, step.earliest - 1) }));
+}
+
+// The card and the column that the reader put on its channel in a turn, or null.
+function columnOf(film, step) {
+  const [source] = isOfDevice(film, step) ? step.write.sources : [], at = source && source.place - layout.deck;
+  return source ? { card: Math.floor(at / COLUMNS), column: at % COLUMNS } : null;
+}
+
+// ---- in words
+
+function sourceText({ place, parts }) {
+  const some = range(5).filter((part) => parts & (1 << part));
+  return isWord(place) && parts ? `${nameOf(place)} part ${some.join(" ")}` : nameOf(place);
+}
+
+// The constant of a write, in words; or "".
+export function constantText(film, moment, { what }) {
+  const { word, second } = film.turnOf(moment), name = CONSTANTS[what >> CONSTANT_FROM], d = two(word & 0o77);
+  const texts = { d, m: second, dm: d + second };
+  if (name in texts) return `the constant ${texts[name]}`;
+  return { return: "the return address", "no word": "zero, past the last central word" }[name] || name;
+}
+
+// What wrote a step's number, in words.
+function causeText(film, sources, step) {
+  const { moment, write } = step, when = whenText(film, Math.max(0, moment));
+  if (moment < 0) return "written in turns that were not recorded, or never";
+  if (moment === 0) return isOfP(step.place) && film.numbers[step.place] ? "never written, it only went on" : "never written";
+  if (film.kinds[moment] === LINE) return `${when}, ${lineCause(film, moment, write.what)}`;
+  if (!write) return `${when}, the clock`;
+  const column = columnOf(film, step);
+  if (column) return `${when}, the card reader, card ${four(column.card)} column ${octal(column.column, 3)}`;
+  if (isOfDevice(film, step)) return `${when}, the status of the ${film.about.devices[step.place - layout.words]}`;
+  const times = step.times > 1 ? `, ${octal(step.times)} times since ${whenText(film, step.earliest)}` : "";
+  const names = [...step.links.map(sourceText), constantText(film, moment, write)].filter(Boolean).join(" and ") || "zero";
+  const verb = write.what & AT_END ? "at its end, of " : !(write.what & MOVED) ? "of " : step.links.length ? "from " : "";
+  return `${when}, ${turnText(film, sources, moment)}${times}, ${verb}${names}`;
+}
+
+// The line of the script that wrote a number, and the word in it.
+function lineCause(film, moment, word) {
+  const text = lineText(film, moment), isPanel = /^d/i.test(text), line = `line ${film.lineAt[moment] + 1}`;
+  if (isPanel) return `${line} (decimal) of the script: ${text}${word ? `, word ${word} (decimal) of the panel` : ""}`;
+  return `${line} word ${word} (decimal) of the script: ${text}`;
+}
+
+function textOfStep(film, sources, step, isNew) {
+  const name = nameOf(step.place), number = film.atMoment(Math.max(0, step.moment), () => film.text(film.placeNamed(name)));
+  return `${name} ${number}: ${isNew ? causeText(film, sources, step) : `as above, ${whenText(film, step.moment)}`}`;
+}
+
+// The lines of the origin of a place at the moment that is shown: each a step with its depth and its text, and what it is for. The source
+// at the same place goes on at the same depth. If the number is another one by now, as P that goes on, the first line has it too.
+export function originLines(film, sources, place) {
+  const at = place.places.at(-1), root = originOf(film, at, film.at), rows = []; // of 60 bits the lower half stands for the whole
+  const todo = [{ link: root, depth: 0, after: null }], seen = new Set();
+  while (todo.length) {
+    const { link, depth, after } = todo.pop(), { step = null } = link, isNew = step !== null && !seen.has(step);
+    const text = step ? textOfStep(film, sources, step, isNew) : `${nameOf(link.place)}: further back`;
+    const row = { step: step || link, depth, after, text, column: step && columnOf(film, step) };
+    rows.push(row);
+    if (!isNew) continue;
+    seen.add(step);
+    const same = step.links.length === 1 ? step.links : step.links.filter((one) => one.place === step.place).slice(-1);
+    const others = step.links.filter((one) => !same.includes(one)).reverse();
+    todo.push(...[...same, ...others].map((one, number) => ({ link: one, depth: depth + (number < same.length ? 0 : 1), after: row })));
+  }
+  rows[0].text += nowText(film, place, root.moment);
+  return rows;
+}
+
+function nowText(film, place, moment) {
+  const now = film.text(place);
+  return moment >= 0 && film.atMoment(moment, () => film.text(place)) !== now ? `; now ${now}` : "";
+}

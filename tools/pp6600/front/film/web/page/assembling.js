@@ -1,0 +1,86 @@
+// ---- the assembler of the page: what is typed as words, messages and a listing, the lines that load it, and what the page has to know of it
+
+import { ofLines, untabbed } from "../machine/lines.js";
+import { CELLS, octal } from "../machine/places.js";
+import { Assembler } from "../engine/library.mjs";
+
+const WRITTEN = { COMPLAINTS: 0, LISTING: 2, LINES: 3, NAMES: 4 }; // the forms of pp6600_assemble
+const NEAR = 0o77; // how far after a label an address is named by it, if the source does not fill it
+const LJM = 0o0100, RJM = 0o0200; // without an index
+export const NEW_SOURCE = ["          BASE   OCTAL", "          ORG    100", " START    LDN    0", "          UJN    *", "          END    START",
+  ""].join("\n");
+
+const linesOf = (text) => text.replace(/\n$/, "").split("\n");
+
+// A row of the listing that has words: the number of the source's line, its location, its origin, its words.
+function rowOfWords(text) {
+  const [number, location, origin, ...words] = text.split(" ").map((digits) => parseInt(digits, 8));
+  return { number, location: location % CELLS, origin: origin % CELLS, words };
+}
+
+// A message with its line and column. The library counts bytes, and the page letters.
+function messageOf(message, isFault, lines) {
+  const [, line, column, text] = /^(\d+):(\d+): (.*)$/s.exec(message), bytes = new TextEncoder().encode(lines[line - 1] ?? "");
+  return { line: Number(line), column: new TextDecoder().decode(bytes.subarray(0, column - 1)).length + 1, text, isFault };
+}
+
+export class Assembling {
+  // The texts of a system and of common decks come before what is assembled: their names and macros are there, their lines are not counted.
+  constructor(calls) { Object.assign(this, { assembler: new Assembler(calls), texts: new Map() }); }
+
+  before() { return ofLines([...this.texts.values()].flatMap(linesOf).filter((line) => !/^\s+(IDENT|END)\b/.test(line))); }
+
+  written(text, form) { return this.assembler.written("assemble", this.before() + text, form); }
+
+  // Returns the messages of a source, and the rows with words if nothing is wrong.
+  assembled(text) {
+    const before = this.before(), all = linesOf(before + text), shift = before.split("\n").length - 1;
+    const { lines: complaints, faults } = this.written(text, WRITTEN.COMPLAINTS);
+    const messages = complaints.map((line, at) => messageOf(line, at < faults, all)).map((one) => ({ ...one, line: one.line - shift }));
+    const rows = faults ? [] : this.written(text, WRITTEN.LINES).lines.map(rowOfWords).map((row) => ({ ...row, number: row.number - shift }));
+    return { messages, rows: rows.filter(({ number }) => number > 0), listing: faults ? "" : this.written(text, WRITTEN.LISTING).lines.join("\n") };
+  }
+
+  loadLines(text, n) { return this.assembler.written("load_lines", this.before() + text, n).lines; }
+  labelsOf(text, rows) { return labelsOf(linesOf(text), rows, this.written(text, WRITTEN.NAMES).lines); }
+}
+
+// A source as the page knows it, from its text and its rows.
+export function sourceOf(name, text, rows, twoWords) {
+  const firsts = new Map(rows.map(({ number, location }) => [number, location]).reverse());
+  const second = ({ words }, at) => (at === 0 && words.length === 2 && twoWords.includes(words[0] >> 6) ? words[1] : null);
+  const words = rows.flatMap((row) => row.words.map((word, at) => [row.number, row.location, row.origin, at, word, second(row, at)]));
+  return { name, lines: linesOf(text).map((line, at) => [untabbed(line), ...(firsts.has(at + 1) ? [firsts.get(at + 1)] : [])]), words };
+}
+
+// The names of addresses, the addresses of labels, the texts of lines by their addresses, and the cells of return addresses by their jumps.
+function labelsOf(lines, rows, names) {
+  const found = (text) => /^(?!Z\.[0-7]{4})(\S+)( =)? ([0-7]+)$/.exec(text); // not those of LOCAL, which are a macro's own
+  const all = names.map(found).filter(Boolean).map(([, name, equals, digits]) => ({ name, equals, number: parseInt(digits, 8) }));
+  const byNumber = (kind) => new Map(all.filter(({ equals }) => Boolean(equals) === kind).reverse().map(({ name, number }) => [number, name]));
+  const labels = byNumber(false), has = new Set(all.filter(({ equals }) => !equals).map(({ name, number }) => `${name} ${number}`));
+  const exits = all.filter(({ name, equals, number }) => !equals && has.has(`${name}X ${number - 1}`)).map(({ number }) => number - 1);
+  const called = new Set(rows.filter(({ words }) => words[0] === RJM).map(({ words }) => words[1]));
+  const jumps = rows.filter(({ words, location }) => words[0] === LJM && called.has(location + 1)).map(({ location }) => location);
+  const words = rows.flatMap((row) => row.words.map((_, at) => ({ ...row, at })));
+  const begun = (some, first) => [...new Map(some.map((word) => [word[first] + word.at, word]))].filter(([, { at }]) => !at)
+    .map(([address, { number, words: [word] }]) => [address, [word, untabbed(lines[number - 1]).trim()]]);
+  return {
+    names: namesOf(labels, byNumber(true), new Set(words.map(({ location, at }) => location + at))),
+    addresses: Object.fromEntries([...labels].map(([number, name]) => [name, number])),
+    texts: Object.fromEntries([...begun(words, "origin"), ...begun([...words].reverse(), "location")]),
+    entries: [...new Set([...exits, ...jumps])].map((address) => [address, address + 1]),
+  };
+}
+
+// The name of each address: by the label before it, if this is near or the cell is filled, or else by a number's name.
+function namesOf(labels, numbers, filled) {
+  const names = {};
+  for (let address = 0, last = -1; address < CELLS; address++) {
+    if (labels.has(address)) last = address;
+    const isNear = last >= 0 && (address - last <= NEAR || filled.has(address)), more = address > last ? `+${octal(address - last)}` : "";
+    const name = isNear ? labels.get(last) + more : numbers.get(address);
+    if (name) names[address] = name;
+  }
+  return names;
+}

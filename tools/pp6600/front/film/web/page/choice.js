@@ -1,0 +1,112 @@
+// ---- what is chosen and what is seen of it: a number, the windows of memory and of the run. Each function returns a change of the state
+
+import { CELLS, KINDS, PROCESSORS, layout, placeWith, range } from "../machine/places.js";
+import { isQuiet } from "../machine/film.js";
+import { headsOf, topWith } from "../machine/program.js";
+
+const CENTRAL_ROWS = 8;
+export const rowsOf = ({ room }) => room.memoryRows || 16;
+
+// The processor that memory follows: that of the latest turn that did more than pass, of those that do not only wait; or one that a line
+// has set.
+function followed({ film }, before) {
+  const turns = range(PROCESSORS).map((n) => [isQuiet(film.processorLanes[n]) ? 0 : film.changeBefore(film.processorLanes[n].active, film.at), n]);
+  const [latest, n] = turns.reduce((one, other) => (other[0] > one[0] ? other : one)), line = film.changeBefore(film.settings, film.at);
+  if (line > latest) return film.processorSet(line);
+  return latest > 0 ? n : film.count > 1 ? before : 0;
+}
+
+// The window moved, if it does not have an address, so that a third of its rows come before it.
+function windowWith(state, n, address) {
+  const { memory } = state, rows = rowsOf(state), isIn = n === memory.n && (address - memory.first + CELLS) % CELLS < 8 * rows;
+  return isIn ? memory.first : (address - 8 * Math.min(4, Math.floor(rows / 3)) + CELLS) & 0o7770;
+}
+
+// The address that memory shows: the cell that changed, else where the processor is; or the chosen cell.
+function addressSeen({ film, memory, chosen }, n) {
+  if (!memory.follows && chosen && chosen.kind === "M") return chosen.numbers[1];
+  const changed = memory.as === "numbers" && film.changesOf(film.at).find(({ place }) => place.kind === "M" && place.numbers[0] === n);
+  return changed ? changed.place.numbers[1] : film.number("P", n);
+}
+
+// The windows of memory and of the run, moved as little as needed to have what is to be seen.
+export function viewAt(state) {
+  const { film, memory } = state, n = memory.follows ? followed(state, memory.n) : memory.n, address = addressSeen(state, n);
+  if (memory.isHeld) return { span: spanAt(state) };
+  const heads = memory.as === "numbers" ? [] : headsOf(film, n), next = { ...memory, n, first: windowWith(state, n, address) };
+  if (memory.as !== "numbers") next.top = topWith(film, n, memory.top, memory.follows ? heads[1] ?? address : address, rowsOf(state), heads);
+  return { memory: next, span: spanAt(state) };
+}
+
+// The part of the run that is shown. The whole run has room at its end, so that its scale stays a while.
+function spanAt({ film, zoom, span }) {
+  const step = 1 << Math.max(0, 25 - Math.clz32(film.count)), whole = Math.max(8, Math.ceil(film.count / step) * step);
+  if (!zoom || zoom >= film.count) return span.from === 0 && span.to === whole ? span : { from: 0, to: whole };
+  if (span.to - span.from === zoom && film.at >= span.from && film.at < span.to) return span;
+  const from = Math.max(0, Math.min(film.count - zoom, film.at - (zoom >> 1)));
+  return { from, to: from + zoom };
+}
+
+// The source that is seen: that of the processor that was chosen last, of those that have one, else the first.
+export const sourceSeen = ({ sources, sourceOf }) => sources.get(sourceOf) || sources.values().next().value;
+const sourceWith = ({ sources, sourceOf }, n) => ({ sourceOf: sources.has(n) ? n : sourceOf });
+
+// ---- a number
+
+export function choose(state, place) {
+  const changes = place ? state.film.momentsThatChanged(place.places) : [],
+    chosen = { chosen: place, changes, origin: null, setting: null, wrong: {} };
+  if (place && place.kind === "M") return { ...chosen, ...windowOn({ ...state, ...chosen }, place) };
+  if (!place || place.kind !== "C") return chosen;
+  const [address] = place.numbers, { first } = state.central, isIn = address >= first && address < first + CENTRAL_ROWS;
+  return { ...chosen, central: { first: isIn ? first : Math.max(0, Math.min(address, layout.size - CENTRAL_ROWS)) } };
+}
+
+// The window of memory at a cell; it does not follow the turns.
+function windowOn(state, { numbers: [n] }) {
+  const memory = { ...state.memory, follows: false, isHeld: false, n, first: windowWith(state, ...state.chosen.numbers) };
+  return { ...viewAt({ ...state, memory }), ...sourceWith(state, n) };
+}
+
+export const follow = (state) => viewAt({ ...state, memory: { ...state.memory, follows: true, isHeld: false } });
+export function chooseNone(state) {
+  const none = { chosen: null, changes: [], origin: null, setting: null };
+  return { ...none, ...follow({ ...state, ...none }) };
+}
+
+export function chooseProcessor(state, n) {
+  const memory = { ...state.memory, n, follows: false, isHeld: false };
+  return { ...viewAt({ ...state, chosen: null, memory }), ...sourceWith(state, n) };
+}
+
+export const showAs = (state, as) => viewAt({ ...state, memory: { ...state.memory, as, isHeld: false } });
+
+// Memory from another row on, as a wheel asks for it.
+export function scrolled(state, rows) {
+  const { memory } = state, far = memory.as === "numbers" ? 8 * rows : rows;
+  return { memory: { ...memory, follows: false, isHeld: true, first: (memory.first + far + CELLS) & 0o7770,
+    top: (memory.top + far + CELLS) % CELLS } };
+}
+
+// A number beside the chosen one: of a cell or a central word that with the address beside; null of another.
+export function placeBeside({ chosen, memory, film }, right, down) {
+  if (!chosen) return placeWith("M", memory.n, film.number("P", memory.n));
+  const { kind, numbers } = chosen, far = kind === "M" && memory.as === "numbers" ? 8 : 1, size = KINDS[kind].sizes.at(-1);
+  if (kind !== "M" && kind !== "C") return null;
+  return placeWith(kind, ...numbers.slice(0, -1), (numbers.at(-1) + right + far * down + size) % size);
+}
+
+// The changes around the moment that is shown: the latest; that to which "change before" goes, at the moment of a change the one before it;
+// the next, which may be the first at all; and the line that goes back before there is one.
+export function changesAround({ film, changes }) {
+  const last = film.changeBefore(changes, film.at), { next, cut } = film.changeAfter(changes, film.at);
+  const previous = last > 0 && last === film.at ? film.changeBefore(changes, film.at - 1) : last;
+  const first = changes.find((moment) => moment > film.at) || 0; // though the script goes back before it
+  return { last, previous, next: next || last ? next : first, isFirst: !last, cut };
+}
+
+export function toggled(set, one) {
+  const next = new Set(set);
+  if (!next.delete(one)) next.add(one);
+  return next;
+}

@@ -1,0 +1,75 @@
+// ---- exercises: each has its own session, which is kept; what is checked is the moment that is shown, in a session of its own
+
+import { ofLines } from "../machine/lines.js";
+import { four } from "../machine/places.js";
+import { panelIn } from "./files.js";
+import { sessionToGoOn } from "./kept.js";
+import { Part } from "./store.js";
+import { branchNow, newTree } from "./tree.js";
+
+const noteIn = (script, kind) => (new RegExp(`^\\* ${kind} (.*?)\\s*$`, "m").exec(script) || [])[1];
+
+export class Exercises extends Part {
+  named(name) { return this.state.exercises.find((one) => one.name === name); }
+
+  // The session with which an exercise begins. Its first line is a note that names it, and a second one has the panel.
+  beginning({ name, files, options }, panel = files.panel) {
+    const words = files.panel ? panelIn(panel) : null, notes = [`* EXERCISE ${name}`, ...(words ? [`* PANEL ${words.map(four).join(" ")}`] : [])];
+    return { script: ofLines(notes) + files.script, deck: files.deck, panel, options, exercise: name, sources: {}, labels: {} };
+  }
+
+  // The files of a run whose script begins an exercise: the deck and the options are those of the exercise.
+  withExercise(given) {
+    const one = this.named(noteIn(given.script, "EXERCISE"));
+    if (!one) return { ...given, exercise: null };
+    const { files, options, name } = one, panel = noteIn(given.script, "PANEL") || given.panel || files.panel;
+    return { ...given, deck: files.deck, panel, options, exercise: name, sources: {}, labels: {} };
+  }
+
+  // Goes to the session of an exercise: as it was left, or to its beginning.
+  goTo(name) {
+    const { session } = this;
+    return session.inTurn(async () => {
+      session.keepNow();
+      this.editor.keepNow();
+      const old = await sessionToGoOn(name), now = old && branchNow(old.tree).session;
+      this.update({ chosen: null, changes: [] });
+      const opened = now ? [now, old.tree, { moment: now.moment, isTrusted: true }] : [this.beginning(this.named(name)), newTree(name)];
+      const reply = await session.open(...opened);
+      if (reply.isFault) return;
+      this.update({ offer: null, panelText: session.given.panel || "" });
+      this.editor.open(0);
+    });
+  }
+
+  // Begins anew, beside what has been done: that stays in the tree.
+  again() {
+    const one = this.named(this.state.exercise), { panelText } = this.state;
+    if (one.files.panel && !panelIn(panelText)) return this.say("a panel is twelve words of four octal digits", true);
+    return this.session.beginBeside("begun again", this.beginning(one, panelText));
+  }
+
+  // Begins the session of a script that was dropped or came by a link, in the tree of its exercise.
+  async show(name, given) {
+    const whole = this.withExercise(given);
+    if (whole.exercise && whole.exercise !== this.state.exercise) await this.goTo(whole.exercise);
+    const isDone = await this.session.beginBeside(name, whole);
+    this.update({ panelText: whole.panel || "" });
+    return isDone;
+  }
+
+  // The answer is made of the settings in effect, and of the turns if the exercise's own script makes turns.
+  async check() {
+    const { film, exercise, solved } = this.state, { files, check, expected, isHidden } = this.named(exercise) || {};
+    if (!files) return this.say("choose an exercise first", true);
+    const makesTurns = /^\s*STEP\b/im.test(files.script), isPart = (part) =>
+      (typeof part === "number" ? makesTurns : /^\s*(SET|DEADSTART)\b/i.test(part));
+    const turn = film.turn[film.at], parts = film.partsInEffect(film.at).filter(isPart);
+    const { answer, said } = await this.session.client.ask("look", { given: this.session.files(), parts, text: check });
+    if (!answer) return this.say(said, true);
+    const wanted = expected.split("\n").slice(0, -1), found = answer.slice(-wanted.length);
+    const wrong = wanted.flatMap((line, at) => (line === found[at] ? [] : [{ wanted: isHidden ? "another line" : line, found: found[at] ?? "" }]));
+    this.update({ checked: { wrong, turn }, solved: wrong.length ? solved : { ...solved, [exercise]: true } });
+    return this.session.keepNow();
+  }
+}

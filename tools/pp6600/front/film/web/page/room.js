@@ -1,0 +1,20 @@
+// ---- how much room the window has: columns, rows of memory, and what is drawn by measure
+
+const PHONE = 700, THREE = 1180, FOUR = 1680, LOW = 740, MOST_ROWS = 64; // pixels; rows of memory
+
+export function windowNow() {
+  const width = innerWidth;
+  return { isPhone: width < PHONE, isLow: innerHeight < LOW, columns: width >= FOUR ? 4 : width >= THREE ? 3 : 2 };
+}
+
+// The sizes of the parts that are drawn by measure, as they are now.
+export function roomNow() {
+  const unit = parseFloat(getComputedStyle(document.documentElement).fontSize) / 14, part = (selector) => document.querySelector(selector);
+  const cells = part("#cells"), barrel = part('[data-room="barrel"]'), row = cells && cells.querySelector("tbody tr"),
+    head = cells && cells.querySelector("thead");
+  const rows = row ? Math.floor((cells.clientHeight - 6 - (head ? head.offsetHeight : 0)) / row.offsetHeight) : 16;
+  return { unit, timeline: part("#lanes")?.clientWidth, memory: cells?.clientWidth, memoryRows: Math.max(4, Math.min(MOST_ROWS, rows)),
+    barrel: barrel && barrel.clientWidth - 16, barrelHigh: barrel && barrel.clientHeight - 6 };
+}
+
+export const isSame = (one, other) => Object.keys(one).every((name) => one[name] === other[name]);

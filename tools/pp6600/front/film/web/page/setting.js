@@ -1,0 +1,36 @@
+// ---- a number that is set in its place: a text becomes the line that sets it
+
+import { CELLS, SETTABLE, addressIn, four, placeWith } from "../machine/places.js";
+
+export const canSet = (place) => place !== null && SETTABLE.includes(place.kind) && place.name !== "H 14";
+
+// The line that sets a place to a text; an error says what is wrong with it.
+export function settingLine(film, { kind, name, numbers }, text) {
+  const state = kind === "H" ? `${film.text(placeWith("STATE", ...numbers))} ` : "";
+  const words = kind === "M" && /^[a-z]/i.test(text) ? wordsOf(film, text.toUpperCase(), ...numbers).map(four).join(" ") : text;
+  return `SET ${name} ${state}${words}`;
+}
+
+// The words of one instruction at a cell: in the form in which the page has it, as FNC 12 0001 or UJN TO 0105; or with m first, as FNC 1,12.
+export function wordsOf(film, text, n, address) {
+  const { names, two_words: twoWords, relative_jumps: jumps } = film.about;
+  const [name, ...all] = text.replace(/^(\w+) +[0-7]+ +TO /, "$1 TO ").split(/[\s,]+/), code = names.indexOf(name);
+  if (code < 0) throw new Error(`${name} is no instruction, such as LDN 5, IAM 12 60 or UJN TO 105`);
+  const most = twoWords.includes(code) ? 2 : 1, numbers = all.filter((word) => word !== "TO").map((word) => addressIn(word, film.labels[n]));
+  if (numbers.includes(null) || numbers.length > most) throw new Error(`${name} takes ${most} octal numbers or labels`);
+  if (text.includes(",")) numbers.reverse();
+  if (jumps.includes(code) && (all[0] === "TO" || !/^[0-7]{1,2}$/.test(all[0]))) numbers[0] = distance(address, numbers[0]);
+  const [d = 0, m = 0] = most === 2 && numbers.length === 1 ? oneNumber(code, numbers[0]) : numbers;
+  if (d > 0o77 || m > 0o7777) throw new Error("d is 0 to 77, and m 0 to 7777");
+  return [(code << 6) | d, m].slice(0, most);
+}
+
+// The d and m of an instruction with two words and one number: of those with a constant of 18 bits this has both.
+const oneNumber = (code, number) => (code >= 0o20 && code < 0o24 ? [number >> 12, number & 0o7777] : [0, number]);
+
+// The d of a relative jump.
+function distance(from, to) {
+  const far = (to - from + CELLS + 0o37) % CELLS - 0o37;
+  if (far > 0o37) throw new Error(`${four(to)} is farther than 37 cells away`);
+  return far < 0 ? 0o77 + far : far;
+}

@@ -1,0 +1,22 @@
+// ---- the tree of branches: each has a name, the branch and the turn in which it began, its number of lines, and its session
+
+export const newTree = (name = "the run") => ({ now: 0, all: [{ id: 0, name, parent: null, from: null, lines: 0, session: null }] });
+const nextId = ({ all }) => 1 + Math.max(...all.map(({ id }) => id));
+export const branchNow = ({ all, now }) => all.find(({ id }) => id === now);
+
+// The tree with the present session put into its branch.
+export function withSession(tree, session, lines) {
+  return { ...tree, all: tree.all.map((one) => (one.id === tree.now ? { ...one, session, lines } : one)) };
+}
+
+// The tree with one more branch, in which the page is then: below the present one, or beside the first.
+export function withBranch(tree, name, from = null) {
+  const id = nextId(tree), parent = from === null ? null : tree.now;
+  return { now: id, all: [...tree.all, { id, name, parent, from, lines: 0, session: null }] };
+}
+
+// The branches of two trees; the page is where it is in the second one.
+export function joinedTrees(tree, other) {
+  const first = nextId(tree), moved = (id) => (id === null ? null : id + first);
+  return { now: moved(other.now), all: [...tree.all, ...other.all.map((one) => ({ ...one, id: moved(one.id), parent: moved(one.parent) }))] };
+}

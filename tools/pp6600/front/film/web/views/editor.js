@@ -1,0 +1,38 @@
+// ---- the editor of a source: its messages beside their lines, its listing, and what it loads
+
+import { h } from "../page/dom.js";
+import { untabbed } from "../machine/lines.js";
+import { octal, range, two } from "../machine/places.js";
+import { lineOfNext, sourceText } from "../machine/sources.js";
+import { pane, select } from "./parts.js";
+
+// The numbers of the lines, decimal, with a sign at the one that is next and a colour at those with a message.
+function gutter({ text, messages }, next) {
+  const wrong = new Map([...messages].reverse().map((one) => [one.line, one.isFault ? "bad" : "warn"]));
+  return range(text.split("\n").length).map((at) => h("span", { class: at + 1 === next ? "next" : wrong.get(at + 1) || "" },
+    `${at + 1 === next ? "▶" : " "}${String(at + 1).padStart(3)}\n`));
+}
+
+function message({ line, column, text, isFault }) {
+  return h("li", { class: isFault ? "wrong" : "warning" }, h("button", { "data-line-at": `${line} ${column}` }, `${line}:${column}: ${text}`));
+}
+
+export function editorPane(state) {
+  const { editor, film, sources } = state, { n, text, messages, rows, listing, texts } = editor;
+  const isLoaded = sourceText(film, n) === text.replace(/\n$/, "").split("\n").map(untabbed).join("\n"), source = isLoaded && sources.get(n);
+  const next = source ? lineOfNext(film, source).number : 0, words = rows.reduce((sum, one) => sum + one.words.length, 0), hasWords = rows.length > 0;
+  const more = [select("edit-for", "processor", n, range(10).map((one) => [one, `PP ${two(one)}`])),
+    h("span", { class: isLoaded ? "good" : "soft" }, isLoaded ? "loaded" : "draft"),
+    h("button", { "data-action": "load-and-run", disabled: !hasWords, title: "load it, and run the script again, beside this session" }, "Run again"),
+    h("button.main", { "data-action": "load", disabled: !hasWords, id: "load" }, hasWords ? `Load ${octal(words)} words` : "Load")];
+  return pane(state, "editor", "Editor", more, [
+    texts.length ? h("p.texts", `with the names and macros of ${texts.join(", ")} `,
+      h("button", { "data-action": "drop-texts" }, "without")) : null,
+    h("div.editing", { "data-box": "" }, h("pre.numbers", { "aria-hidden": "true" }, gutter(editor, next)),
+      h("textarea", { id: "source-text", wrap: "off", spellcheck: "false", autocapitalize: "off", autocomplete: "off", "aria-label": "source",
+        rows: text.split("\n").length + 1, value: text })),
+    h("ol.messages", { "aria-label": "messages" }, messages.map(message),
+      messages.some(({ isFault }) => isFault) ? null : h("li.good", `nothing is wrong: ${octal(words)} words`)),
+    listing ? h("details.listing", h("summary", "Listing"), h("pre", { tabindex: 0, "aria-label": "listing" }, listing)) : null]);
+}
+
