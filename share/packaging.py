@@ -2,18 +2,21 @@
 
 import calendar
 import hashlib
+import io
 import os
 import re
 import subprocess
 import sys
+import tarfile
 import time
 
 TOP = os.path.dirname(os.path.dirname(os.path.realpath(__file__)))
 NO_LICENCE = "No licence has been chosen yet."
-sys.path.insert(0, os.path.join(TOP, "tools"))
 
 from pp6600.failure import Failure  # noqa: E402
 from pp6600.shell import installation  # noqa: E402
+from pp6600.shell.archives import gzipped  # noqa: E402
+from pp6600.shell.manifest import File, SymbolicLink, with_folders  # noqa: E402
 
 
 def name():
@@ -84,6 +87,25 @@ def programs(machine):
 def has_programs(machine):
     """Returns whether dist has a program for a machine."""
     return any(os.path.exists(os.path.join(TOP, "dist", name)) for name in installation.NAMES[machine])
+
+
+def archive(top, files, moment):
+    """Returns the bytes of an archive of files and links in a folder."""
+    written = io.BytesIO()
+    names = sorted({above for path in files for above in with_folders(f"{top}/{path}")})
+    with tarfile.open(fileobj=written, mode="w", format=tarfile.USTAR_FORMAT) as tar:
+        for name in names:
+            entry, found = tarfile.TarInfo(name), files.get(name[len(top) + 1:])
+            entry.mtime, entry.uname, entry.gname = moment, "root", "root"
+            entry.mode = 0o644 if isinstance(found, File) and not found.runs else 0o755
+            if isinstance(found, SymbolicLink):
+                entry.type, entry.linkname, entry.mode = tarfile.SYMTYPE, found.target, 0o777
+            elif found is None:
+                entry.type = tarfile.DIRTYPE
+            else:
+                entry.size = len(found.data)
+            tar.addfile(entry, io.BytesIO(found.data) if isinstance(found, File) else None)
+    return gzipped(written.getvalue())
 
 
 def save(folder, file_name, data):

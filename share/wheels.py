@@ -1,22 +1,26 @@
 """The packages for pip, made without a network and without what is beside Python's standard library. pip itself calls build_wheel, as
 pyproject.toml says: pip install . in a checkout makes the package for this machine."""
 
-import base64
-import hashlib
-import io
 import os
-import re
 import sys
-import time
-import zipfile
 
-sys.path.insert(0, os.path.dirname(os.path.realpath(__file__)))  # pip calls this file from elsewhere
+FOLDER = os.path.dirname(os.path.realpath(__file__))
+sys.path[:] = [path for path in sys.path if path != FOLDER]  # pip puts it first
+at = [path.endswith("-packages") for path in [*sys.path, "-packages"]].index(True)  # behind Python's own modules
+sys.path[at:at] = [FOLDER, os.path.join(os.path.dirname(FOLDER), "tools")]
+
+import base64  # noqa: E402
+import hashlib  # noqa: E402
+import re  # noqa: E402
+import time  # noqa: E402
 
 from packaging import NO_LICENCE, TOP, has_programs, moment, read, version  # noqa: E402
 
 from pp6600.engine.choice import machine_here  # noqa: E402
-from pp6600.shell.installation import File, of_this_checkout, part, programs_for, without_lost_links  # noqa: E402
-from pp6600.shell.installation import read as read_file  # noqa: E402
+from pp6600.shell.archives import zipped  # noqa: E402
+from pp6600.shell.installation import of_this_checkout, part, programs_for, without_lost_links  # noqa: E402
+from pp6600.shell.manifest import File  # noqa: E402
+from pp6600.shell.manifest import read as read_file  # noqa: E402
 
 ANY = "any"
 COMMANDS = {"pp6600": "pp6600.engine.launcher:main", "pp6600-python": "pp6600.engine.plain.program:main"}
@@ -86,24 +90,11 @@ def record(files, own):
     return File("".join([*rows, f"{own},,\n"]).encode())
 
 
-def archive(files):
-    """Returns the bytes of an archive."""
-    written = io.BytesIO()
-    with zipfile.ZipFile(written, "w", zipfile.ZIP_DEFLATED, compresslevel=9) as packed:
-        for name, file in sorted(files.items()):
-            entry = zipfile.ZipInfo(name, time.gmtime(moment())[:6])
-            entry.create_system = 3
-            entry.external_attr = (0o100755 if file.runs else 0o100644) << 16
-            entry.compress_type = zipfile.ZIP_DEFLATED
-            packed.writestr(entry, file.data)
-    return written.getvalue()
-
-
 def wheel(platform, programs, pages):
     """Returns the name and the bytes of the package for a platform."""
     files = {**package(programs), **pages, **about(platform)}
     own = f"pp6600-{version()}.dist-info/RECORD"
-    return f"pp6600-{version()}-py3-none-{platform}.whl", archive({**files, own: record(files, own)})
+    return f"pp6600-{version()}-py3-none-{platform}.whl", zipped({**files, own: record(files, own)}, time.gmtime(moment())[:6])
 
 
 def build_wheel(wheel_directory, config_settings=None, metadata_directory=None):

@@ -4,15 +4,17 @@
 #include "block.h"
 typedef unsigned long size_t;
 
-enum { HEAD = 16, SMALLEST = 4, SIZES = 40, PAGE = 1 << 16 };
+enum { HEAD = 16, SMALLEST = 4, SIZES = 32, PAGE = 1 << 16, MOST_PAGES = 1 << 16 }; /* addresses have 32 bits once they are lowered */
 extern unsigned char __heap_base; /* the linker's: the first byte that is not the module's own */
 static unsigned char *next_block = &__heap_base;
 static unsigned char *free_blocks[SIZES]; /* a list for each power of two; in a free block is the address of the next */
 
-/* Grows the memory, if need be, so that it has the bytes before `end`. Returns whether it has. */
+/* Grows the memory, if need be, so that it has the bytes before `end`. Returns whether it has. What the instruction returns if it fails has
+ * as many bits as an address, so the size of the memory says whether it did. */
 static int has_memory(const unsigned char *end) {
     size_t pages = __builtin_wasm_memory_size(0), needed = ((size_t)end + PAGE - 1) / PAGE;
-    return needed <= pages || __builtin_wasm_memory_grow(0, needed - pages) != (size_t)-1;
+    if (pages < needed && needed <= MOST_PAGES) __builtin_wasm_memory_grow(0, needed - pages);
+    return needed <= __builtin_wasm_memory_size(0);
 }
 
 /* Returns memory of so many bytes, or 0. */
@@ -56,6 +58,6 @@ struct block rattle_realloc(void *old, size_t old_size, size_t size, size_t alig
     return block_at(start);
 }
 
-/* Memory for what a page hands to the library. Returns its address, or 0; and gives it back. */
+/* Memory for what a page hands to the library. Returns its address, or 0; and gives it back, if it is any. */
 __attribute__((export_name("pp6600_room"))) void *room(size_t size) { return memory_of(size); }
-__attribute__((export_name("pp6600_end_room"))) void end_room(void *start) { rattle_dealloc(start); }
+__attribute__((export_name("pp6600_end_room"))) void end_room(void *start) { if (start) rattle_dealloc(start); }

@@ -2,7 +2,7 @@
 ;; Made by share/colours. M-x compile assembles, and next-error goes to each fault.
 
 (defvar pp6600-assembler "pp6600-assemble"
-  "The command of the assembler.")
+  "The assembler: a program, or a command for the shell.")
 
 (defconst pp6600-mode--before "^\\(?: ?[^ \t\n*][^ \t\n]*\\)?[ \t]+"
   "What is before an operation.")
@@ -49,7 +49,9 @@
   (setq-local tab-stop-list '(1 10 17 29))
   (setq-local indent-line-function #'tab-to-tab-stop)
   (when buffer-file-name
-    (setq-local compile-command (concat pp6600-assembler " " (shell-quote-argument buffer-file-name)))))
+    (setq-local compile-command
+                (concat (if (executable-find pp6600-assembler) (shell-quote-argument pp6600-assembler) pp6600-assembler)
+                        " " (shell-quote-argument buffer-file-name)))))
 
 (add-to-list 'auto-mode-alist '("\\.pp\\'" . pp6600-mode))
 

@@ -1,0 +1,75 @@
+// The proved simulator of the CDC 6600's peripheral processors, for Node, Deno and pages: `open` begins a session. pp6600.d.ts has each call.
+// Numbers of the machine are BigInt; others are plain numbers, so write 0o106 for an octal one.
+import { Assembler, FORM as CONDITION, LibraryError, LibrarySession, STATUS, openLibrary } from "./library.mjs";
+
+export { Assembler, CONDITION, LibraryError, STATUS };
+
+// The first place of each kind, and the forms of `Assembler.written`. Numbers are decimal.
+export const PLACE = Object.freeze({
+  CELLS: 0, A: 40960, P: 40970, Q: 40980, PHASE: 40990, STATES: 41000, REGISTERS: 41012, CLOCK: 41024, FRAME: 41025, CARD: 41041,
+  CARD_COLUMN: 41042, READER_MODE: 41043, PAPER_LENGTH: 41044, PAPER_COLUMN: 41045, PRINTER_MODE: 41046, PAPER: 41047, SLOT: 106583,
+  WATCHES: 106584, CENTRAL: 106592,
+});
+export const FORM = Object.freeze({ COMPLAINTS: 0, WORDS: 1, LISTING: 2, LINES: 3, NAMES: 4 });
+
+// Loads the module from its bytes, or from an address; else from pp6600.wasm beside this file. One module can have many sessions.
+export async function load(source = new URL("pp6600.wasm", import.meta.url)) {
+  if (!(source instanceof URL)) return openLibrary(source);
+  if (source.protocol === "file:") return openLibrary(await (await import("node:fs/promises")).readFile(source));
+  const answer = await fetch(source);
+  if (!answer.ok) throw new Error(`${source}: ${answer.status} ${answer.statusText}`);
+  return openLibrary(await answer.arrayBuffer());
+}
+
+let own; // the module beside this file, once it is asked for
+
+function ownModule() {
+  own ??= load().catch((error) => {
+    own = undefined; // so that a page can try again
+    throw error;
+  });
+  return own;
+}
+
+// Begins a session, in the module beside this file or in another one.
+export const open = async (options = {}, module = undefined) => new Session(module ?? await ownModule(), options);
+
+// Returns the assembler.
+export const assembler = async (module = undefined) => new Assembler(module ?? await ownModule());
+
+// Returns the version of the module, as "5.2.0".
+export async function version(module = undefined) {
+  const number = (module ?? await ownModule()).pp6600_version();
+  return [Math.floor(number / 1e6), Math.floor(number / 1e3) % 1e3, number % 1e3].join(".");
+}
+
+// Returns places as the module takes them.
+function placesOf(places) {
+  const wrong = [...places].find((place) => !Number.isInteger(place) || place < 0 || place >= 2 ** 32);
+  if (wrong !== undefined) throw new RangeError(`pp6600.wasm: ${wrong} is no number of 32 bits`);
+  return Uint32Array.from(places);
+}
+
+// A session, with turns one by one.
+export class Session extends LibrarySession {
+  // Makes turns, up to the first that changes a watched number, or by "again" performs actions that were undone. Returns each: its
+  // processor, 10 if it is no turn, and the places that it overwrote with the numbers that were there.
+  moments(most, call = "turns") {
+    const { made, olds } = this.turns(most, Math.max(most, 1), 76 * Math.max(most, 1), call), found = [];
+    for (let turn = 0, at = 0; turn < made.length; turn += 2) {
+      const overwritten = [];
+      for (const end = at + 2 * made[turn + 1]; at < end; at += 2) overwritten.push({ place: Number(olds[at]), number: olds[at + 1] });
+      found.push({ processor: made[turn], olds: overwritten });
+    }
+    return found;
+  }
+
+  // Makes turns in the same way, and returns the numbers at 1 to 16 places after each.
+  looks(most, places) {
+    const width = places.length, room = most * width, given = this.given("places", placesOf(places));
+    const into = this.room("seen", 8 * Math.max(room, 1));
+    this.call("looks", ...placesOf([most]), ...given, into, BigInt(room), ...this.outs(1));
+    const [turns] = this.results(1), seen = this.view(BigUint64Array, into, turns * width).slice();
+    return Array.from({ length: turns }, (_, turn) => seen.subarray(turn * width, (turn + 1) * width));
+  }
+}
