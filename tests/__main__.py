@@ -2,31 +2,48 @@
 
     python3 -m tests [NAME ..]
 
-A NAME is that of a module without test_, as panel; without names all run. When a module has ended, what failed is shown, and why tests
-were skipped. Many tests wait for programs, so more modules run than there are cores for this process. An interrupt ends all, with the
+A NAME is that of a module without test_, as panel; without names all run. When a module has ended, what failed is shown, why tests
+were skipped, and how many seconds it took: of a clock, and of processor time, with the programs that it waited for. Many tests wait for programs, so more modules run than there are cores for this process. An interrupt ends all, with the
 count so far.
 One module, class or test alone: python3 -m unittest tests.test_panel -k sizes
 """
 
-import collections
-import concurrent.futures
-import glob
-import os
-import re
-import signal
-import subprocess
 import sys
-import tempfile
-import threading
-import time
+
+if sys.version_info < (3, 9):
+    sys.stderr.write("tests: Python 3.9 or later is needed, and this is Python {}.{}\n".format(*sys.version_info[:2]))
+    sys.exit(2)
+if not getattr(sys.flags, "safe_path", False):
+    del sys.path[0]  # no file of the folder one works in is taken for a module of Python's own
+
+import atexit  # noqa: E402
+import collections  # noqa: E402
+import concurrent.futures  # noqa: E402
+import functools  # noqa: E402
+import glob  # noqa: E402
+import os  # noqa: E402
+import re  # noqa: E402
+import shutil  # noqa: E402
+import signal  # noqa: E402
+import subprocess  # noqa: E402
+import tempfile  # noqa: E402
+import threading  # noqa: E402
+import time  # noqa: E402
+import unittest  # noqa: E402
 
 HERE = os.path.dirname(os.path.abspath(__file__))
+TOP = os.path.dirname(HERE)
+at = [path.endswith("-packages") for path in [*sys.path, "-packages"]].index(True)  # behind Python's own modules
+sys.path.insert(at, TOP)
+ALONE = "--alone"  # before the name of a module, which is then run in this process
 PASSED = re.compile(r"^(?:.*\.\.\. )?ok\n", re.M)
 SKIPPED = re.compile(r"\.\.\. skipped (['\"])(.*)\1$", re.M)
+TOOK = re.compile(r"^processor time: ([0-9.]+)\n\Z", re.M)  # the last line of a module
 FAILED = re.compile(r"\.\.\. (?:FAIL|ERROR)$", re.M)
 NOT_PASSED = re.compile(r"(?:failures|errors|unexpected successes)=(\d+)")  # in the last line
-LONGEST = 1800  # seconds, far more than any module takes on a busy machine
-FIRST = [f"test_{name}" for name in "film_page film_session film_walk sessions random install debug_random".split()]  # they take longest
+LONGEST = 1800  # seconds of processor time that a module may take, and of time in which it takes none
+LOOK = 10  # seconds between looks at that time
+FIRST = [f"test_{name}" for name in "windows film_page film_session film_walk sessions random install debug_random".split()]  # they take longest
 
 
 def modules(names):
@@ -45,9 +62,9 @@ class Module:
     def __init__(self, name):
         self.name, self.began = name, time.monotonic()
         self.written = tempfile.TemporaryFile("w+", encoding="utf-8", errors="replace")
-        words = [sys.executable, "-m", "unittest", "-v", f"tests.{name}"]
-        self.process = subprocess.Popen(words, cwd=os.path.dirname(HERE), stdin=subprocess.DEVNULL, stdout=self.written,
-                                        stderr=self.written, start_new_session=True)
+        words = [sys.executable, os.path.join(HERE, "__main__.py"), ALONE, name]
+        self.process = subprocess.Popen(words, cwd=TOP, stdin=subprocess.DEVNULL, stdout=self.written,
+                                        stderr=self.written, start_new_session=True, env={**os.environ, "HOME": home()})
 
     def kill(self, by=signal.SIGKILL):
         """Ends it and what it has started."""
@@ -59,18 +76,78 @@ class Module:
     def output(self):
         """Returns what it has written so far."""
         self.written.seek(0)
-        return self.written.read()
+        return TOOK.sub("", self.written.read())
+
+    def took(self):
+        """Returns the seconds of processor time that it took, by its last line."""
+        self.written.seek(0)
+        found = TOOK.search(self.written.read())
+        return float(found[1]) if found else 0.0
 
     def finished(self):
         """Waits for its end. Returns what it wrote, and whether it ended well; one that never ends is ended, so that the others count."""
-        try:
-            self.process.wait(LONGEST)
-        except subprocess.TimeoutExpired:
-            self.kill()
-            self.process.wait()
+        worked, at = 0.0, time.monotonic()  # the processor time at the last look at which there was more of it
+        while True:
+            try:
+                self.process.wait(LOOK)
+                break
+            except subprocess.TimeoutExpired:
+                now = processor_time(self.process.pid)
+                if now > worked + 1:
+                    worked, at = now, time.monotonic()
+                if worked > LONGEST or time.monotonic() > at + LONGEST:
+                    self.kill()
         status = self.process.returncode
-        late = "" if status >= 0 else f"\nended by signal {-status}; a module may take {LONGEST} s\n"
+        late = "" if status >= 0 else f"\nended by signal {-status}; a module may take {LONGEST} s of processor time\n"
         return self.output() + late, status == 0
+
+
+def processor_time(session):
+    """Returns the seconds of processor time that the processes of a session have taken, as far as the system says it."""
+    ticks = 0
+    for path in glob.glob("/proc/[0-9]*/stat"):
+        try:
+            with open(path, encoding="ascii", errors="replace") as file:
+                fields = file.read().rpartition(")")[2].split()
+        except OSError:  # it has ended
+            continue
+        ticks += sum(map(int, fields[11:15])) if int(fields[3]) == session else 0
+    return ticks / os.sysconf("SC_CLK_TCK")
+
+
+@functools.lru_cache(maxsize=None)
+def home():
+    """Returns the user's own folder, or another one if it can't be written."""
+    own = os.environ.get("HOME", "")
+    return own if os.path.isdir(own) and os.access(own, os.W_OK) else new_room()
+
+
+def new_room():
+    """Returns a new folder, which is removed at the end."""
+    room = tempfile.mkdtemp(prefix="pp6600-test-")
+    atexit.register(shutil.rmtree, room, ignore_errors=True)
+    return room
+
+
+def is_usable():
+    """Returns whether tests can be run in this checkout: whether it can be written, and its name is text, which other programs want."""
+    try:
+        TOP.encode("utf-8")
+    except UnicodeEncodeError:
+        return False
+    return os.access(TOP, os.W_OK)
+
+
+def run_in_copy():
+    """Runs the tests in a copy of this checkout, which can be written. Returns the exit status."""
+    copy = os.path.join(new_room(), "a copy of the checkout")
+    print("tests: this checkout can't be written, or its name is not UTF-8, so a copy of it is tested", flush=True)
+    shutil.copytree(TOP, copy, symlinks=True, ignore=shutil.ignore_patterns("out", "__pycache__"))
+    for folder, _, names in os.walk(copy):
+        for path in (folder, *(os.path.join(folder, name) for name in names)):
+            if not os.path.islink(path):
+                os.chmod(path, os.stat(path).st_mode | 0o600)
+    return subprocess.run([sys.executable, os.path.join(copy, "tests", "__main__.py"), *sys.argv[1:]], check=False).returncode
 
 
 def counted(output, ended_well=True):
@@ -89,6 +166,7 @@ class Run:
 
     def __init__(self):
         self.counts, self.running, self.lock, self.is_ending = collections.Counter(), {}, threading.Lock(), False
+        self.took = 0.0
 
     def module(self, name):
         """Runs a module, and shows how it ended."""
@@ -109,8 +187,9 @@ class Run:
         """Shows what failed in a module and why tests were skipped, its counts, and how many modules run still."""
         reasons = collections.Counter(reason for _, reason in SKIPPED.findall(output))
         shown = PASSED.sub("", output) if counts["failed"] else "".join(f"skipped {count}: {reason}\n" for reason, count in reasons.items())
-        took = time.monotonic() - module.began
-        print(f"{shown}{module.name}: {text_of(counts)}, {counts['skipped']} skipped in {took:.0f} s", flush=True)
+        seconds, worked = time.monotonic() - module.began, module.took()
+        self.took += worked
+        print(f"{shown}{module.name}: {text_of(counts)}, {counts['skipped']} skipped in {seconds:.0f} s, {worked:.1f} s of processor time", flush=True)
 
     def end(self):
         """Ends all modules, and adds what they have tested so far."""
@@ -125,7 +204,12 @@ class Run:
 
 
 def main():
+    if sys.argv[1:2] == [ALONE]:
+        atexit.register(lambda: print(f"processor time: {sum(os.times()[:4]):.1f}", flush=True))
+        unittest.main(module=None, argv=["unittest", "-v", *(f"tests.{name}" for name in sys.argv[2:])])
     names = modules(sys.argv[1:])
+    if not is_usable():
+        return run_in_copy()
     workers = 2 * len(os.sched_getaffinity(0)) + 1
     run = Run()
     print(f"tests: {len(names)} modules, {min(workers, len(names))} at a time; each is shown when it has ended. Ctrl-C ends them.", flush=True)
@@ -137,8 +221,7 @@ def main():
         run.end()
         print(f"\ntests: interrupted\n{text_of(run.counts)} so far", flush=True)
         os._exit(130)
-    if run.counts["skipped"]:
-        print(f"{run.counts['skipped']} skipped")
+    print(f"{run.counts['skipped']} skipped; {run.took / 60:.1f} minutes of processor time")
     print(text_of(run.counts))
     return 1 if run.counts["failed"] or not run.counts["passed"] else 0
 

@@ -57,16 +57,18 @@ class Here:
         self.thread.start()
 
     def serve(self):
+        status = 1  # after a fault of the adapter itself, which Python shows
         try:
             with contextlib.closing(Adapter(self.wire)) as adapter:
                 adapter.serve()
             status = 0
         except Failure as failure:
             self.stderr, status = io.BytesIO(f"debug-adapter: {failure}\n".encode()), 2
-        os.close(self.wire.output)
-        for stream in filter(None, (self.wire.input, self.wire.log)):
-            stream.close()
-        self.returncode = status
+        finally:
+            os.close(self.wire.output)
+            for stream in filter(None, (self.wire.input, self.wire.log)):
+                stream.close()
+            self.returncode = status
 
     def poll(self):
         return self.returncode

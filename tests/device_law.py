@@ -7,6 +7,9 @@ from tests.support import program
 
 from pp6600 import EMPTY, INACTIVE, NOTHING, Attached, Console, Device, full
 from pp6600.convert.cells import set_lines
+from pp6600.devices.card_reader import CardReader
+from pp6600.devices.controller import Controller
+from pp6600.devices.line_printer import LinePrinter
 from pp6600.run.device import Event
 
 STEP = "STEP"
@@ -103,13 +106,13 @@ class RandomDevice(Device):
     function = word = activated = taken = disconnected = due = told = react
 
 
-def random_program(choose, channels, is_rescue):
+def random_program(choose, channels, is_rescue, codes=range(4)):
     """Returns the words of a loop from cell 0100 on. It looks at a channel before it uses it, so it seldom waits; one that rescues
     disconnects channels, so that others do not wait for ever."""
     words = []
     for at in range(choose.randint(3, 8)):
         c, here = channels[at % len(channels)], 0o100 + len(words)
-        code = [0o7700 + c, choose.randint(0, 3)] if c != OTHER_CHANNEL else []
+        code = [0o7700 + c, choose.choice(codes)] if c != OTHER_CHANNEL else []
         begin = [0o6400 + c, here + len(code) + 3, *code, 0o7400 + c]
         use = begin if at < len(channels) else choose.choice((
             begin,
@@ -130,20 +133,26 @@ class FewStates(Attached):
 class Session:
     """A random session beside the units that are in effect by the words of the page."""
 
+    codes = range(4)  # of functions
+
     def __init__(self, seed, panel, definition):
         self.choose, self.kind = random.Random(seed), definition
         choose = self.choose
-        channels = choose.sample([0, 1, 5, 0o11, 0o10], choose.randint(1, 3))
-        self.devices = [RandomDevice(choose.randrange(4000), channel) for channel in channels]
-        self.channels = [*channels, OTHER_CHANNEL]
+        self.devices = self.random_devices(choose)
+        self.channels = [*(device.channel for device in self.devices), OTHER_CHANNEL]
         self.words = [program(), "--panel", panel, "--history", str(choose.choice((1, 2, 7, 40, 300, 10000)))]
         self.session = choose.choice((Attached, FewStates))(self.words, self.devices)
         self.units, self.position = [], 0  # in effect and ahead
         self.definition = definition(self.words[:3], self.devices)
         for at, number in enumerate(choose.sample(range(10), choose.choice((2, 4, 10)))):
-            for line in set_lines(number, 0o100, [f"{word:04o}" for word in random_program(choose, self.channels, at == 0)]):
+            for line in set_lines(number, 0o100, [f"{word:04o}" for word in random_program(choose, self.channels, at == 0, self.codes)]):
                 self.act(line)
             self.act(f"SET P {number:o} 100")
+
+    @staticmethod
+    def random_devices(choose):
+        """Returns devices, each on a channel of its own."""
+        return [RandomDevice(choose.randrange(4000), channel) for channel in choose.sample([0, 1, 5, 0o11, 0o10], choose.randint(1, 3))]
 
     def close(self):
         self.session.close()
@@ -232,6 +241,18 @@ class Session:
             self.add((number, what))
 
 
+class TwoOnAChannel(Session):
+    """One with a reader and a printer behind one controller."""
+
+    codes = (0o4000, 0o4000, 0o5000, 0o5000, 0o6000, 0o1000, 0o1100, 0o1200, 0o1300, 0o1400, 0o1500, 0o1600, 0o1700, 0, 1, 2, 4, 0o77)
+
+    @staticmethod
+    def random_devices(choose):
+        deck = [[choose.randrange(4096) for _ in range(choose.randint(0, 80))] for _ in range(choose.randint(0, 3))]
+        busy = [choose.choice((0, 1, 5, 40)) for _ in range(2)]
+        return [Controller(CardReader(deck, busy=busy[0]), LinePrinter(busy=busy[1]), channel=choose.choice((5, 0o11)))]
+
+
 def difference(session, move):
     """Returns how a session differs from its definition after a move; None if it does not."""
     name, result = move
@@ -300,9 +321,9 @@ def fault_of_counts(session):
     return None
 
 
-def first_difference(seed, panel, moves=40, definition=Definition):
+def first_difference(seed, panel, moves=40, definition=Definition, kind=Session):
     """Returns the first difference of a random session from a definition; None if there is none."""
-    session = Session(seed, panel, definition)
+    session = kind(seed, panel, definition)
     try:
         for number in range(moves):
             move = session.move()

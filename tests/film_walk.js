@@ -1,59 +1,55 @@
-// What a page of a film shows, for tests/test_film_walk.py.
+// What a page of a film shows, for tests/test_film_walk.py; evaluated in the page.
 
-// What is shown, as the dumps have it.
+const octal = (n, digits) => n.toString(8).padStart(digits, "0"), two = (n) => octal(n, 2), range = (count) => [...Array(count).keys()];
+const film = () => page.store.state.film, numberOf = (name) => film().text(film().placeNamed(name));
+const sentenceOf = (n) => m_machine_turns.turning.sentence(film().next(n));
+const textsOf = (selector) => [...document.querySelectorAll(selector)].map((one) => one.textContent);
+
+// Shows all parts of the machine, and cells of a processor from one on.
+const showParts = (processor, first) => {
+  const { store } = page, { state } = store;
+  const memory = { ...state.memory, n: processor, first, follows: false, isHeld: true, as: "numbers" };
+  store.change({ look: "debug", columns: 4, folded: new Set(), memory, room: { ...state.room, memoryRows: 16, barrelHigh: 240 * (state.room.unit || 1) }, chosen: film().placeNamed("XP 0"), central: { first: 0 } });
+  store.flush();
+};
+
+// What is shown, as the dumps have it. A processor that is folded away is asked for from the film.
 const stateOf = (processor, first) => {
-  for (const section of ["frame", "reader", "printer"]) byId(section).hidden = false;
-  showCell(processor, first, true);
-  const number = (name) => document.querySelector(`button.number[data-place="${name}"]`).textContent;
-  const two = (n) => n.toString(8).padStart(2, "0");
-  const range = (count) => [...Array(count).keys()];
-  const text = (selector) => document.querySelector(selector).textContent.replace(/ +/g, " ").trim();
-  const rows = [...document.querySelectorAll("#processors tbody tr")];
-  const slot = two(rows.findIndex((row) => row.cells[0].textContent === ">"));
-  const paper = document.querySelector("#printer .paper").textContent.split("\n");
-  const rest = paper.pop();
+  showParts(processor, first);
+  const shown = (name) => document.querySelector(`.pane .n[data-place="${name}"]`)?.textContent ?? numberOf(name);
+  const slot = document.querySelector(".processors tr.next").dataset.processor, paper = (document.querySelector(".paper")?.textContent ?? "").split("\n"), rest = paper.pop();
+  const reader = `H ${two(film().about.reader)} CARD ${numberOf("CARD")} OF ${octal(film().deck.length, 4)} COLUMN ${numberOf("CARD-COLUMN")} MODE ${numberOf("CARD-MODE")}`;
+  const printer = `H ${two(film().about.printer)} SYMBOLS ${numberOf("SYMBOLS")} COLUMN ${numberOf("PAPER-COLUMN")} MODE ${numberOf("PAPER-MODE")}`;
+  const { layout, upperOf } = m_machine_places, { numbers } = film(), watched = film().watched();
   return {
-    processors: range(10).map((n) => `PP ${two(n)} P ${number(`P ${two(n)}`)} A ${number(`A ${two(n)}`)} Q ${number(`Q ${two(n)}`)}`
-      + ` PHASE ${number(`PHASE ${two(n)}`)} SLOT ${slot}`),
-    waits: rows.map((row) => row.cells[8].textContent),
+    processors: range(10).map((n) => `PP ${two(n)} P ${shown(`P ${two(n)}`)} A ${shown(`A ${two(n)}`)} Q ${shown(`Q ${two(n)}`)} PHASE ${numberOf(`PHASE ${two(n)}`)} SLOT ${two(Number(slot))}`),
+    waits: range(10).map((n) => document.querySelector(`.processors tr[data-processor="${n}"] .wait`).textContent.replace(/^H /, "")),
     sentences: range(10).map(sentenceOf),
-    at_p: rows.map((row) => row.cells[3].querySelector("button").textContent),
-    channels: [...range(12).map((c) => `H ${two(c)} ${number(`STATE ${two(c)}`)} ${number(`H ${two(c)}`)}`), `H 14 F ${number("H 14")}`],
-    frame: range(16).map((i) => `XP ${two(i)} ${number(`XP ${two(i)}`)}`),
-    reader: [`CR ${text("#reader .device")}`],
-    printer: [`LP ${text("#printer .device")}`, ...paper.map((line) => `|${line}`), ...(rest ? [`/${rest}`] : [])],
-    watches: text("#watches .list") === "NONE" ? ["W NONE"]
-      : [...document.querySelectorAll("#watches .list div")].map((line) => `W ${line.firstChild.textContent.trim()}`),
-    window: [...document.querySelectorAll("#cells tbody button")].map((button) => button.textContent),
-    cells: [...film.numbers.subarray(0, 40960)].flatMap((word, at) => (word ? [[at, word]] : [])),
-    central: range(layout.size)
-      .filter((address) => [layout.central + address, upperOf(layout.central + address)].some((at) => film.numbers[at]))
-      .map((address) => [address, textAt(placeNamed(`C ${address.toString(8)}`))]),
+    at_p: range(10).map((n) => octal(film().cell(n, film().number("P", n)), 4)),
+    channels: [...range(12).map((c) => `H ${two(c)} ${shown(`STATE ${two(c)}`)} ${shown(`H ${two(c)}`)}`), `H 14 F ${shown("H 14")}`],
+    frame: textsOf(".central [data-place^='XP ']").map((text, at) => [at % 2 ? 8 + (at >> 1) : at >> 1, text]).sort(([one], [other]) => one - other)
+      .map(([at, text]) => `XP ${two(at)} ${text}`),
+    reader: [`CR ${reader}`], printer: [`LP ${printer}`, ...paper.map((line) => `|${line}`), ...(rest ? [`/${rest}`] : [])],
+    watches: watched.length ? watched.map((name) => `W ${name}`) : ["W NONE"],
+    window: textsOf("#cells [data-cell]"),
+    cells: [...numbers.subarray(0, 40960)].flatMap((word, at) => (word ? [[at, word]] : [])),
+    central: range(layout.size).filter((at) => [layout.central + at, upperOf(layout.central + at)].some((place) => numbers[place])).map((at) => [at, numberOf(`C ${octal(at, 6)}`)]),
   };
 };
 
 // The picture of the barrel.
 const pictureOf = () => {
-  const all = (selector) => [...document.querySelectorAll(`#barrel-picture ${selector}`)];
-  const texts = (one) => [...one.querySelectorAll("text")].map((text) => text.textContent);
+  const all = (selector) => [...document.querySelectorAll(`.barrel svg[role] ${selector}`)], texts = (one) => [...one.querySelectorAll("text")].map((text) => text.textContent);
+  const channel = (one) => parseInt(texts(one)[0].slice(2), 8), moved = film().wordMoved(film().at);
   return {
-    circles: all("g.processor").map(texts),
-    acted: all("g.processor").flatMap((one, n) => (one.classList.contains("acted") ? [n] : [])),
-    slot: all(".slot").map((one) => Number(one.dataset.processor)),
-    channels: all("g.channel").map((one) => [Number(one.dataset.channel), ...texts(one).slice(0, 2)]),
-    waits: all("path.waits").map((one) => one.dataset.waits),
-    word: all("g.word").map((one) => [Number(one.dataset.channel), ...texts(one)]),
-    middle: all("text.middle").map((one) => one.textContent),
+    circles: all("g.pp").map(texts), acted: all("g.pp.acted").map((one) => Number(one.dataset.processor)),
+    slot: all("g.pp.next").map((one) => Number(one.dataset.processor)), channels: all("g.pill").map((one) => [channel(one), ...texts(one).slice(0, 2)]),
+    waits: all("path.waits").map((one) => one.dataset.waits), word: all("g.word").map((one) => [moved.channel, ...texts(one)]), head: all("text.head").map((one) => one.textContent),
   };
 };
 
 // The turns of which it says that they wait, and that did not; or the other way round.
-const waitedWrongly = () => {
-  const wrong = [];
-  for (let at = 1; at < film.count; at++) {
-    if (!isTurn(at)) continue;
-    goTo(at - 1);
-    if ((nextOf(film.processor[at]).waits !== "") !== (film.kinds[at] === WAITING)) wrong.push(at);
-  }
-  return wrong;
-};
+const waitedWrongly = () => range(film().count).slice(1).filter((at) => film().isTurn(at)).filter((at) => {
+  film().goTo(at - 1);
+  return (m_machine_turns.turning.waits(film().next(film().processor[at])) !== "") !== (film().kinds[at] === 1);
+});

@@ -12,15 +12,18 @@ import json
 import os
 import re
 import shutil
+import subprocess
 import sys
 import tempfile
+import time
 import zlib
 
-from tests.browser import Browser, found
+from tests.browser import PATIENCE, Browser, found
 from tests.generator import BUSY, Maker
 from tests.support import TOP, Case, read, tool, tool_here
 
 from pp6600 import Console
+from pp6600.front.film.joining import joined
 
 FOLDER = os.path.join(TOP, "docs", "films")
 LOADER, CARDS = "examples/overwritten-loader", "exercises/dead-start-from-cards"
@@ -35,7 +38,7 @@ SHOWN = {
 }
 DEVICES = ("--central", "32", "--panel", "examples/dead-start/panel", "--deck", "examples/read-a-deck/deck")  # of random sessions
 # The film that has a picture, and where the picture is taken.
-PICTURED, MOMENT, SIZE = "overwritten-loader", "#turn=405&place=M+0+106", (1140, 628)
+PICTURED, MOMENT, SIZE = "overwritten-loader", "#turn=405&place=M+0+106", (1280, 800)
 
 
 ROOM = tempfile.TemporaryDirectory(prefix="pp6600-films-")  # of the films that several tests look at
@@ -56,6 +59,17 @@ def shown_film(name):
 def stored():
     """Returns the names of the films that are in docs/films: the one that is kept in git, and those that `make films` has made."""
     return [name for name in SHOWN if name == PICTURED or os.path.exists(os.path.join(FOLDER, f"{name}.html"))]
+
+
+def in_node(name, *words):
+    """Runs a module of this folder, joined with those of the page that it imports, in Node. Returns the lines of its output."""
+    path = os.path.join(ROOM.name, name)
+    with open(path, "w", encoding="utf-8") as file:
+        file.write(joined({"one": os.path.join(TOP, "tests", name)})["one"])
+    done = subprocess.run(["node", path, *words], capture_output=True, text=True, check=False)
+    if done.stderr or done.returncode:
+        raise RuntimeError(done.stderr)
+    return done.stdout.splitlines()
 
 
 def random_session(seed):
@@ -92,6 +106,15 @@ def moments_of(words, lines):
                 yield slow, is_turn
 
 
+def forget(browser):
+    """Forgets what the browser has kept of films."""
+    path = os.path.join(ROOM.name, "blank.html")
+    with open(path, "w", encoding="ascii") as file:
+        file.write("<!DOCTYPE html><title>blank</title><body data-open=yes>")
+    browser.open(path)
+    browser.evaluate("localStorage.clear()")
+
+
 class FilmCase(Case):
     """Tests of films."""
 
@@ -122,6 +145,7 @@ class PageCase(FilmCase):
         if self.browser:
             self.browser.log.clear()
             self.browser.look(1280, 800)
+            forget(self.browser)
             self.addCleanup(lambda: self.assertEqual([], self.browser.log, "complaints of the page"))
         elif self.needs_browser:
             self.skipTest("there is no browser (chromium), so no page is walked")
@@ -129,6 +153,14 @@ class PageCase(FilmCase):
     def value(self, text):
         """Returns the value of an expression in the page."""
         return self.browser.evaluate(text)
+
+    def saved(self, name):
+        """Waits for a file that the page saves into this test's folder, and returns its path."""
+        path, end = self.path(name), time.monotonic() + PATIENCE
+        while not os.path.exists(path) or not os.path.getsize(path):
+            self.assertLess(time.monotonic(), end, f"{name} is not saved")
+            self.value("new Promise((done) => setTimeout(done, 50))")
+        return path
 
 
 # ---- docs/films

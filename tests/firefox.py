@@ -1,4 +1,4 @@
-"""A headless Firefox, driven by its protocol Marionette. What it evaluates sees the document, and not the names of the page's script."""
+"""A headless Firefox, driven by its protocol Marionette. What it evaluates sees the document and its window."""
 
 import itertools
 import json
@@ -75,12 +75,14 @@ class Firefox(Page):
             raise RuntimeError(f"{command}: {error['message']}")
         return result
 
-    def open(self, address):
+    def open(self, path, address=""):
+        """Opens a film from its file, and waits until it is shown."""
         self.ask("WebDriver:Navigate", url="about:blank")
-        self.ask("WebDriver:Navigate", url=address)
+        self.ask("WebDriver:Navigate", url=f"file://{os.path.abspath(path)}{address}")
+        self.wait_for("document.body && document.body.dataset.open === 'yes'")
 
     def evaluate(self, text):
-        """Returns the value of an expression of the document."""
+        """Returns the value of an expression of the document, or what a promise brings."""
         return self.ask("WebDriver:ExecuteScript", script=f"return {text};", args=[])["value"]
 
     def key(self, key):

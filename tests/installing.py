@@ -17,6 +17,8 @@ from tests.support import TOP, program, read, run, write
 
 PATH = f"{os.path.dirname(sys.executable)}:/usr/sbin:/usr/bin:/sbin:/bin"  # where the Rattle kit is not
 ALONE = {"PATH": PATH, "PP6600": "", "DESTDIR": "", "PYTHONDONTWRITEBYTECODE": "1"}
+HEADER = "crates/pp_library/pp6600.h"
+MAKES_PAGE = "import os\nopen(os.path.join(os.path.dirname(__file__), 'definitions.html'), 'w').close()\n"
 LINKS = {".md": r"\]\(([^)#:\s]+)[^)]*\)", ".html": r' href="([^"#:]+)'}
 
 
@@ -47,6 +49,8 @@ def checkout(folder):
     shutil.copytree(TOP, folder, symlinks=True, ignore=shutil.ignore_patterns("out", ".git", "__pycache__", "tests", "crates"))
     for name in ("src", "specs", "proofs"):
         shutil.copytree(os.path.join(TOP, "crates", "pp_arith", name), os.path.join(folder, "crates", "pp_arith", name))
+    write(os.path.join(folder, HEADER), read(HEADER))
+    write(os.path.join(folder, "docs", "definitions.py"), MAKES_PAGE)  # the crates that are left out have the definitions
     shutil.copyfile(program(), os.path.join(folder, "dist", "pp6600"))
     os.chmod(os.path.join(folder, "dist", "pp6600"), 0o755)
     sums = "".join(f"{'program' if name == 'pp6600' else name} {hashlib.sha256(part(folder, f'dist/{name}')).hexdigest()}\n"

@@ -8,10 +8,13 @@ scripts make none, each case up to that request has one constructor whose reques
 its fault. In each later case everything is as usual.
 """
 
+import sys
+
+if not getattr(sys.flags, "safe_path", False):
+    del sys.path[0]  # nothing beside this file is taken for a module of Python's own
 import os
 import re
 import subprocess
-import sys
 import tempfile
 
 # More than the requests of a whole run.

@@ -8,10 +8,13 @@ which a proof only names what is gone; and one that only renames. Such a refusal
 a refusal that it kept from an earlier run again, so each run judges all. The last line is 'N passed, M failed'.
 """
 
+import sys
+
+if not getattr(sys.flags, "safe_path", False):
+    del sys.path[0]  # nothing beside this file is taken for a module of Python's own
 import glob
 import os
 import re
-import sys
 
 TOP = os.path.dirname(os.path.dirname(os.path.abspath(__file__)))
 LINE = re.compile(r"^(?:rt: )?must-fail (\w+/\S+)\.edit: (.*)", re.M)

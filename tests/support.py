@@ -4,6 +4,7 @@ import atexit
 import functools
 import io
 import os
+import platform
 import re
 import shutil
 import signal
@@ -25,11 +26,13 @@ os.environ.pop("PYTHONDONTWRITEBYTECODE", None)  # a tool that has been compiled
 # A tool runs on the Python of the tests; one that a version manager has put on the path before it starts later.
 os.environ["PATH"] = f"{os.path.dirname(sys.executable)}{os.pathsep}{os.environ['PATH']}"
 # The library of the proved program, or nothing: then the tools run on the simulator in Python.
-LIBRARY = os.environ.get("PP6600_ENGINE") or os.path.join(TOP, "dist", "libpp6600.so")
+ON_AARCH64 = platform.machine() == "aarch64"
+LIBRARY = os.environ.get("PP6600_ENGINE") or os.path.join(TOP, "dist", f"libpp6600{'-aarch64' * ON_AARCH64}.so")
 PROVED = LIBRARY if os.path.exists(LIBRARY) else ""
 if not PROVED:
     os.environ.setdefault("PP6600_ENGINE", "plain")
-sys.path.insert(0, os.path.join(TOP, "tools"))  # so that tests can import the tools' package, pp6600
+at = [path.endswith("-packages") for path in [*sys.path, "-packages"]].index(True)  # behind Python's own modules
+sys.path.insert(at, os.path.join(TOP, "tools"))  # so that tests can import the tools' package, pp6600
 
 
 @functools.lru_cache(maxsize=None)
@@ -38,7 +41,8 @@ def program():
     named = os.environ.get("PP6600")
     if named:
         return os.path.abspath(named)
-    done = subprocess.run([os.path.join(TOP, "share", "which-build")], stdout=subprocess.PIPE, text=True, check=False)
+    names = ["pp6600-aarch64"] if ON_AARCH64 else []
+    done = subprocess.run([os.path.join(TOP, "share", "which-build"), *names], stdout=subprocess.PIPE, text=True, check=False)
     if done.returncode:
         raise RuntimeError("there is no program to test; the line above says why")
     return os.path.join(TOP, done.stdout.splitlines()[0].partition(" ")[2])
@@ -74,7 +78,7 @@ def tool_here(name, *words, **how):
 
 def called(task, *words, script="", folder=TOP, is_one=False):
     """Calls what a program does with these words, in this process, with streams of its own; the two that are written may be one."""
-    streams, before, here = (sys.stdin, sys.stdout, sys.stderr), sys.argv, os.getcwd()
+    streams, before, here, path = (sys.stdin, sys.stdout, sys.stderr), sys.argv, os.getcwd(), [*sys.path]
     handler, named, status = signal.getsignal(signal.SIGINT), os.environ.get("PP6600"), None
     made = [io.TextIOWrapper(io.BytesIO(data), encoding="utf-8", write_through=True) for data in (script.encode("latin-1"), b"", b"")]
     made[2] = made[1 if is_one else 2]
@@ -87,7 +91,7 @@ def called(task, *words, script="", folder=TOP, is_one=False):
         status = end.code
     finally:
         sys.stdin, sys.stdout, sys.stderr = streams
-        sys.argv = before
+        sys.argv, sys.path[:] = before, path
         os.chdir(here)
         signal.signal(signal.SIGINT, handler)
         os.environ.pop("PP6600") if named is None else os.environ.update(PP6600=named)
@@ -104,7 +108,7 @@ def write(path, data="", mode=0o644):
     """Writes a file of text or bytes, and the folders that it needs. Returns its path."""
     os.makedirs(os.path.dirname(path), exist_ok=True)
     with open(path, "wb") as file:
-        file.write(data if isinstance(data, bytes) else data.encode("utf-8"))
+        file.write(data if isinstance(data, bytes) else data.encode("utf-8", "surrogateescape"))
     os.chmod(path, mode)
     return path
 

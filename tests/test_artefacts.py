@@ -1,5 +1,6 @@
 """Tests that the artefacts of dist/ for other machines and other programs answer as the program does, byte for byte: the rows of pp_console,
-the sessions of the pages, the stored cases, and 500 random sessions. What can't run here is skipped, and said.
+the sessions of the pages, the stored cases, and 500 random sessions. What can't run here is skipped, and said. Those for Windows are in
+test_windows.
 
 PP6600_ARTEFACTS names another folder than dist/."""
 
@@ -10,6 +11,7 @@ import hashlib
 import itertools
 import json
 import os
+import platform
 import re
 import resource
 import shlex
@@ -19,7 +21,8 @@ import subprocess
 import sys
 import tempfile
 
-from tests import browser, cases
+from tests import browser, cases, library_calls
+from tests.built import FOLDER, artefact, rows
 from tests.cases import Stored, part
 from tests.fixtures import sessions as sessions_of_pages
 from tests.generator import Maker
@@ -30,27 +33,12 @@ from pp6600.engine import library
 from pp6600.engine.plain.lines import Rejected
 from pp6600.engine.plain.program import read_options, read_words
 
-FOLDER = os.path.abspath(os.environ.get("PP6600_ARTEFACTS") or os.path.join(TOP, "dist"))
 TARGETS, CLIENTS = os.path.join(TOP, "targets"), os.path.join(TOP, "tests", "artefacts")
 WEB = os.path.join(TOP, "tools", "pp6600", "front", "film", "web")
 HEADER = os.path.join(TOP, "crates", "pp_library", "pp6600.h")
 RANDOM = 500
-OF_WINE = {"WINEDEBUG": "-all", "WINEDLLOVERRIDES": "mscoree,mshtml="}  # it says nothing, and starts no more than it must
 CORES = len(os.sched_getaffinity(0))
 WARNINGS = "-Wall -Wextra -Wconversion -Wsign-conversion -Werror".split()
-# A session of the tests of pp_console, and what its machine has.
-ROW = re.compile(r'(?:With::(\w+),\s*)?"\\\n((?:> .*\n)(?:.*\n)*?)"')
-WITH = {"Nothing": [], "Card": ["--deck", "deck"], "Panel": ["--panel", "panel"], "LittleMemory": ["--central", "32"]}
-FILES = {"deck": b"1 2 3\n", "panel": b"1405 3420 300 0 0 0 0 0 0 0 0 0\n"}
-
-
-def rows():
-    """Yields the sessions of the tests of pp_console."""
-    folder = os.path.join(TOP, "crates", "pp_console", "src", "tests")
-    for name in sorted(os.listdir(folder)):
-        for number, (machine, text) in enumerate(ROW.findall(read("crates", "pp_console", "src", "tests", name))):
-            script = "".join(line[2:] + "\n" for line in text.splitlines() if line.startswith("> "))
-            yield Stored(f"{name}, session {number + 1}", WITH[machine or "Nothing"], script.encode("ascii"), FILES)
 
 
 def pages():
@@ -74,14 +62,6 @@ def all_sessions():
     return sessions, run_all(sessions, program())
 
 
-def artefact(name):
-    """Returns the path of an artefact."""
-    path = os.path.join(FOLDER, name)
-    if not os.path.isfile(path):
-        raise AssertionError(f"{path} is not there: ./prove --renew makes it")
-    return path
-
-
 class Artefacts(Case):
     """What tests of artefacts share."""
 
@@ -94,13 +74,15 @@ class Artefacts(Case):
         differing = [session.name for session, one, other in zip(sessions, wanted, found) if one != other]
         self.assertEqual((len(sessions), []), (len(found), differing), f"{name} differs from the program in {len(differing)} sessions")
 
-    def wine(self):
-        """Returns the command of wine and the environment for it: a Windows of its own, which ends with the test."""
-        wine = self.tool("wine64", "wine")
-        environment = {**os.environ, **OF_WINE, "WINEPREFIX": self.path("windows"), "HOME": self.folder}
-        self.addCleanup(subprocess.run, [shutil.which("wineserver") or "true", "-k"], env=environment, check=False)
-        subprocess.run([wine, "cmd", "/c", "ver"], env=environment, capture_output=True, timeout=PATIENCE, check=True)
-        return wine, environment
+    def for_node(self, name):
+        """Returns the paths of a client in JavaScript, of the library and of the module, copied: node reads no path that is not UTF-8."""
+        paths = os.path.join(CLIENTS, name), os.path.join(WEB, "engine", "library.mjs"), artefact("pp6600.wasm")
+        return [shutil.copy(path, self.folder) for path in paths]
+
+    def on(self, machine):
+        """Skips the test on another machine than this one."""
+        if platform.machine() != machine:
+            self.skipTest(f"this machine is no {machine}")
 
 
 class Programs(Artefacts):
@@ -123,11 +105,13 @@ class Programs(Artefacts):
                     CaseTests.check(self, case, path)
 
     def test_static(self):
+        self.on("x86_64")
         self.check("pp6600-static")
         self.check_ways("pp6600-static")
 
     def test_static_in_an_empty_root(self):
         """With no file beside it but a script."""
+        self.on("x86_64")
         if os.geteuid() != 0:
             self.skipTest("only root can change the root")
         root = self.folder
@@ -137,6 +121,7 @@ class Programs(Artefacts):
         self.assertEqual((b"TURNS 1 SLOT 01\n", b"", 0), (done.stdout, done.stderr, done.returncode))
 
     def test_static_with_little_memory(self):
+        self.on("x86_64")
         limit = (4 << 20, 4 << 20)
         case, set_limit = Stored("", [], b"STEP\n", {}), lambda: resource.setrlimit(resource.RLIMIT_AS, limit)
         found = outcome(case, artefact("pp6600-static"), preexec_fn=set_limit)
@@ -146,12 +131,6 @@ class Programs(Artefacts):
         runner = self.tool("qemu-aarch64", "qemu-aarch64-static")
         self.check("pp6600-aarch64", runner)
         self.check_ways("pp6600-aarch64", runner)
-
-    def test_windows(self):
-        """But for words that name a file of Unix."""
-        wine, environment = self.wine()
-        self.check("pp6600.exe", wine, leaves_out=lambda session: any("/dev/" in word for word in session.words), env=environment)
-        self.check_ways("pp6600.exe", "env", *(f"{name}={environment[name]}" for name in (*OF_WINE, "WINEPREFIX", "HOME")), wine)
 
 
 # ---- the library
@@ -206,6 +185,11 @@ def answer_in_python(options, room):
         return b"", f"{refused}\n".encode("ascii"), refused.status
 
 
+def traced(seed):
+    """Returns a sequence of calls of the library, and what they came to."""
+    return seed, library_calls.trace_of(seed, functools.partial(library_calls.Native, artefact("libpp6600.so")))
+
+
 def compiled(compiler, source, *words):
     """Compiles a file in C, without a warning."""
     done = subprocess.run([compiler, "-O1", *WARNINGS, "-I", os.path.dirname(HEADER), source, *words], capture_output=True, text=True, check=False)
@@ -216,7 +200,7 @@ def compiled(compiler, source, *words):
 def answers_of(folder, *command, **how):
     """Runs a client on the sessions, with files in this folder. Returns the bytes of its answers."""
     paths = write(os.path.join(folder, "sessions"), b"".join(sessions_of_library()[2])), os.path.join(folder, "answers")
-    done = subprocess.run([*command, *paths], cwd=folder, capture_output=True, timeout=PATIENCE, check=False, **how)
+    done = subprocess.run([*command, *paths], **{"cwd": folder, "capture_output": True, "timeout": PATIENCE, "check": False, **how})
     if (done.returncode, done.stdout, done.stderr) != (0, b"", b""):
         raise AssertionError(f"{command}: {done}")
     return part(folder, "answers")
@@ -233,7 +217,7 @@ def client_in_c(folder, compiler, name, library):
 @functools.lru_cache(maxsize=None)
 def answers_here():
     """Returns the answers of the client in C on this system; none if there is no compiler."""
-    if not shutil.which("gcc"):
+    if not shutil.which("gcc") or platform.machine() != "x86_64":
         return None
     with tempfile.TemporaryDirectory(prefix="pp6600-test-") as folder:
         return answers_of(folder, client_in_c(folder, "gcc", "libpp6600.so", "libpp6600.so"))
@@ -253,27 +237,40 @@ class Library(Artefacts):
         self.check_all("libpp6600.so by ctypes", sessions, wanted, tuple(map(answer_in_python, options, itertools.cycle((64, 4096, 1 << 20)))))
 
     def test_c(self):
+        self.on("x86_64")
         self.tool("gcc")
         self.check("libpp6600.so", answers_here())
 
     def test_aarch64(self):
         compiler, runner = self.tool("aarch64-linux-gnu-gcc"), self.tool("qemu-aarch64", "qemu-aarch64-static")
-        client = client_in_c(self.folder, compiler, "libpp6600-aarch64.so", "libpp6600.so")
+        client = client_in_c(self.folder, compiler, "libpp6600-aarch64.so", "libpp6600-aarch64.so")
         self.check("libpp6600-aarch64.so", answers_of(self.folder, runner, "-L", "/usr/aarch64-linux-gnu", client))
 
-    def test_windows(self):
-        compiler = self.tool("x86_64-w64-mingw32-gcc")
-        wine, environment = self.wine()
-        client = client_in_c(self.folder, compiler, "pp6600.dll", "pp6600.dll")
-        self.check("pp6600.dll", answers_of(self.folder, wine, client, env=environment))
-
     def test_node(self):
-        node, scripts = self.tool("node", "nodejs"), (os.path.join(CLIENTS, "client.js"), os.path.join(WEB, "library.js"))
-        self.check("pp6600.wasm", answers_of(self.folder, node, *scripts, artefact("pp6600.wasm")))
+        self.check("pp6600.wasm", answers_of(self.folder, self.tool("node", "nodejs"), *self.for_node("client.js")))
+
+    def test_node_memory(self):
+        """The module refuses a size that it has no memory for, and its sessions don't touch each other."""
+        shown = run_tool(self.tool("node", "nodejs"), *self.for_node("memory.js"))
+        self.assertEqual(["true true", "TURNS 1 SLOT 01 true", "true true true", "true", "pp6600.wasm: a line is too long TURNS 1 SLOT 01 1"],
+                         shown.splitlines())
+
+    def test_node_numbers(self):
+        shown = run_tool(self.tool("node", "nodejs"), *self.for_node("numbers.js"),
+                         json.dumps(library_calls.NUMBERS))
+        self.assertRegex(shown, r"^true \d+\n$")
+
+    def test_node_random_calls(self):
+        """The module does in each call what the library does, which tests/test_library.py checks."""
+        node = self.tool("node", "nodejs")
+        with concurrent.futures.ProcessPoolExecutor() as pool:
+            traces = pool.map(traced, range(RANDOM), chunksize=10)
+            path = write(self.path("traces"), "".join(f"{json.dumps(trace)}\n" for trace in traces))
+        self.assertGreater(int(run_tool(node, os.path.join(CLIENTS, "calls.js"), artefact("pp6600.wasm"), path)), 30 * RANDOM)
 
     def test_node_is_told_what_is_wrong(self):
         """A session of the module rejects a deck, a count and a place; it answers more lines than one call takes, and none after its end."""
-        shown = run_tool(self.tool("node", "nodejs"), os.path.join(CLIENTS, "wrong.js"), os.path.join(WEB, "library.js"), artefact("pp6600.wasm"))
+        shown = run_tool(self.tool("node", "nodejs"), *self.for_node("wrong.js"))
         self.assertEqual(["pp6600: DECK LINE 1 NOT OCTAL", "pp6600.wasm: -1 is no number of 32 bits", "pp6600.wasm: rejected",
                           "pp6600.wasm: rejected", "1000001", "pp6600.wasm: the session is closed"], shown.splitlines())
 
@@ -281,8 +278,8 @@ class Library(Artefacts):
         path = browser.found() or self.skipTest("a browser is missing")
         page = browser.Browser(path)
         self.addCleanup(page.end)
-        for script in (os.path.join(WEB, "library.js"), os.path.join(CLIENTS, "client.js")):
-            page.evaluate(read(script) + "\n;0")
+        for script in (os.path.join(WEB, "engine", "library.mjs"), os.path.join(CLIENTS, "client.js")):
+            page.evaluate(re.sub(r"^export ", "", read(script), flags=re.M) + "\n;0")
         given = (base64.b64encode(data).decode() for data in (part(FOLDER, "pp6600.wasm"), b"".join(sessions_of_library()[2])))
         answers = page.evaluate(f"answersInPage(...{json.dumps(list(given))})")
         self.assertEqual([], page.log)
@@ -300,12 +297,14 @@ class Files(Artefacts):
         for name in ("libpp6600.so", "libpp6600-aarch64.so"):
             symbols = run_tool(reader, "--dyn-syms", "--wide", artefact(name))
             self.assertEqual(calls, sorted(line.split()[-1] for line in symbols.splitlines()[4:]))
-            self.assertNotIn("NEEDED", run_tool(reader, "--dynamic", artefact(name)))
+            dynamic = run_tool(reader, "--dynamic", artefact(name))
+            self.assertNotIn("NEEDED", dynamic)
+            self.assertIn(f"soname: [{name}]", dynamic)
 
     def test_the_module_imports_nothing(self):
         node = self.tool("node", "nodejs")
         shown = run_tool(node, "-e", "console.log(WebAssembly.Module.imports(new WebAssembly.Module(require('fs').readFileSync(process.argv[1]))))",
-                         artefact("pp6600.wasm"))
+                         self.for_node("client.js")[-1])
         self.assertEqual("[]\n", shown)
 
     def test_windows_asks_for_two_libraries(self):
@@ -359,4 +358,4 @@ class Shims(Artefacts):
 
 def run_tool(*command):
     """Returns what a tool writes."""
-    return subprocess.run(command, capture_output=True, text=True, timeout=PATIENCE, check=True).stdout
+    return subprocess.run(command, capture_output=True, encoding="utf-8", errors="replace", timeout=PATIENCE, check=True).stdout

@@ -46,7 +46,7 @@ class Crate(Case):
 
     def test_all_instructions_are_there(self):
         """Each name is in the table of the crate, at its code."""
-        table = re.findall(r'b"([A-Z]{3})"', read("crates", "pp_assembler", "src", "instructions.rt"))
+        table = re.findall(r'b"([A-Z]{3})"', read("crates", "pp_notation", "src", "instructions.rt"))
         self.assertEqual(list(MNEMONICS), table)
         self.assertEqual(62, len(CODES))
 

@@ -1,5 +1,5 @@
-"""The subroutines that a processor is in, in random runs with block transfers over their cells, against what its turns say one by one;
-cases by hand are in tests/sessions/sources.txt.
+"""The calls that have not returned, and the returns to a wrong address, in random runs with block transfers over the cells of subroutines,
+against a stack of the test's own; cases by hand are in tests/sessions/sources.txt.
 
     PP6600_CALLS=SEED:COUNT   makes COUNT runs from seed SEED on (decimal)
 """
@@ -12,11 +12,14 @@ from .support import Case, program, run
 from pp6600.language.calls import calls
 from pp6600.language.source.passes import assembled
 from pp6600.language.sources import Source
+from pp6600.run.conditions import Condition, Returns
+from pp6600.run.searches import search_for
 from pp6600.run.session import Session
 from pp6600.shell.script import performed
 
-SEED, COUNT = map(int, os.environ.get("PP6600_CALLS", "70:300").split(":"))
+SEED, COUNT = map(int, os.environ.get("PP6600_CALLS", "70:500").split(":"))
 LJM, RJM, CELLS = 0o01, 0o02, 0o10000
+WAITING = range(0o70, 0o100)  # codes that may wait
 LAST = 0o377  # cell that a program may have
 TURNS = 60  # of PP 00
 
@@ -58,53 +61,65 @@ def turns_of(lines):
     return found
 
 
-class Log:
-    """What the turns of PP 00 did with subroutines, one by one."""
+class OwnStack:
+    """The stack of calls of PP 00 after each of its turns, one by one: each is the entry with the address of the RJM; and the turns that
+    returned wrongly."""
 
     def __init__(self, turns, jumps):
-        self.calls, self.returns, self.blocks = [], [], []  # numbers of turns, with addresses
-        for number, (p, phase, cells) in enumerate(turns[:-1]):
-            word = cells[p] if p <= LAST else 0
-            if phase:
-                continue
-            self.blocks.append((number, p))
-            if word >> 6 == LJM and p in jumps:
-                self.returns.append((number, p))
-            if word >> 6 == RJM and p < LAST:
-                target = (cells[p + 1] + (cells[word & 0o77] if word & 0o77 else 0)) % CELLS
-                self.calls += [(number, p, target - 1)] if target - 1 in jumps else []
+        self.jumps, self.after, self.wrong, self.astray = jumps, [()], [], []
+        for number, ((p, phase, cells), (after, *_)) in enumerate(zip(turns, turns[1:])):
+            calls = list(self.after[-1])
+            if not phase and p < LAST:
+                self.take(calls, number, p, cells, after)
+            self.after.append(tuple(calls))
 
-    def chain(self, turns, count, source):
-        """Returns the jumps back and the addresses of the RJM of the subroutines that PP 00 is in after so many of its turns."""
-        p, phase, _ = turns[count]
-        address = max((block for block in self.blocks if block[0] < count), default=(0, p))[1] if phase else p
-        found, seen = [], set()
-        while (jump := source.subroutine_of(address)) is not None and jump not in seen:
-            last = max(((number, p) for number, p, own in self.calls if own == jump and number < count), default=None)
-            if not last or any(last[0] < number < count for number, own in self.returns if own == jump):
-                break
-            found.append((jump, last[1]))
-            seen.add(jump)
-            count, address = last
-        return found
+    def take(self, calls, number, p, cells, after):
+        """Takes an instruction at P, after which P is another one."""
+        code, index = cells[p] >> 6, cells[p] & 0o77
+        if code == LJM and p in self.jumps:
+            found = [at for at, (entry, *_) in enumerate(calls) if entry == p + 1]
+            if found:
+                if calls[found[-1]][2] != after:
+                    self.wrong.append(number)
+                del calls[found[-1]:]
+        elif p in self.jumps and not (code in WAITING and after == p):
+            self.other(calls, number, p, after)
+        if code == RJM:
+            entry = cells[p + 1] + (cells[index] if index else 0)
+            entry -= (CELLS - 1) * (entry >= CELLS)
+            if entry - 1 in self.jumps:
+                calls.append((entry, p, (p + 2) % CELLS, number))
+
+    def other(self, calls, number, p, after):
+        """Takes another instruction in the place of a jump back: for a call it is a wrong return, once."""
+        found = [call for call in calls if call[0] == p + 1]
+        if found and found[-1] not in self.astray:
+            self.astray.append(found[-1])
+            if found[-1][2] != after:
+                self.wrong.append(number)
 
 
 class Calls(Case):
     def test_random_runs(self):
-        choose, deep, in_block = random.Random(SEED), 0, 0
+        choose, deep, in_block, wrong = random.Random(SEED), 0, 0, 0
         for _ in range(COUNT):
             lines = source_lines(choose)
             source = Source("random.pp", assembled(lines))
             central = [f"SET C {at:o} {choose.choice(('0', f'{choose.randrange(1 << 60):020o}'))}" for at in range(0o20)]
             script = [*source.loading(0), *central]
             turns = turns_of(script)
-            log = Log(turns, source.entries())
+            own = OwnStack(turns, source.entries())
             replay = Session.of_tape([program()], performed([program()], [*script, f"STEP {10 * TURNS:o}"]).tape)
             for count in {*choose.sample(range(1, TURNS), 4)}:
                 position = replay.tape.end - 10 * (TURNS - count)
-                wanted = log.chain(turns, count, source)
+                wanted = [(entry - 1, address) for entry, address, *_ in reversed(own.after[count])]
                 with self.subTest("\n".join([*lines, *central]), count=count):
                     self.assertEqual(wanted, [(call.jump, call.address) for call in calls(replay, 0, source, position)])
                 deep, in_block = deep + (len(wanted) > 1), in_block + bool(wanted and turns[count][1])
+            with self.subTest("\n".join([*lines, *central])):
+                search = search_for(replay, Condition([[Returns(0, tuple(source.entries().values()))]]))
+                found = [(turn - 1) // 10 for _, turn in search.found()]
+                self.assertEqual(own.wrong, found)
+            wrong += bool(found)
             replay.close()
-        self.assertGreater(min(deep, in_block), COUNT // 60)
+        self.assertGreater(min(deep, in_block, wrong), COUNT // 60)

@@ -10,7 +10,6 @@ import xml.dom.minidom
 from .support import TOP, Case, names_of_codes, read, run, write
 
 EDITORS = os.path.join(TOP, "share", "editors")
-ASSEMBLER = os.path.join(TOP, "tools", "assemble")
 SOURCE = """\
 * A NOTE LDN
           BASE   OCTAL
@@ -53,6 +52,8 @@ class Files(Case):
 class EditorCase(Case):
     def setUp(self):
         self.source = write(self.path("a.pp"), SOURCE)
+        os.symlink(os.path.join(TOP, "tools"), self.path("the tools"))  # with a blank
+        self.assembler = self.path("the tools", "assemble")
 
     def run_editor(self, *words, **how):
         """Runs an editor without a display in the folder of the test. Returns what it wrote into its file `out`."""
@@ -69,8 +70,8 @@ class Vim(EditorCase):
         looks = "\n".join(f"call add(out, synIDattr(synID({line}, {column}, 1), 'name'))" for line, column in SHOWN)
         lists = ("silent make!\nfor q in getqflist()\n  if q.valid\n"
                  "    call add(out, join([q.lnum, q.col, trim(q.text)], ' '))\n  endif\nendfor")
-        write(self.path("look.vim"), f"set nocompatible\nexe 'set runtimepath^={EDITORS}/vim'\n"
-              f"let g:pp6600_assembler = '{ASSEMBLER}'\nfiletype plugin on\nsyntax on\nedit a.pp\n"
+        write(self.path("look.vim"), f"set nocompatible\nexe 'set runtimepath^=' . fnameescape('{EDITORS}/vim')\n"
+              f"let g:pp6600_assembler = '{self.assembler}'\nfiletype plugin on\nsyntax on\nedit a.pp\n"
               f"let out = []\n{looks}\n{lists}\nset errorformat&\n{lists}\n"
               "call writefile(out, 'out')\nqall!\n")
         out = self.run_editor("vim", "-N", "-u", "NONE", "-i", "NONE", "-es", "-S", "look.vim")
@@ -93,7 +94,7 @@ class Emacs(EditorCase):
         places = " ".join(f"({line} . {column})" for line, column in SHOWN)
         write(self.path("look.el"), f"""
             (load "{EDITORS}/emacs/pp6600-mode.el")
-            (setq pp6600-assembler "{ASSEMBLER}")
+            (setq pp6600-assembler "{self.assembler}")
             (defun write-out (text) (write-region (concat text "\\n") nil "{self.path('out')}" t 'quiet))
             (find-file "a.pp")
             (font-lock-ensure)

@@ -1,12 +1,17 @@
 """Tests docs/DEFINITIONS.md by its text alone."""
 
+import functools
 import os
 import re
+import runpy
+import sys
 
 from tests.support import TOP, Case, read
 
-# A definition on the page: its heading, its sentence, its code and what is said below it. Long code is folded.
-ENTRY = re.compile(r"^### (`([^`]+)`.*)\n\n(.*)\n\n(?:<details>.*\n\n)?```(antt|rust)\n((?:(?!```).*\n)*)```\n\n((?:(?!###? |```).*\n)*)", re.M)
+sys.path.insert(0, os.path.join(TOP, "docs"))
+
+# A definition on the page: its heading, its sentence, its code and what is said below it. Long code is not there.
+ENTRY = re.compile(r"^### (`([^`]+)`.*)\n\n(.*)\n\n(?:Its [0-9]+ lines are in .*\n|```(antt|rust)\n((?:(?!```).*\n)*)```\n)\n?((?:(?!###? |```).*\n)*)", re.M)
 MOST_WORDS, MOST_OF_THE_THEOREM = 30000, 3500  # to scroll, and of docs/THEOREM.md
 NOT_CODE = re.compile(r'"(?:\\.|[^"\\])*"|(?<!\S)(?:--|//)[^\n]*')
 TOKEN = re.compile(r"[^\s(){};,\[\]]+")
@@ -24,7 +29,7 @@ class Entry:
         self.code = NOT_CODE.sub("", code)
         self.bound = bound_in(self.code) | set(re.findall(r"`([^`]+)`", self.said))
         if language == "rust":
-            self.bound.update(re.findall(r"\w+", "".join(re.findall(r"^pub struct \w+<(.*?)>", code))))
+            self.bound.update(re.findall(r"\w+", "".join(re.findall(r"^struct \w+<(.*?)>", code))))
             self.code = re.sub(r"[<>&]|::|'\w+", " ", self.code)
         own = r"^  (?:pub )?(\S+) :()" if language == "antt" else r"^    ([A-Z]\w*)|(\w+):"
         self.names = parts(self.name) | {name for found in re.findall(own, code, re.M) for name in found}
@@ -38,6 +43,12 @@ class Entry:
 def parts(name):
     """Returns the last part of a name, or each part of an operator, beside itself."""
     return {name, name.split(".")[-1], *name.split("◌")}
+
+
+@functools.lru_cache(None)
+def printed_page():
+    """Returns the page to print, which is not tracked."""
+    return runpy.run_path(os.path.join(TOP, "docs", "definitions.py"))["made"](TOP)[0]["docs/definitions.html"]
 
 
 def bound_in(code):
@@ -58,24 +69,26 @@ class Page(Case):
 
     def test_every_name_is_there(self):
         """Each name of each definition is on the page, in its list of words of the kit, or bound where it is used."""
-        kit = re.findall(r"^\| `([^`]+)` \| \S+ \|", self.text.split("\n## The words of the kit\n")[1], re.M)
+        kit = re.findall(r"^\| `([^`]+)` \| ", self.text.split("\n## The words of the kit\n")[1], re.M)
         known = LANGUAGE.union(*(parts(name.replace("\\|", "|")) for name in kit), *(entry.names for entry in self.entries))
         for entry in self.entries:
             with self.subTest(entry.name):
                 self.assertEqual(set(), entry.used() - known - entry.bound)
 
     def test_order(self):
-        """Each definition is used by a contract, or by a definition above it."""
+        """The theorem comes first, and each definition is used by a contract, or by a definition above it."""
+        found = re.findall(r'<h3 id="([^"]+)">.*?Used by (?:<a href="#([^"]+)"|(the contract))', printed_page(), re.S)
         above = {"the contract"}
-        for entry in self.entries:
-            users = re.search(r"Used by (?:\[`[^`]+`\]\(#([^)]+)\)|(the contract))", entry.said)
-            with self.subTest(entry.name):
-                self.assertIn(users[1] or users[2], above)
-            above.add(entry.anchor)
+        for place, user, contract in found:
+            with self.subTest(place):
+                self.assertIn(user or contract, above)
+            above.add(place)
+        self.assertEqual([entry.anchor for entry in self.entries], [place for place, *_ in found])
+        self.assertEqual("IsRun", self.entries[0].name)
 
     def test_words(self):
-        """What is not folded can be scrolled, and the theorem can be read at once."""
-        self.assertLess(len(re.sub(r"<details>.*?</details>", "", self.text, flags=re.S).split()), MOST_WORDS)
+        """The page can be scrolled, and the theorem can be read at once."""
+        self.assertLess(len(self.text.split()), MOST_WORDS)
         self.assertLess(len(read("docs", "THEOREM.md").split()), MOST_OF_THE_THEOREM)
 
     def test_theorem(self):
@@ -91,7 +104,7 @@ class Page(Case):
 
     def test_links_of_the_printed_page(self):
         """Each link leads to a place of the page or to a file, and each place is there once."""
-        printed = read("docs", "definitions.html")
+        printed = printed_page()
         places, links = re.findall(r' id="([^"]+)"', printed), re.findall(r' href="([^"#]*)(?:#([^"]*))?"', printed)
         self.assertEqual(sorted(set(places)), sorted(places))
         self.assertEqual(set(), {place for path, place in links if not path} - set(places))
@@ -109,11 +122,11 @@ class Page(Case):
         found = re.findall(r"\[([MP]\d+)\]\(MACHINE\.md#([\w-]+)\)", self.text)
         self.assertEqual(facts, dict(found))
         self.assertLess(100, len(found))
-        kinds = dict(re.findall(r"^\| \*\*([MP])1\*\*, .* \| is (the manual's|this project's choice)\b", read("docs", "MACHINE.md"), re.M))
-        self.assertEqual({"M": "the manual's", "P": "this project's choice"}, kinds)
+        kinds = dict(re.findall(r"^\| \*\*([MP](?:1|4\*\* \(invented\)))[*, .MP0-9]+ \| is (.*?)[,:]", read("docs", "MACHINE.md"), re.M))
+        self.assertEqual(["M1", "P1", "P4** (invented)"], list(kinds))
 
     def test_facts_in_the_margin(self):
-        printed = read("docs", "definitions.html")
+        printed = printed_page()
         for mark, text in (("M16", "Channel 14 is the real-time clock."), ("P12", "A wait changes nothing of the processor, not even P")):
             self.assertRegex(printed, rf'<div class="facts">.*<a href="MACHINE.md#channels" title="{text}[^"]*">{mark}</a>.*</div>')
 

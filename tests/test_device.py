@@ -7,7 +7,7 @@ import os
 import random
 from types import SimpleNamespace
 
-from tests.device_law import DUMPS, PANEL, Definition, FewStates, RandomDevice, first_difference, random_program
+from tests.device_law import DUMPS, PANEL, Definition, FewStates, RandomDevice, TwoOnAChannel, first_difference, random_program
 from tests.support import Case, program
 
 from pp6600 import INACTIVE, NOTHING, Attached, Device, Failure, full
@@ -26,6 +26,12 @@ class Law(Case):
         panel = self.file(PANEL)
         for number in range(SEED, SEED + COUNT):
             self.assertIsNone(first_difference(number, panel))
+
+    def test_two_devices_on_one_channel(self):
+        """100 (decimal) short sessions with two equipments behind one controller."""
+        panel = self.file(PANEL)
+        for number in range(SEED, SEED + 25 * COUNT):
+            self.assertIsNone(first_difference(number, panel, 6, kind=TwoOnAChannel))
 
     def test_walks_of_the_debug_adapter(self):
         panel = self.file(PANEL)

@@ -93,7 +93,8 @@ class Blocks(DeviceCase):
     def made(kind, records):
         """Returns a device."""
         ring = "ring" if records.endswith("ring") else ""
-        return {"card_reader": lambda: CardReader(records_of(records), channel=0o5), "line_printer": lambda: LinePrinter(channel=0o5),
+        records, _, busy = records.partition(", busy ")
+        return {"card_reader": lambda: CardReader(records_of(records), channel=0o5, busy=busy or 0), "line_printer": lambda: LinePrinter(channel=0o5),
                 "magnetic_tape": lambda: MagneticTape(records_of(records.removesuffix("ring").strip()), ring),
                 "console_display": lambda: ConsoleDisplay(*records.split()), "paper_tape": lambda: PaperTape(records.encode(), 0o5)}[kind]()
 

@@ -10,6 +10,7 @@ import itertools
 import os
 import re
 import runpy
+import shlex
 import shutil
 import sys
 import threading
@@ -60,7 +61,7 @@ class Command(Case):
         self.assertEqual(("1: P = 7776, Q = 0002, PHASE = 6110, M 0000 = 0101", "4: P = 0004, PHASE = 0000"), (steps[0], steps[3]))
 
     def test_full_output(self):
-        done = run("bash", "-c", f"{EVALUATE} 1 >/dev/full; echo status $?")
+        done = run("bash", "-c", f"{shlex.quote(EVALUATE)} 1 >/dev/full; echo status $?")
         self.assertEqual(("status 2\n", "docs/evaluate: No space left on device\n"), done[:2])
 
     def test_route(self):
@@ -73,20 +74,22 @@ class Command(Case):
     def test_route_of_the_theorem(self):
         """Each step of the route of 25 minutes shows what it is there for. The prover is not asked."""
         route = read("docs", "THEOREM.md").split("\n## A route of 25 minutes\n")[1].split("\n## ")[0].replace("/tmp/", self.room() + "/")
-        begin, compare, differ, slip, mutant, _ = re.findall(r"^```text\n(.*?)\n```", route, re.M | re.S)
+        begin, compare, differ, slip, mutant, _, without = re.findall(r"^```text\n(.*?)\n```", route, re.M | re.S)
         answers = "OK\nOK\nTURNS 13 SLOT 01\nPP 00 P 0102 A 000005 Q 0000 PHASE 0000 SLOT 01\nBACK 1 SLOT 00\n" \
                   "PP 00 P 0101 A 000005 Q 0000 PHASE 0000 SLOT 00\n"
-        shell = ["bash", "-c", f"cd {TOP}; {begin}\n{compare.splitlines()[0]}"]
+        shell = ["bash", "-c", f"cd {shlex.quote(TOP)}; {begin}\n{compare.splitlines()[0]}"]
         self.assertEqual((answers, "", 0), run(*shell))
-        differs = differ.replace("./pp6600", program())
-        self.assertEqual(("the same\n", "", 0), run("bash", "-c", f"cd {TOP}; {differs}"))
+        differs = differ.replace("./pp6600", shlex.quote(program()))
+        self.assertEqual(("the same\n", "", 0), run("bash", "-c", f"cd {shlex.quote(TOP)}; {differs}"))
         first, *planted = slip.splitlines()  # the copy has what is not committed, too
         for name in ("crates", "docs", "examples", "tests"):
             shutil.copytree(os.path.join(TOP, name), os.path.join(first.split()[2], name), ignore=shutil.ignore_patterns("out"))
+        shutil.copy(os.path.join(TOP, "crates.txt"), first.split()[2])
         done = run("bash", "-c", "\n".join(planted))
         self.assertEqual((1, ""), (done.status, done.err))
         self.assertRegex(done.out, "^worked row .* does not hold\n")
         self.assertIn("\nold: ", run("bash", "-c", f"cd {TOP}; {mutant}").out)
+        self.assertEqual("0\n", run("bash", "-c", f"cd {TOP}; {without}").out)
 
     def test_help(self):
         done = evaluate("--help")
@@ -102,8 +105,10 @@ class Command(Case):
 
     def test_examples(self):
         """Each example of the page has the value that the page says, and each case has an example or is said to have none; the worked rows
-        hold, and each stored case has its outcome."""
-        self.assertEqual(("", "", 0), evaluate("--check"))
+        hold, and each stored case has its outcome. What is passed over is counted."""
+        done = evaluate("--check")
+        self.assertEqual(("", 0), (done.err, done.status), done.out)
+        self.assertRegex(done.out, r"\Acomputed: [0-9]{3,} examples, ([0-9]+) of ([0-9]+) worked rows, ([0-9]+) of ([0-9]+) cases\npassed over: .*\n\Z")
 
     def test_examples_as_typed(self):
         """Examples that are typed are shown as the page shows them."""

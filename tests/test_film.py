@@ -3,12 +3,16 @@
 Other expected values are those of docs/FILM.md and of the run's own files.
 """
 
+import base64
 import glob
+import hashlib
 import os
 import re
 
 from tests.films import FOLDER, FilmCase, about, shown_film, stored, unpacked
-from tests.support import TOP, read, write
+from tests.support import TOP, Case, read, write
+
+from pp6600.front.film.joining import JoinError, joined
 
 BYTE = "\udcff"  # a byte of a command line that is not UTF-8, as Python has it
 
@@ -35,14 +39,24 @@ class Tool(FilmCase):
                               ((), "standard input"), (("--title", "/*--script--*/<!--film-->"), "/*--script--*/&lt;!--film--&gt;")):
             with self.subTest(words=words):
                 made = read(self.film(*words, script="STEP\n"))
-                self.assertEqual([wanted] * 2, re.findall(r"<(?:title|h1)>(.*?)</", made))
+                self.assertEqual([wanted], re.findall(r"<title>(.*?)</", made))
 
     def test_one_page(self):
-        """The page's script is all files of its folder, each once, and no mark of the template is left."""
-        made = read(self.film(script="STEP\n"))
-        for path in glob.glob(os.path.join(TOP, "tools", "pp6600", "front", "film", "web", "*.js")):
-            self.assertEqual(1, made.count(read(path).strip()), path)
+        """Each module is in the page once, and no mark of the template is left."""
+        made, web = read(self.film(script="STEP\n")), os.path.join(TOP, "tools", "pp6600", "front", "film", "web")
+        made += unpacked(made, "engine").decode("utf-8")
+        for path in glob.glob(os.path.join(web, "*", "*js")):
+            name = re.sub(r"\W", "_", os.path.splitext(os.path.relpath(path, web))[0])
+            self.assertEqual(1, made.count(f"const m_{name} = (() => {{"), path)
         self.assertEqual([], re.findall(r"<!--\w+-->|/\*--\w+--\*/", made))
+
+    def test_scripts_that_may_run(self):
+        """The page runs its own two scripts, by their checksums, and none that stands in a text."""
+        made = read(self.film(script="STEP\n"))
+        policy, scripts = re.search(r'Content-Security-Policy" content="(.*?)"', made)[1], re.findall(r"<script(?: id=\"shared\")?>(.*?)</script>", made, flags=re.S)
+        sums = [base64.b64encode(hashlib.sha256(script.encode()).digest()).decode() for script in scripts]
+        self.assertEqual(f"default-src 'none'; script-src 'sha256-{sums[0]}' 'sha256-{sums[1]}' 'wasm-unsafe-eval' blob:; worker-src blob:; "
+                         "style-src 'unsafe-inline'", policy)
 
     def test_files_of_the_run(self):
         """The page has the script, the deck and the panel byte for byte, and how one runs them again."""
@@ -68,6 +82,27 @@ class Tool(FilmCase):
         for name in stored():
             pages = read(shown_film(name)), read(FOLDER, f"{name}.html")
             with self.subTest(name, part="page"):
-                self.assertEqual(*(re.sub(r'(?s)(id="(?:film|simulator)">\n).*?(\n</script>)', r"\1\2", page) for page in pages))
+                self.assertEqual(*(re.sub(r'(?s)(id="(?:film|simulator|engine)">\n).*?(\n</script>)', r"\1\2", page) for page in pages))
             with self.subTest(name, part="film"):
                 self.assertEqual(*map(about, pages))
+
+
+class Joining(Case):
+    """Modules become one script, or a sentence says why not."""
+
+    def joined(self, **texts):
+        for name, text in texts.items():
+            write(self.path(f"{name}.js"), text)
+        return joined({"one": self.path("a.js")})["one"]
+
+    def test_in_order(self):
+        made = self.joined(a='import { B, c } from "./b.js";\nexport const a = B + c();\n', b="export const B = 1, C = 2;\nexport function c() { return C; }\n")
+        self.assertEqual('"use strict";\nconst m_b = (() => {\nconst B = 1, C = 2;\nfunction c() { return C; }\nreturn { B, C, c };\n})();\n'
+                         'const m_a = (() => {\nconst { B, c } = m_b;\nconst a = B + c();\nreturn { a };\n})();\n', made)
+
+    def test_refused(self):
+        for texts, wanted in (({"a": 'import { b } from "./b.js";\n', "b": 'import { a } from "./a.js";\nexport const b = 1;\n'}, "a cycle: .*a.js -> .*b.js -> .*a.js"),
+                              ({"a": 'import { b } from "./b.js";\n', "b": "export const c = 1;\n"}, "no module exports b"),
+                              ({"a": "export default 1;\n"}, "export default 1"), ({"a": 'import "./b.js";\n', "b": ""}, 'import "./b.js"')):
+            with self.subTest(texts), self.assertRaisesRegex(JoinError, wanted):
+                self.joined(**texts)

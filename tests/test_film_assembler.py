@@ -1,13 +1,12 @@
-"""The assembler of a film's page: in Node what it knows of sources, against the tools; in a browser how it is used."""
+"""The assembler of a film's page, in Node: what it knows of sources, against the tools. tests/film.txt shows how it is used."""
 
 import glob
 import json
 import os
 import shutil
-import subprocess
 import unittest
 
-from .films import PageCase
+from .films import in_node
 from .support import TOP, Case, read
 
 from pp6600.front.film import page
@@ -16,10 +15,8 @@ from pp6600.language.source.writing import set_lines
 from pp6600.language.sources import Source
 
 PLACES = ("examples/*/*.pp", "exercises/**/*.pp", "tests/programs/*.pp", "tests/debug/*.pp")
-WEB = os.path.join(TOP, "tools", "pp6600", "front", "film", "web")
 MODULE = os.path.join(TOP, "dist", "pp6600.wasm")
 LEAST = 10  # sources that the module takes
-COUNTER = "          ORG    100B\n START    LDN    5\n          STD    20B\n          UJN    *\n          END    START\n"
 
 
 def own_lines(source, rows):
@@ -41,9 +38,8 @@ class InNode(Case):
         paths = sorted(path for place in PLACES for path in glob.glob(os.path.join(TOP, place), recursive=True))
         texts = [text for text in map(read, paths) if "\n," not in text and text.isascii()]
         files = [self.file(json.dumps(data)) for data in ({"two_words": page.tables()["two_words"]}, texts)]
-        done = subprocess.run(["node", os.path.join(TOP, "tests", "film_assembler.cjs"), WEB, MODULE, *files], capture_output=True, text=True, check=False)
-        self.assertEqual("", done.stderr)
-        made = [(path, one) for path, one in zip((path for path in paths if read(path) in texts), map(json.loads, done.stdout.splitlines())) if not one["faults"]]
+        done = map(json.loads, in_node("film_assembler.js", MODULE, *files))
+        made = [(path, one) for path, one in zip((path for path in paths if read(path) in texts), done) if not one["faults"]]
         self.assertGreater(len(made), LEAST)
         for path, one in made:
             with self.subTest(path):
@@ -61,32 +57,3 @@ class InNode(Case):
         self.assertEqual([labels[name] for name in ("names", "addresses")], [one["labels"][name] for name in ("names", "addresses")])
         self.assertEqual(sorted(labels["entries"]), sorted(one["labels"]["entries"]))
         self.assertEqual(own_lines(source, labels["texts"]), own_lines(source, one["labels"]["texts"]))
-
-
-class InBrowser(PageCase):
-    def type_source(self, text):
-        self.value(f"(byId('assemble-text').value = {json.dumps(text)}, byId('assemble-text').dispatchEvent(new Event('input')))")
-
-    def test_a_new_source(self):
-        """A source is typed, its message leads to its place, and put right it is loaded and runs; the saved script has its lines."""
-        self.browser.open(self.film(script="STEP 3\n"))
-        self.value("document.querySelector('#assembler details').open = true")
-        self.browser.wait_for("assembler.calls && byId('assembled').textContent")
-        self.type_source(COUNTER.replace("20B", "LATER"))
-        self.assertEqual(["3:18: LATER is not defined"], self.value("[...byId('complaints').children].map((one) => one.textContent)"))
-        self.browser.click("#complaints button")
-        self.assertEqual("L", self.value("((field) => field.value.slice(field.selectionStart, field.selectionEnd))(byId('assemble-text'))"))
-        self.assertTrue(self.value("byId('load-source').disabled"))
-        self.type_source(COUNTER)
-        self.assertEqual("3 words", self.value("byId('assembled').textContent"))
-        self.assertIn("0101       3420                 STD    20B", self.value("byId('listing').textContent"))
-        self.value("(byId('assemble-for').value = 2, byId('assemble-for').dispatchEvent(new Event('change')))")
-        self.type_source(COUNTER)
-        self.browser.click("#load-source")
-        self.browser.wait_for("film.sources && film.sources[2]")
-        self.browser.wait_for("!engine.isBusy")
-        script = self.value("givenNow().script")
-        self.assertEqual("STEP 3\nSET M 2 100 1405 3420 300\nSET P 2 100\n", script)
-        self.assertIn("START", self.value("document.querySelector('#source .present').textContent"))
-        self.value("engine.act(['STEP 24'])")
-        self.assertEqual("A 02 is 000005.", self.value("(choose(placeNamed('A 2')), byId('chosen-text').textContent.slice(0, 15))"))

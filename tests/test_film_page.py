@@ -1,13 +1,12 @@
 """The page of a film in a browser: the blocks of tests/film.txt, and what these can't show. Expected values are those of the pages of docs/."""
 
 import json
+import os
 import re
-import unittest
 
-from tests import firefox
 from tests.film_blocks import BLOCKS, BlockCase
-from tests.films import DEVICES, FilmCase, PageCase, about, random_session, shown_film
-from tests.support import add_tests, read
+from tests.films import DEVICES, PageCase, about, random_session, shown_film
+from tests.support import add_tests, read, run
 
 from pp6600.front.keys import ROWS
 
@@ -23,12 +22,12 @@ class Tables(PageCase):
     """What the page has of the pages of docs/, and they of it."""
 
     def test_one_table(self):
-        """Each key of the table has its action, and docs/FILM.md has the rows of the table."""
+        """Each key of the table has its action, and docs/FILM.md has the rows that differ from the panel's."""
         self.browser.open(shown_film("handshake"))
-        self.assertEqual([], self.value("Object.values(film.keys.actions).filter((action) => !ACTIONS[action])"))
-        self.assertEqual([], self.value("Object.keys(ACTIONS).filter((action) => !Object.values(film.keys.actions).includes(action))"))
+        keys, actions = self.value("[Object.values(page.store.state.keys.actions), Object.keys(page.moves.actions)]")
+        self.assertEqual(set(keys), set(actions))
         rows = re.findall(r"^\| (.*?) \| (.*) \|$", read("docs/FILM.md").split("## Keys")[1].split("\n## ")[0], re.M)[1:]
-        self.assertEqual([(" ".join(f"`{name}`" for name in row.shown()), row.page) for row in ROWS if row.page], rows)
+        self.assertEqual([(" ".join(f"`{name}`" for name in row.shown()), row.page) for row in ROWS if row.page not in ("", row.panel)], rows)
 
     def test_links(self):
         """In the turn of a link of the pages its place changes."""
@@ -36,7 +35,8 @@ class Tables(PageCase):
             for name, address in re.findall(r"films/([\w-]+)\.html(#turn=[0-7]+&place=[\w+]+)\)", read(page)):
                 self.browser.open(shown_film(name), address)
                 with self.subTest(page, film=name):
-                    self.assertIn(self.value("shown.chosen.name"), self.value("changesOf(film.at).map(({ name }) => name)"))
+                    chosen, changed = self.value("(({ film, chosen }) => [chosen.name, film.changesOf(film.at).map(({ place }) => place.name)])(page.store.state)")
+                    self.assertIn(chosen, changed)
 
     def test_meanings(self):
         """What is said of an instruction or a directive is what docs/MACHINE.md or docs/ASSEMBLER.md says."""
@@ -53,21 +53,41 @@ class Lanes(BlockCase):
         """What is added at the end is in the lanes: they are as they are if all is drawn anew."""
         self.browser.open(self.film(*DEVICES), "#place=A+0")
         for line in [*random_session(7), *["STEP"] * 20, "BACK 3", "STEP 2"]:
-            self.value(f"engine.act({json.dumps([line])})")
+            self.value(f"page.session.act({json.dumps([line])})")
             self.compare("is-as-drawn", None, "=", "yes")
 
 
-@unittest.skipUnless(firefox.found(), "there is no Firefox")
-class OtherBrowser(FilmCase):
-    """Firefox opens a page from its file, and goes on."""
+class Screens(PageCase):
+    """Each look in each size of windows, light and dark: nothing is wider or higher than the window, and the header is low. The variable
+    SCREENS names a folder in which the pictures stay."""
 
-    def test_firefox(self):
-        browser = firefox.Firefox(firefox.found())
-        self.addCleanup(browser.end)
-        browser.open(f"file://{self.film(script='SET M 0 100 1405 3420 300{0}SET P 0 100{0}STEP 12{0}'.format(chr(10)))}")
-        browser.wait_for("document.body && document.body.dataset.open === 'yes'")
-        position = "document.getElementById('position').textContent"
-        self.assertTrue(browser.evaluate(position).startswith("After turn 12."))
-        browser.key("s")
-        browser.wait_for(f"{position}.startsWith('After turn 13.')")
-        self.assertEqual("000005", browser.evaluate("document.querySelector('[data-place=\"A 00\"]').textContent"))
+    SIZES = ((1280, 800), (1920, 1080), (1024, 768), (390, 844))
+    FITS = """(() => { const { scrollWidth, scrollHeight } = document.documentElement, header = document.querySelector("header").getBoundingClientRect();
+      return [scrollWidth <= innerWidth && scrollHeight <= innerHeight, header.height / innerHeight]; })()"""
+
+    def pictures(self, name, path, address, looks):
+        folder = os.environ.get("SCREENS") or self.folder
+        os.makedirs(folder, exist_ok=True)
+        for width, height in self.SIZES:
+            for look in looks:
+                for dark in (False, True):
+                    self.browser.look(width, height, dark=dark)
+                    self.browser.open(path, address)
+                    self.value(f"page.hands.look({look!r})")
+                    self.browser.wait_for("!page.session.client.isBusy")
+                    self.value("new Promise((done) => requestAnimationFrame(() => setTimeout(done, 50)))")
+                    picture = os.path.join(folder, f"{name}-{look}-{width}{'-dark' if dark else ''}.png")
+                    self.browser.picture(picture)
+                    with self.subTest(picture=os.path.basename(picture)):
+                        fits, header = self.value(self.FITS)
+                        self.assertTrue(fits)
+                        self.assertLessEqual(header, 0.15 if look == "debug" and width >= 1280 else 0.25)
+                        self.assertGreater(os.path.getsize(picture), 10000)
+
+    def test_film(self):
+        self.pictures("film", shown_film("overwritten-loader"), "#turn=405&place=M+0+106", ("debug", "projector"))
+
+    def test_class(self):
+        path = self.path("class.html")
+        self.assertEqual(0, run("exercises/hand-out", path).status)
+        self.pictures("class", path, "", ("class",))

@@ -23,10 +23,12 @@ class Mark(NamedTuple):
 CELLS = 0o10000
 WHOLE, NOT_YET = Mark(""), Mark("not yet")
 # In the page: of each source the line where its processor is, and what is said of each line with words.
-LINES = """[...source.of.values()].map((one) => {
-  const { number, note } = lineOfNext(one.processor), rows = one.lines.filter((row) => row.words.length);
-  return [number ? [number, note] : [], rows.map((row) => (row.loadedAt >= 0 && resolve(film.at) >= row.loadedAt
-    ? markOf(one, row.words) : ["not yet", null]))];
+LINES = """[...page.store.state.sources.values()].map((one) => {
+  const { film } = page.store.state, { number, note } = m_machine_sources.lineOfNext(film, one), rows = one.lines.filter((row) => row.words.length);
+  return [number ? [number, note] : [], rows.map((row) => {
+    const { text, address } = m_machine_sources.markOf(film, one, row.words);
+    return m_machine_sources.isLoaded(film, row) ? [text, address] : ["not yet", null];
+  })];
 })"""
 PROGRAMS = os.path.join(TOP, "tests", "programs")
 # Runs with sources: options of the machine, the sources by their processors, and the lines of a script.
@@ -84,12 +86,12 @@ class Lines(PageCase):
             self.browser.open(self.film(*options, *sources_of(sources), script="".join(f"{line}\n" for line in script)))
             loaded = {number: Source.of_file(path) for number, path in sources.items()}
             loading = [line for number, source in loaded.items() for line in source.loading(number)]
-            total = self.value("film.count")
+            total = self.value("page.store.state.film.count")
             moments = random.Random(script[0]).sample(range(len(loading), total), 40)
             for moment, (console, _) in enumerate(moments_of([program(), *options], [*loading, *script])):
                 if moment in moments:
                     with self.subTest(script=script, moment=f"{moment:o}"):
-                        self.check(self.value(f"goTo({moment}), {LINES}"), console, loaded)
+                        self.check(self.value(f"page.moves.moveTo({moment}), {LINES}"), console, loaded)
 
     def check(self, got, console, sources):
         """Compares the lines of a moment with the dumps there."""
@@ -101,7 +103,7 @@ class Lines(PageCase):
     def test_loading(self):
         """Before a line is loaded, nothing is said to be overwritten."""
         self.browser.open(self.film("--source", "0", write(self.path("count.pp"), FILES["count.pp"]), script="STEP\n"))
-        marks = [[Mark(*mark) for mark in self.value(f"goTo({moment}), {LINES}")[0][1]] for moment in (0, 1)]
+        marks = [[Mark(*mark) for mark in self.value(f"page.moves.moveTo({moment}), {LINES}")[0][1]] for moment in (0, 1)]
         self.assertEqual([[NOT_YET] * 9, [WHOLE] * 6 + [NOT_YET] * 3], marks)
 
     def test_without_a_source(self):

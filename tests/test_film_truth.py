@@ -1,23 +1,22 @@
-"""The scripts of a film's page, run by Node, beside the tools and the program on random sessions: the answers, and of each moment its kind,
+"""The modules of a film's page, run by Node, beside the tools and the program on random sessions: the answers, and of each moment its kind,
 what it changed, what it wrote and from what. Other seeds: TRUTH_SEEDS="1000 200" compares 200 sessions from seed 1000 on (decimal)."""
 
 import json
 import os
 import shutil
-import subprocess
 import unittest
 
+from tests.films import in_node
 from tests.generator import BUSY, LOOPS, WATCHED, Maker
 from tests.support import EXAMPLES, TOP, Case, program, read
 from tests.support import run as run_program
+from tests.turns import Recording, Turn, TurnKind
 
 from pp6600.engine.interface import CARD, CLOCK, PHASE, SLOT, A, P, Q, place_number
 from pp6600.front.film import page
 from pp6600.run.forms import CELLS, CHANNELS, PROCESSORS, STATES
-from pp6600.run.recording import Recording
 from pp6600.run.session import Session
-from pp6600.run.turn import (
-    AT_END_OF_BLOCK, AT_END_OF_INPUT, NO_WORD, RETURN, ZERO, TurnKind, device_put_a_word, is_made_by, places_of_setting)
+from pp6600.run.turn import AT_END_OF_BLOCK, AT_END_OF_INPUT, NO_WORD, RETURN, ZERO, places_of_setting
 from pp6600.shell.command_line import arguments
 
 SEEDS = "100 60"  # of the random sessions: the first, and how many
@@ -84,12 +83,11 @@ def written_by_devices(recording, at, turn, deck):
     """Returns what the reader and the printer wrote after the processor of a turn."""
     found = []
     for channel in READER, PRINTER:
-        before, after = recording.state(channel, at), recording.state(channel, at + 1)
         has_read = channel == READER and CARD + 1 in recording.wrote(at)
-        if device_put_a_word(channel, turn.writes(), before, after):
+        if turn.has_word_of_device(channel):
             column = COLUMNS * recording.number(CARD, at) + recording.number(CARD + 1, at)
             found.append([place_number("H", (channel,)), BY_DEVICE, "", [[deck + column, 0]] if has_read else []])
-        if before != after and not is_made_by(turn, channel, before, after):
+        if turn.is_changed_by_device(channel):
             found.append([place_number("S", (channel,)), BY_DEVICE, "", []])
     return found
 
@@ -103,7 +101,7 @@ def turns_of(run, count, deck):
     """Yields the moments of the last turns of a run."""
     recording, turn_before = Recording(run, run.position - count, run.position), run.turn - count
     for at in range(count):
-        turn = recording.turn(at)
+        turn = Turn(recording, at)
         yield [kind_of(turn), turn.number, turn.processor.p, turn_before + at + 1, changed(recording, at),
                written(turn) + written_by_devices(recording, at, turn, deck)]
 
@@ -120,10 +118,7 @@ class Truth(Case):
         about = {**page.tables(), **page.options(arguments("").parse_args(list(OPTIONS))), "labels": {}, "lines": []}
         files = {"about": about, "sessions": [{"lines": lines, "deck": read(OPTIONS[-1]), "panel": read(OPTIONS[-3])} for lines in sessions]}
         paths = [self.file(json.dumps(data)) for data in files.values()]
-        web, module = os.path.join(TOP, "tools", "pp6600", "front", "film", "web"), os.path.join(TOP, "dist", "pp6600.wasm")
-        done = subprocess.run(["node", os.path.join(TOP, "tests", "film_rows.cjs"), web, module, *paths], capture_output=True, text=True, check=False)
-        self.assertEqual("", done.stderr)
-        return map(json.loads, done.stdout.splitlines())
+        return map(json.loads, in_node("film_rows.js", os.path.join(TOP, "dist", "pp6600.wasm"), *paths))
 
     def test_random_sessions(self):
         first, count = map(int, os.environ.get("TRUTH_SEEDS", SEEDS).split())

@@ -1,7 +1,8 @@
-"""What ./pp6600 adds at a terminal, in the repository of tests/launched, and pp6600.cmd under Wine. tests/sessions/launcher.txt and
+"""What ./pp6600 adds at a terminal, in the repository of tests/launched. tests/sessions/launcher.txt and
 launcher-elsewhere.txt have what it does elsewhere, the choice of the build that it runs, ./prove and ./check."""
 
 import os
+import platform
 import shutil
 import subprocess
 import unittest
@@ -15,7 +16,7 @@ GREETING = ("pp6600 7.8.9: SET STEP BACK FORWARD WATCH UNWATCH DEADSTART DUMP\n"
 NO_RLWRAP = unittest.skipUnless(shutil.which("rlwrap"), "there is no rlwrap here")
 
 
-@unittest.skipUnless(IS_HERE, "there is no tmux")
+@unittest.skipUnless(IS_HERE and platform.machine() == "x86_64", "there is no tmux, or this is no x86_64")
 class AtTerminal(Case):
     def setUp(self):
         self.assertEqual(("", "", 0), run(os.path.join(TOP, "tests", "launched"), program(), cwd=self.folder))
@@ -76,17 +77,3 @@ class AtTerminal(Case):
         empty = self.room()
         shown, _ = self.at_terminal(("> ", "STEP 12\r"), ("TURNS 12", "\x04"), path=["/usr/bin", "/bin"], home=False, folder=empty)
         self.assertEqual((True, False, []), ("TURNS 12" in shown, "warning" in shown, os.listdir(empty)))
-
-
-@unittest.skipUnless(shutil.which("wine") and os.path.exists(os.path.join(TOP, "dist", "pp6600.exe")), "there is no Wine or no dist/pp6600.exe here")
-class OnWindows(Case):
-    def command(self, top, *words, script=""):
-        """Runs pp6600.cmd of a folder, from another one."""
-        path = f"Z:{os.path.join(top, 'pp6600.cmd')}".replace("/", "\\")
-        done = run("wine", "cmd", "/c", path, *words, script=script, cwd=self.folder, env={"WINEPREFIX": self.path("wine"), "WINEDEBUG": "-all"})
-        return done.out.replace("\r", ""), done.err.replace("\r", "").splitlines()[-1:], done.status
-
-    def test_command(self):
-        self.command(TOP, "--help")  # makes the folder of Wine
-        self.assertEqual(("TURNS 12 SLOT 00\nERR 01 NOT A COMMAND\n", [], 1), self.command(TOP, script="STEP 12\nGO\n"))
-        self.assertEqual(("", ["pp6600: BAD ARGUMENTS"], 2), self.command(TOP, "--history", "0"))

@@ -1,20 +1,46 @@
 """The library libpp6600.so: the examples in C, what turns overwrote put back, and wrong options, rooms, counts and places. That it answers as
 the program does, tests/test_artefacts.py tries."""
 
+import concurrent.futures
 import os
+import re
 import shutil
 import subprocess
+import sys
 import unittest
 
+from tests import library_calls
 from tests.generator import BUSY, WATCHED as WATCHING, Maker
 from tests.support import PATIENCE, PROVED, TOP, Case, blocks, program, read
 
 from pp6600.engine import library
-from pp6600.engine.library import LibrarySession, Refused
+from pp6600.engine.assembler import Assembler
+from pp6600.engine.interface import Form
+from pp6600.engine.library import LibraryEngine, LibrarySession, Refused
 from pp6600.failure import Failure
 
 CRATE = os.path.join(TOP, "crates", "pp_library")
 PLACES = 106592 + 32768  # of a machine with the smallest central memory
+SEQUENCES = 500
+STACKS = 28 << 10, 144 << 10, 16 << 10  # bytes of the assembler's calls, of a search and of another, as the header says
+# Opens sessions with little memory until there is none, and compares the others before and after.
+LITTLE_MEMORY = """
+import resource
+from pp6600.engine import library
+used = int(open("/proc/self/statm").read().split()[0]) * resource.getpagesize()
+library.load()
+resource.setrlimit(resource.RLIMIT_AS, (used + (24 << 20),) * 2)
+sessions, numbers = [], lambda session: session.numbers(40960, 100) + session.numbers(0, 100)
+try:
+    while len(sessions) < 100:
+        sessions.append(library.LibrarySession(history=200, central=32768))
+        sessions[-1].answer(b"SET A 0 %o\\nSTEP 20\\n" % len(sessions))
+except library.Refused as refused:
+    before = list(map(numbers, sessions))
+    sessions.pop(0).close()
+    sessions.append(library.LibrarySession(history=200, central=32768))
+    print(refused, len(sessions) > 2, list(map(numbers, sessions))[:-1] == before[1:])
+"""
 
 
 @unittest.skipUnless(PROVED, "dist/libpp6600.so was not built")
@@ -115,6 +141,68 @@ class WrongHands(LibraryCase):
         self.assertIsNone(session.again(1))
         self.assertEqual(session.turns(0), ([], False))
 
+    def test_numbers_that_a_call_does_not_take(self):
+        """C takes their lowest bits: 2**32 + 1 is one action, and 2**32 + 40970 is P of processor 0."""
+        session, assembler = self.open(central=32768), Assembler(PROVED)
+        session.answer(b"STEP 20\nBACK 10\n")
+        before = session.counts(), session.numbers(0, PLACES)
+        made = {
+            "open": lambda at, number: self.open(**{("history", "central", "reader", "printer")[at]: number}),
+            "numbers": lambda _, number: session.numbers(number, 1),
+            "turns": lambda _, number: session.turns(number),
+            "origins": lambda _, number: session.origins(number),
+            "again": lambda _, number: session.again(number),
+            "looks": lambda at, number: session.looks(*((number, [40960]), (1, [number]))[at]),
+            "until": lambda _, number: session.until([], number),
+            "form": lambda at, number: session.back_until([Form(*[0] * at, number)]),
+            "back": lambda _, number: session.back(number),
+            "forward": lambda _, number: session.forward(number),
+            "assemble": lambda _, number: assembler.text(b"", number),
+            "load_lines": lambda _, number: assembler.load_lines(b"", number),
+            "disassemble": lambda at, number: assembler.disassembled(*(({number: 0}, []), ({0: number}, []), ({0: 0}, [number]))[at]),
+            "text_of_status": lambda _, number: library.text_of_status(number, PROVED),
+        }
+        for call, widths in library_calls.NUMBERS.items():
+            for at, bits in enumerate(widths):
+                for number in (-1, 2 ** bits, 2 ** bits + 1, 2 ** bits + 40970, 2 ** 64, 2 ** 64 + 1):
+                    with self.subTest(call, at=at, number=number), self.assertRaises(Failure):
+                        made[call](at, number)
+                with self.subTest(call, at=at), self.assertRaises(TypeError):
+                    made[call](at, 1.5)
+        for count in (-1, 2 ** 63, 2 ** 64 + 1):
+            with self.assertRaises(Failure):
+                session.numbers(0, count)
+        with self.assertRaisesRegex(Failure, "no memory"):
+            session.turns(2 ** 32 - 1)
+        self.assertEqual((session.counts(), session.numbers(0, PLACES)), before)
+
+    def test_a_list_of_places_that_is_changed(self):
+        """The engine looks at what is in the list now."""
+        engine, places = LibraryEngine(PROVED, []), [40960]
+        self.addCleanup(engine.close)
+        engine.perform(b"SET A 0 5\nSET A 1 6\n")
+        self.assertEqual(([5], 1), (list(engine.looks(places, 1)[0]), 1))
+        places[0] = 40961
+        self.assertEqual([6], list(engine.looks(places, 1)[0]))
+        places.append(40960)
+        self.assertEqual([6, 5], list(engine.looks(places, 1)[0]))
+
+    def test_a_line_that_is_too_long(self):
+        """The call takes none of it, each time; the classes say so."""
+        session = self.open(central=32768)
+        line = b"STEP\n" + b" " * 268435457
+        answers = session.answer(line)
+        self.assertEqual((5, 1), (answers.taken, answers.lines))
+        with self.assertRaisesRegex(Failure, "a line is too long"):
+            session.answer(line[5:])
+        self.assertEqual(1, session.counts().kept)
+
+    def test_little_memory(self):
+        """When memory runs out, the other sessions are as they were, and one that is closed makes room for another."""
+        environment = {**os.environ, "PYTHONPATH": os.path.join(TOP, "tools"), "PP6600_LIBRARY": os.path.abspath(PROVED)}
+        done = subprocess.run([sys.executable, "-c", LITTLE_MEMORY], capture_output=True, text=True, check=False, timeout=PATIENCE, env=environment)
+        self.assertEqual(("pp6600: NO MEMORY True True\n", ""), (done.stdout, done.stderr))
+
     def test_a_closed_session(self):
         session = self.open()
         session.close()
@@ -130,6 +218,42 @@ class WrongHands(LibraryCase):
             LibrarySession(path=self.file("not a library"))
 
 
+def has_passed(seed):
+    """Returns how many calls a sequence made."""
+    return len(library_calls.trace_of(seed))
+
+
+class RandomCalls(LibraryCase):
+    """Random sequences of calls, on two sessions side by side, with guards round each buffer."""
+
+    def test_sequences(self):
+        with concurrent.futures.ProcessPoolExecutor() as pool:
+            calls = list(pool.map(has_passed, range(SEQUENCES), chunksize=10))
+        self.assertGreater(min(calls), 30)
+
+    def test_slips_are_seen(self):
+        for name in library_calls.SLIPS:
+            with self.subTest(name), self.assertRaises(AssertionError):
+                for seed in range(60):
+                    library_calls.trace_of(seed, library_calls.slipping(name))
+
+
+class Header(LibraryCase):
+    """What the header says of the library."""
+
+    def test_version(self):
+        numbers = re.findall(r"^#define PP6600_VERSION_(?:MAJOR|MINOR|PATCH) (\d+)$", read("crates", "pp_library", "pp6600.h"), re.M)
+        self.assertEqual((read("VERSION").strip(), tuple(map(int, numbers))), (".".join(numbers), library.version(PROVED)))
+
+    def test_statuses(self):
+        numbers = re.findall(r"^    PP6600_(\w+) = (\d+),?(?: +/\*|$)", read("crates", "pp_library", "pp6600.h").split("enum {")[1], re.M)
+        self.assertEqual([(str(number), name) for number, name in enumerate(
+            ("DONE", "ROOM", "WATCHED", "CLOSED", "OPEN", "NO_MEMORY", "REFUSED", "LIMIT", "NOT_FOUND"))],
+            [(number, name) for name, number in numbers[:9]])
+        self.assertEqual("no memory", library.text_of_status(library.NO_MEMORY, PROVED))
+        self.assertEqual("not found", library.text_of_status(library.NOT_FOUND, PROVED))
+
+
 @unittest.skipUnless(PROVED and shutil.which("gcc"), "dist/libpp6600.so was not built, or there is no gcc")
 class InC(LibraryCase):
     """The examples in C, and the session of the page."""
@@ -137,7 +261,7 @@ class InC(LibraryCase):
     def compiled(self, source):
         """Returns the path of a program of this source."""
         target = self.path(os.path.basename(source) + ".out")
-        subprocess.run(["gcc", "-std=c11", "-O1", "-g", "-Wall", "-Wextra", "-Wconversion", "-Werror", "-I", CRATE, source, PROVED, "-o", target,
+        subprocess.run(["gcc", "-std=gnu11", "-O1", "-g", "-Wall", "-Wextra", "-Wconversion", "-Werror", "-I", CRATE, source, PROVED, "-o", target,
                         f"-Wl,-rpath,{os.path.dirname(PROVED)}"], check=True, timeout=PATIENCE)
         return target
 
@@ -146,7 +270,7 @@ class InC(LibraryCase):
 
     def test_examples_run_and_leak_nothing(self):
         folder = os.path.join(TOP, "docs", "library")
-        for name in ("assembler", "session", "statuses"):
+        for name in ("assembler", "searches", "session", "statuses"):
             target = self.compiled(os.path.join(folder, f"{name}.c"))
             done = self.run_under(target)
             self.assertEqual((done.returncode, done.stderr), (0, ""))
@@ -154,6 +278,12 @@ class InC(LibraryCase):
             if shutil.which("valgrind"):
                 checked = self.run_under("valgrind", "--error-exitcode=9", "--leak-check=full", target)
                 self.assertEqual(checked.returncode, 0, checked.stderr)
+
+    def test_the_stack(self):
+        shown = self.run_under(self.compiled(os.path.join(TOP, "tests", "artefacts", "stack.c"))).stdout
+        self.assertEqual(len(STACKS), len(shown.split()))
+        for used, most in zip(map(int, shown.split()), STACKS):
+            self.assertTrue(0 < used <= most, shown)
 
     def test_the_sessions_of_the_page(self):
         (in_c,), (in_python,) = blocks("docs/LIBRARY.md", "c"), blocks("docs/LIBRARY.md", "python")

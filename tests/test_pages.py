@@ -26,8 +26,8 @@ OTHERS = set("""ci crate doc lemma logic plant version specs proofs ghost prove 
     cat pip uninstall TO --anew --allow-holes --fix-imports --only --start --test Display Read Write File cd echo cp gz python3 tar zip Ctrl Shift Tab
     End Home WORD FILE FILE.html FUNCTION word /usr/local ~/.local ~/.pp6600_history PREFIX/bin PREFIX/libexec/pp6600/tools
     share/pp6600/exercises pp6600-VERSION-linux.tar.gz work.html
-    wasm-opt BigInt XNAME SNAME OP redo crates/.checked /Q/NAME
-    WHO Who slot_text kept_text must-fail/who_shows_p.edit pp_console/who_shows_p""".split())
+    wasm-opt BigInt memory.grow grow XNAME SNAME OP redo crates/.checked /Q/NAME
+    WHO Who slot_text kept_text must-fail/who_shows_p.edit pp_console/who_shows_p pp6600_watched BLANK""".split())
 COMMENT_OR_TEXT = re.compile(r'//[^\n]*|--[^\n]*|b?("(?:\\.|[^"\\])*")')
 OF_A_PROGRAM = re.compile(r"--?[a-z][a-z-]*|\b[A-Z][A-Z\d_]*\b|(?<=[\"'])\w+(?=[\"'])|(?<=def )\w+|(?<=class )\w+")
 PATH = re.compile(r"(?=.*\w)[~\w.*-]*/[\w./*-]*|[\w*-]+\.(?:antt|edit|html|md|py|rt|txt)")
@@ -61,6 +61,8 @@ class Known:
         for path in self.files:
             if re.fullmatch(r"crates/.*\.(rt|antt)", path):
                 self.add_source(path.split("/")[1], read(path))
+            elif re.search(r"\.[ch]$", path):
+                self.words.update(re.findall(r"\w+", read(path)))
             elif os.path.isfile(os.path.join(TOP, path)) and is_program(path):
                 self.words.update(OF_A_PROGRAM.findall(read(path)))
         self.clauses |= self.ghosts
@@ -162,7 +164,7 @@ class Pages(Case):
                     with self.subTest(page, call=call):
                         has = PROOFS["clauses_of"](CONTRACTS, f"{crate}::{call}") or ()
                         self.assertLessEqual(set(re.findall(r"`(\w+)`", named)) or {""}, set(has))
-            paths = [path for path in KNOWN.files if re.match(rf"crates/(?:{crate}|test_client)/src/.*\.rt$", path)]
+            paths = [path for path in KNOWN.files if re.match(rf"crates/(?:{crate}|test_\w+)/src/.*\.rt$", path)]
             lines = {line.strip() for path in paths for line in read(path).splitlines()}
             shown = {line.strip() for block in blocks(page, "rust") for line in block.text.splitlines()}
             with self.subTest(page):
@@ -182,12 +184,22 @@ class Pages(Case):
                 done = subprocess.run([sys.executable, os.path.join(TOP, script), "--check"], capture_output=True, text=True, check=False)
                 self.assertEqual(("", 0), (done.stdout + done.stderr, done.returncode))
 
+    def test_numbers_of_drawings(self):
+        """The numbers of session.svg and turn.svg, which are kept as they are, are those of the program in tests/cases.txt."""
+        whole = read("tests", "cases.txt")
+        for name in ("session", "turn"):
+            case = whole.split(f"\n== drawing-of-a-{name}\n")[1].split("\n== ")[0]
+            numbers = re.findall(r"\b[0-7]{3,}\b", " ".join(re.findall(r">([^<]+)</text>", read("docs", "drawings", f"{name}.svg"))))
+            with self.subTest(name):
+                self.assertLess(10, len(numbers))
+                self.assertEqual(set(), set(numbers) - set(re.findall(r"\b[0-7]{3,}\b", case)))
+
     def test_order_of_promises(self):
-        """PROOFS begins with what the lines 'first:' name. A section without promises is before the appendix, which has the others."""
+        """PROOFS has what the lines 'first:' name, and then the sections without promises. INNER has the other promises."""
         names = "".join(f"## {one}\n\nAll.\n\n### {one}1\n\nSo.\ncall: c\n\n### {one}2\n\nSo.\ncall: c\n\n" for one in "AB")
         text = f"# Page\n\nfirst: B: B2; B3\nfirst: C: C1\n\n{names}## Last\n\nIt is.\n"
-        parts, faults = PROOFS["ordered"](text)
-        order = ("# Page, ## B, ### B2, ## C, ## Last, ## Appendix: promises of inner calls, ### A, #### A1, #### A2, ### B: inner calls, "
-                 "#### B1")
-        self.assertEqual(order.split(", "), [part.partition("\n")[0] for part, _ in parts])
+        pages, faults = PROOFS["ordered"](text)
+        order = {"docs/PROOFS.md": "# Page, ## B, ### B2, ## C, ## Last",
+                 "docs/INNER.md": "# Promises of inner calls, ## A, ### A1, ### A2, ## B, ### B1"}
+        self.assertEqual(order, {name: ", ".join(part.partition("\n")[0] for part, _ in parts) for name, parts in pages.items()})
         self.assertEqual(["first: B has no promise B3", "first: C has no promise C1"], faults)

@@ -2,6 +2,7 @@
 
 import os
 import re
+import shlex
 import signal
 import sys
 import unittest
@@ -118,7 +119,8 @@ class Screens(TerminalCase):
         """Ctrl-C does not end it; a suspension with fg gives the terminal back as it was."""
         terminal = self.terminal(["bash", "--norc", "-i"], folder=TOP, environment={"PS1": "ready$ ", "HISTFILE": ""})
         terminal.shows("ready$")
-        terminal.type(f"{sys.executable} tools/panel --program {PROGRAM} --deck {DECK} {self.file(OVERWRITTEN)}\r")
+        words = [sys.executable, "tools/panel", "--program", PROGRAM, "--deck", DECK, self.file(OVERWRITTEN)]
+        terminal.type(f"{shlex.join(words)}\r")
         self.assert_shows(terminal, "q quit")
         terminal.type("12\x03")
         self.assert_shows(terminal, "s step")

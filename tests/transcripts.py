@@ -2,13 +2,14 @@
 
 A line that begins with $ is a command, and the lines from <<END to END are its own; the others are what it writes. A line that begins
 with # is a note; `# needs NAME ..` names commands, and
-modules of Python as module:NAME, without which the transcript is skipped. `at-terminal COMMAND` runs a command at a
+modules of Python as module:NAME and a machine as machine:NAME, without which the transcript is skipped. `at-terminal COMMAND` runs a command at a
 terminal. The name of the folder is left out of what is written, as is that of the repository.
 """
 
 import glob
 import importlib.util
 import os
+import platform
 import re
 import shlex
 import shutil
@@ -57,9 +58,11 @@ class Shell:
 
 
 def is_here(name):
-    """Returns whether a command is here, or a module of Python."""
-    kind, _, module = name.partition("module:")
-    return importlib.util.find_spec(module) is not None if module else shutil.which(kind) is not None
+    """Returns whether a command is here, or a module of Python, or whether this is such a machine."""
+    kind, _, rest = name.rpartition(":")
+    if kind == "module":
+        return importlib.util.find_spec(rest) is not None
+    return platform.machine() == rest if kind == "machine" else shutil.which(name) is not None
 
 
 class TranscriptCase(Case):

@@ -1,4 +1,4 @@
-// Performs sessions in the library's module, as client.c does in the library. In Node: node client.js library.js MODULE SESSIONS ANSWERS
+// Performs sessions in the library's module, as client.c does in the library. In Node: node client.js library.mjs MODULE SESSIONS ANSWERS
 const TURNS = 100, OLDS = 1000, PIECE = 4096, CENTRAL = 106592, LOOKED_AT = [40960, 40970, 106583];
 
 class Sum {
@@ -97,7 +97,7 @@ async function answersInPage(module, sessions) {
 
 async function main([libraryFile, moduleFile, sessionsFile, answersFile]) {
   const files = require("fs");
-  Object.assign(globalThis, require(require("path").resolve(libraryFile)));
+  Object.assign(globalThis, await import(require("url").pathToFileURL(libraryFile)));
   files.writeFileSync(answersFile, answersOf(await openLibrary(files.readFileSync(moduleFile)), new Uint8Array(files.readFileSync(sessionsFile))));
 }
 

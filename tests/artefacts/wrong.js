@@ -1,6 +1,6 @@
-// What a session of the module says of what can't be done: node wrong.js library.js pp6600.wasm
-const { LibrarySession, openLibrary } = require(process.argv[2]);
-openLibrary(require("fs").readFileSync(process.argv[3])).then((calls) => {
+// What a session of the module says of what can't be done: node wrong.js library.mjs pp6600.wasm
+import(require("url").pathToFileURL(process.argv[2])).then(async ({ LibrarySession, openLibrary }) => {
+  const calls = await openLibrary(require("fs").readFileSync(process.argv[3]));
   const said = (call) => { try { call(); } catch (error) { console.log(error.message); } };
   said(() => new LibrarySession(calls, { deck: [49, 32, 56] }));
   const session = new LibrarySession(calls);

@@ -1,0 +1,42 @@
+// node ROWS MODULE ABOUT SESSIONS: performs sessions by the modules of a film's page, as its worker and the page do, and writes for each a line
+// of JSON: the answers, what the page knows of each moment, and its numbers at the end. tests/films.py joins it.
+
+import { openLibrary } from "../tools/pp6600/front/film/web/engine/library.mjs";
+import { Session } from "../tools/pp6600/front/film/web/engine/session.js";
+import { Film } from "../tools/pp6600/front/film/web/machine/film.js";
+import { constantText } from "../tools/pp6600/front/film/web/machine/origins.js";
+import { isUpper, isWord, layout, upperOf, wordOfUpper } from "../tools/pp6600/front/film/web/machine/places.js";
+
+const fs = require("fs"), [, , module_, about, sessions] = process.argv, CONTROL = { pause: async () => {}, isStopped: () => false };
+
+function changesOf(film, moment) {
+  const changed = [...film.places.subarray(film.starts[moment], film.starts[moment + 1])].filter((place) => place < layout.deck);
+  const places = [...new Set(changed.map((place) => (isUpper(place) ? wordOfUpper(place) : place)))];
+  const number = (place, row) => {
+    const low = film.numberIn(moment, place, row);
+    return isWord(place) ? String((BigInt(film.numberIn(moment, upperOf(place), row)) << 30n) | BigInt(low)) : String(low);
+  };
+  return places.map((place) => [place, number(place, film.was), number(place, film.now)]).sort(([one], [other]) => one - other);
+}
+
+function writesOf(film, moment) {
+  const isTurn = film.isTurn(moment);
+  return film.writesOf(moment).map(({ place, what, sources }) => [place, isTurn ? what & 11 : what, isTurn ? constantText(film, moment, { what }) : "",
+    sources.map((one) => [one.place, one.parts])]);
+}
+
+(async () => {
+  const calls = await openLibrary(fs.readFileSync(module_)), known = JSON.parse(fs.readFileSync(about));
+  const bytes = (text) => Uint8Array.from(text, (letter) => letter.charCodeAt(0));
+  for (const { lines, deck, panel } of JSON.parse(fs.readFileSync(sessions))) {
+    const film = new Film(known), session = new Session(calls, { ...known, deck: bytes(deck), panel: bytes(panel) }, CONTROL), answers = [], moments = [];
+    for (const line of lines) answers.push(await session.perform(line));
+    film.grow(session.take());
+    for (let at = 1; at < film.count; at++) {
+      film.goTo(at);
+      moments.push([film.kinds[at], film.processor[at], film.p[at], film.turn[at], changesOf(film, at), writesOf(film, at)]);
+    }
+    console.log(JSON.stringify({ answers, moments, deck: layout.deck, numbers: [...film.numbers.subarray(0, layout.watches)] }));
+    session.close();
+  }
+})();

@@ -1,0 +1,83 @@
+"""Tests that every list of the instructions is that of the one table, crates/pp_step/specs/InstructionTable.antt: names, words and modes.
+
+Lists that are made of one of these are compared where they are made: the card, the film's meanings, the colours of editors."""
+
+import glob
+import os
+import re
+
+from tests.support import TOP, Case, names_of_codes, read
+
+from pp6600.engine.plain.instructions import CODES as PLAIN
+from pp6600.language.source.codes import MNEMONICS, size_of
+from pp6600.run.sentences import TEXT
+
+ROW = re.compile(r"^ +(?:∷ )?row code\.(\w+) (\w+) .*?-- ([0-7]{2})$", re.M | re.S)
+ROWS = [(name, mode, int(code, 8)) for name, mode, code in ROW.findall(read("crates", "pp_step", "specs", "InstructionTable.antt"))]
+NAMES = [name.rstrip("0123456789").upper() for name, _, _ in ROWS]
+WORDS = [2 if mode in ("Memory", "Unindexed") else 1 for _, mode, _ in ROWS]
+TWO = {code for code, words in enumerate(WORDS) if words == 2}
+
+
+def codes_in(text):
+    """Returns the codes of a list such as '01, 20 to 23 and 77'."""
+    ranges = [part.split(" to ") for part in re.findall(r"[0-7]{2}(?: to [0-7]{2})?", text)]
+    return {code for ends in ranges for code in range(int(ends[0], 8), int(ends[-1], 8) + 1)}
+
+
+class Instructions(Case):
+    def test_table(self):
+        self.assertEqual(list(range(64)), [code for _, _, code in ROWS])
+        self.assertEqual({"NoAddress", "Direct", "Indirect", "Memory", "Unindexed"}, {mode for _, mode, _ in ROWS})
+
+    def test_page(self):
+        """docs/MACHINE.md has their names, which have two words, and the codes of each addressing mode."""
+        page = " ".join(read("docs", "MACHINE.md").split())
+        self.assertEqual(NAMES, names_of_codes())
+        self.assertEqual(TWO, codes_in(re.search("The codes ([^.]*) have two words", page)[1]))
+        for mode in ("Direct", "Indirect", "Memory"):
+            said = re.search(rf"- \*{mode.lower()}\* \((.*?)\):", page)[1]
+            self.assertEqual({code for _, one, code in ROWS if one == mode}, codes_in(said), mode)
+
+    def test_meanings(self):
+        """A film's page has the words of docs/MACHINE.md for each."""
+        table = read("docs", "MACHINE.md").split("| Code | Name | Effect |")[1].split("\n\n")[0]
+        wanted = {f"{called.replace(',', '')} | {called}: {re.sub(r' [(]P[0-9, P]+[)]', '', effect)}"
+                  for called, effect in re.findall(r"^\| [0-7, ]+ \| ([A-Z, ]+) \| (.*) \|$", table, re.M)}
+        found = read("tools", "pp6600", "front", "film", "web", "meanings.txt").splitlines()
+        self.assertEqual(set(), wanted - set(found))
+
+    def test_code_of_the_step(self):
+        """The comments of the codes in pp_step are true."""
+        found = re.findall(r"/// ([0-7]{2}), ([a-z ]+)\. [^\n]*\n(?: +///[^\n]*\n)* +(\w+),", read("crates", "pp_step", "src", "code.rt"))
+        self.assertEqual([(f"{code:02o}", re.sub("(?<=o)A", " a", mode).lower(), name) for name, mode, code in ROWS], found)
+
+    def test_tools(self):
+        self.assertEqual(list(zip(NAMES, WORDS)), [(name, size_of(code)) for code, name in enumerate(MNEMONICS)])
+
+    def test_second_simulator(self):
+        self.assertEqual([(f"{code:02o} {NAMES[code]}", WORDS[code]) for code in range(64)], [one[:2] for one in PLAIN])
+
+    def test_sentences(self):
+        """Each code has a sentence without a condition; 40 to 57 have those of 30 to 37."""
+        said = codes_in(" ".join(re.findall("^([0-7]{2}):", TEXT, re.M)))
+        self.assertEqual({code for code in range(64) if not 0o40 <= code < 0o60}, said)
+
+    def test_assembler(self):
+        """The assembler's crate has their names, and a form with two words for those that have."""
+        source = read(*glob.glob(os.path.join(TOP, "crates", "*", "src", "instructions.rt")))
+        self.assertEqual(NAMES, re.findall(r'b"([A-Z]{3})"', source))
+        forms = dict(re.findall(r"^ +((?:0o[0-7]{2}[ |.=]*)+) => Form::(\w+),$", source, re.M)[::-1])
+        two = {code for codes, form in forms.items() if form in ("Constant", "Indexed", "Both")
+               for code in codes_in(codes.replace("0o", "").replace("..=", " to "))}
+        self.assertEqual(TWO, two)
+
+    def test_kernel(self):
+        """The C kernel of the benchmark has a case for each, but for 30 to 57, which it takes apart by their digits."""
+        cases = [int(code, 8) for code in re.findall(r"\bcase 0([0-7]{2}):", read("bench", "kernel.c").split("switch (word >> 6)")[-1])]
+        self.assertEqual(set(range(64)) - set(range(0o30, 0o60)), set(cases) & set(range(64)))
+
+    def test_origins(self):
+        """A session asks for the origin of what each of them wrote, but a state of a channel."""
+        named = set(re.findall(r"\b[A-Z]{3}\b", read("tests", "sessions", "origin-of-each-code.txt")))
+        self.assertEqual({"PSN", "ACN", "DCN"}, set(NAMES) - named)
