@@ -5,10 +5,16 @@ All that they say is in CONSOLE.md, MACHINE.md and TOOLS.md. Without a word it w
 nothing, and fails if one of them is not what it makes.
 """
 
+import sys
+
+if __name__ == "__main__" and not getattr(sys.flags, "safe_path", False):
+    del sys.path[0]  # nothing beside this file is taken for a module of Python's own
 import os
 import re
-import sys
 from html import escape
+
+at = [path.endswith("-packages") for path in [*sys.path, "-packages"]].index(True)  # behind Python's own modules
+sys.path.insert(at, os.path.dirname(os.path.abspath(__file__)))
 
 from tables import HERE, block, rows, text_of, without_links
 

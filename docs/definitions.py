@@ -10,16 +10,22 @@ These are faults:
 - a definition of the text that is not on the page, a word of the kit without its line in the text, or a line without its word;
 - a definition without a comment, or one of the machine whose comment names no fact of docs/MACHINE.md;
 - a mark of a comment that is no fact there, or a fact there that no definition of the page names;
-- with --check, a page that is not what would be made.
+- with --check, docs/DEFINITIONS.md if it is not what would be made.
 
-Faults are printed, and the status is 1. The pages are made all the same, but not with --check.
+Faults are printed, and the status is 1. The pages are made all the same, but not with --check. docs/definitions.html is not tracked:
+`make pages` makes it, and so does a release.
 """
 
-import os
-import re
 import sys
 
+if not getattr(sys.flags, "safe_path", False):
+    del sys.path[0]  # nothing beside this file is taken for a module of Python's own
+import os
+import re
+
 sys.dont_write_bytecode = True
+at = [path.endswith("-packages") for path in [*sys.path, "-packages"]].index(True)  # behind Python's own modules
+sys.path.insert(at, os.path.dirname(os.path.abspath(__file__)))
 
 from book.html import html  # noqa: E402
 from book.names import Sources, Unresolved  # noqa: E402
@@ -84,7 +90,7 @@ def main(words, top=TOP):
         if not words:
             with open(os.path.join(top, path), "w", encoding="utf-8") as file:
                 file.write(page)
-        elif read(top, path) != page:
+        elif path.endswith(".md") and read(top, path) != page:
             faults.append(f"{path} is not what docs/definitions.py makes: run docs/definitions.py")
     print("".join(fault + "\n" for fault in faults), end="")
     return 1 if faults else 0

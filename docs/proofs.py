@@ -1,40 +1,43 @@
 #!/usr/bin/env python3
-"""Makes docs/PROOFS.md, the page of what is proved: docs/proofs.py [--check]
+"""Makes docs/PROOFS.md, the page of what is proved, and docs/INNER.md, with the promises of inner calls: docs/proofs.py [--check]
 
-docs/promises.txt has the text of the page. A line '### NAME' begins a promise. Below its sentences are lines of these kinds:
+docs/promises.txt has the text of both. A line '### NAME' begins a promise. Below its sentences are lines of these kinds:
 
     call: CRATE::TYPE::CALL: CLAUSE, CLAUSE    a public call, with the clauses that say so (none named: all that it has)
     theorem: CRATE::CALL                       the same of a function that does nothing, whose contract is a statement
     defined: CRATE/FILE: WORD, WORD            words of specs/FILE.antt that the clauses use
     mutants: TEXT                              what is against it, if it has no mutant of its own
 
-A line 'first: SECTION: NAME; NAME' names promises that matter most. The page begins with these sections, each with these promises.
-Then come the sections without promises, and at last an appendix with all other promises, section by section.
+A line 'first: SECTION: NAME; NAME' names promises that matter most. PROOFS.md begins with these sections, each with these promises.
+Then come the sections without promises. INNER.md has all other promises, section by section.
 
 Each mutant, crates/CRATE/must-fail/NAME.edit, has two lines, '# promise: NAME' and '# call: CRATE::TYPE::CALL', or several such
 pairs: a promise that it breaks, and the call of its own crate whose contract rejects it.
 
 What is named and is not there is a fault: a call, a clause, a definition, a promise, a section. Faults are printed, and then nothing is
-written. With --check nothing is written either, and it is a fault if the page is not what would be made.
+written. With --check nothing is written either, and it is a fault if a page is not what would be made.
 """
 
+import sys
+
+if __name__ == "__main__" and not getattr(sys.flags, "safe_path", False):
+    del sys.path[0]  # nothing beside this file is taken for a module of Python's own
 import collections
 import glob
 import os
 import re
-import sys
 import textwrap
 
 TOP = os.path.dirname(os.path.dirname(os.path.abspath(__file__)))
-PAGE = os.path.join(TOP, "docs", "PROOFS.md")
+PAGE, INNER = "docs/PROOFS.md", "docs/INNER.md"
 TEXT = os.path.join(TOP, "docs", "promises.txt")
 MADE = "<!-- docs/proofs.py makes this page from docs/promises.txt, crates/*/src and crates/*/must-fail: change those. -->\n\n"
 WHOLE = {"break_long_words": False, "break_on_hyphens": False}
 KEY = re.compile(r"^(call|theorem|defined|mutants): (.*)\n", re.M)
 FIRST = re.compile(r"^first: (.*?): (.*)\n", re.M)
-APPENDIX = """## Appendix: promises of inner calls
+HEAD = """# Promises of inner calls
 
-All other promises, section by section: of calls that those above rest on, of calls that only read, and of what tests use."""
+The promises that [PROOFS](PROOFS.md) does not have: of calls that those rest on, of calls that only read, and of what tests use."""
 
 # Of a promise: its calls, each with clauses and whether it is a theorem, the definitions, and why it has no mutant of its own.
 Promise = collections.namedtuple("Promise", "name calls definitions without")
@@ -124,7 +127,7 @@ def sections_of(text):
 
 
 def ordered(text):
-    """Returns the parts in the order of the page, and a fault for each name of a line 'first:' that is not there."""
+    """Returns the parts of each page in their order, and a fault for each name of a line 'first:' that is not there."""
     sections, faults = sections_of(text), []
     made = [next(iter(sections.values()))[0]]
     for name, wanted in FIRST.findall(text):
@@ -133,12 +136,12 @@ def ordered(text):
         faults += [f"first: {name} has no promise {one}" for one, part in found.items() if not part]
         made += [own, *filter(None, found.values())]
     begun = {text for text, _ in made}
-    made += [own for own, promises in sections.values() if not promises and own[0] not in begun] + [(APPENDIX, None)]
+    made += [own for own, promises in sections.values() if not promises and own[0] not in begun]
+    inner = [(HEAD, None)]
     for name, (own, promises) in sections.items():
-        heading = f"### {name}: inner calls" if own[0] in begun else "#" + own[0]
-        made += [(heading, None)] if promises else []
-        made += [("#" + part, promise) for part, promise in promises.values()]
-    return made, faults
+        inner += [(f"## {name}" if own[0] in begun else own[0], None)] if promises else []
+        inner += promises.values()
+    return {PAGE: made, INNER: inner}, faults
 
 
 def mutants():
@@ -220,16 +223,17 @@ def main():
     if sys.argv[1:] not in ([], ["--check"]):
         print("docs/proofs.py: the only word it takes is --check", file=sys.stderr)
         return 2
-    (parts, faults), known = ordered(read(TEXT)), contracts()
-    promises = [promise for _, promise in parts if promise]
+    (pages, faults), known = ordered(read(TEXT)), contracts()
+    promises = [promise for parts in pages.values() for _, promise in parts if promise]
     faults += [*faults_of_names(promises, known), *faults_of_mutants(promises)]
-    page = "" if faults else page_of(parts, known)
-    if sys.argv[1:] and not faults and (not os.path.exists(PAGE) or read(PAGE) != page):
-        faults = ["docs/PROOFS.md is not what docs/proofs.py makes: run docs/proofs.py"]
+    for name, parts in pages.items() if not faults else ():
+        path, page = os.path.join(TOP, name), page_of(parts, known)
+        if not sys.argv[1:]:
+            with open(path, "w", encoding="utf-8") as file:
+                file.write(page)
+        elif not os.path.exists(path) or read(path) != page:
+            faults.append(f"{name} is not what docs/proofs.py makes: run docs/proofs.py")
     print("".join(fault + "\n" for fault in faults), end="")
-    if not faults and not sys.argv[1:]:
-        with open(PAGE, "w", encoding="utf-8") as file:
-            file.write(page)
     return 1 if faults else 0
 
 

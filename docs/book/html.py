@@ -1,4 +1,4 @@
-"""Makes the page to print, with numbers, an index, and a link at each name."""
+"""Makes the page to print, with numbers, an index, a link at each name, and the place, the users and the examples of each definition."""
 
 import os
 import re
@@ -7,7 +7,7 @@ from html import escape
 import card
 from book.facts import PAGE
 from book.pages import LONG as FOLDED
-from book.pages import MADE, examples_of, filled, notes, place_of, slug, summary_of, users_of
+from book.pages import MADE, Entry, filled, link, notes, place_of, slug
 
 STYLE = """\
 @page { margin: 15mm 12mm 17mm 8mm; @bottom-right { content: counter(page); font: 8pt Helvetica, Arial, sans-serif; } }
@@ -56,6 +56,7 @@ img { max-width: 100%; }
 }
 """
 LONG = 40  # lines: a longer definition may be on two sheets
+MOST_USERS = 8
 
 
 def code(text):
@@ -100,6 +101,26 @@ def facts_of(entry, book):
     found = [(mark, book.facts.facts[mark]) for mark in entry.definition.marks() if mark in book.facts.facts]
     links = "".join(f'<a href="{os.path.basename(PAGE)}#{slug(fact.heading)}" title="{escape(fact.text)}">{mark}</a>' for mark, fact in found)
     return f'<div class="facts">{links}</div>\n' if found else ""
+
+
+def users_of(entry):
+    """Returns the users of a definition, the first of many."""
+    names = [link(user) if isinstance(user, Entry) else f"the contract of `{user.name}`" for user in entry.users]
+    more = len(names) - MOST_USERS
+    return f"Used by {', '.join(names if more < 2 else names[:MOST_USERS])}{f' and {more} more' if more > 1 else ''}."
+
+
+def examples_of(entry, book):
+    """Returns the examples of a definition, and what the cases return that have none."""
+    found = book.examples.get(entry.definition.whole_name, [])
+    return "\n".join(f"-- no example of {one.without}" if one.without else f"{one.text}\n    = {one.value}" for one in found)
+
+
+def summary_of(entry, book):
+    """Returns what is shown of the part of a definition that is folded."""
+    has_examples = entry.definition.whole_name in book.examples
+    parts = [f"its {entry.lines()} lines"] * (entry.lines() > FOLDED) + ["source", "users"] + ["examples"] * has_examples
+    return ", ".join(parts).capitalize()
 
 
 def entry_of(entry, book):

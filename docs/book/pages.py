@@ -1,4 +1,4 @@
-"""Makes the page in Markdown: the text of definitions.txt, and each definition with its sentence, its place and its users."""
+"""Makes the page in Markdown: the text of definitions.txt, and each definition with its sentence."""
 
 import collections
 import os
@@ -11,8 +11,8 @@ from evaluating.tables import made as made_table
 
 MADE = "<!-- docs/definitions.py makes this page from docs/definitions.txt and the sources: change those. -->\n\n"
 COMMENT = re.compile(r"^\s*(?:--|//)")
-MOST_USERS = 8
-LONG = 60  # lines: a longer definition is folded
+FOR_THE_PROVER = re.compile(r"^( *)(?:(?:abbrev|unfoldable|irreducible) )?(?:pub(?:\([a-z]+\))? )?(?=\S)", re.M)  # words that readers need not
+LONG = 60  # lines: a longer definition is only in the printed page, or folded there
 
 # A chapter of the text, with the files whose definitions it has. Those of the machine name their source.
 Chapter = collections.namedtuple("Chapter", "title files is_machine introduction")
@@ -73,6 +73,7 @@ class Entry:
                 self.only_named += [text[start:end]] if getattr(what, "guard", None) == NAMED else []
                 at = end
         self.pieces.append((text[at:], None))
+        self.pieces = [(FOR_THE_PROVER.sub(r"\1", piece), target) for piece, target in self.pieces]
 
 
 def labels(text):
@@ -180,35 +181,15 @@ def notes(entry, entries):
         yield f"Left out, because nothing here reads them: {quoted(entry.left_out)}."
 
 
-def users_of(entry):
-    """Returns the users of a definition, the first of many."""
-    names = [link(user) if isinstance(user, Entry) else f"the contract of `{user.name}`" for user in entry.users]
-    more = len(names) - MOST_USERS
-    return f"Used by {', '.join(names if more < 2 else names[:MOST_USERS])}{f' and {more} more' if more > 1 else ''}."
-
-
 def fact_links(entry, book):
     """Returns links to the facts that a definition names."""
     facts = book.facts.facts
     return ", ".join(f"[{mark}]({os.path.basename(PAGE)}#{slug(facts[mark].heading)})" for mark in entry.definition.marks() if mark in facts)
 
 
-def examples_of(entry, book):
-    """Returns the examples of a definition, and what the cases return that have none."""
-    found = book.examples.get(entry.definition.whole_name, [])
-    return "\n".join(f"-- no example of {one.without}" if one.without else f"{one.text}\n    = {one.value}" for one in found)
-
-
-def summary_of(entry, book):
-    """Returns what is shown of the part of a definition that is folded."""
-    has_examples = entry.definition.whole_name in book.examples
-    parts = [f"its {entry.lines()} lines"] * (entry.lines() > LONG) + ["source", "users"] + ["examples"] * has_examples
-    return ", ".join(parts).capitalize()
-
-
-def folded(summary, *parts):
-    """Returns parts of the page that are shown only to those who open them."""
-    return "\n\n".join([f"<details><summary>{summary}</summary>", *parts, "</details>"])
+def without_folds(text):
+    """Returns a part of the text without what only the printed page has."""
+    return re.sub(r"^<details>.*?^</details>\n*", "", text, flags=re.M | re.S)
 
 
 def entry_page(entry, book):
@@ -218,12 +199,9 @@ def entry_page(entry, book):
     facts = fact_links(entry, book)
     sentence += f" ({facts})" if facts else ""
     code = f"```{entry.language}\n{entry.code}\n```"
-    examples = examples_of(entry, book)
-    more = [f"{place_of(entry.definition)} {users_of(entry)}", *([f"```text\n{examples}\n```"] if examples else [])]
-    shown = [code, *notes(entry, book.entries)]
     if entry.lines() > LONG:
-        shown, more = [], [*shown, *more]
-    return "\n\n".join([f"### {entry.title}", sentence, *shown, folded(summary_of(entry, book), *more)]) + "\n"
+        return f"### {entry.title}\n\n{sentence}\n\nIts {entry.lines()} lines are in {place_of(entry.definition)}\n"
+    return "\n\n".join([f"### {entry.title}", sentence, code, *notes(entry, book.entries)]) + "\n"
 
 
 def contents(book):
@@ -236,11 +214,11 @@ def contents(book):
 
 def kit_table(book):
     """Returns the table of the words of the kit."""
-    rows = ["| Word | Module | Meaning |", "|---|---|---|"]
-    for module, name in book.reach.kit():
+    rows = ["| Word | Meaning |", "|---|---|"]
+    for _, name in book.reach.kit():
         word = name.replace("|", "\\|")
-        rows.append(f"| `{word}` | {module} | {book.text.kit.get(name, '(no line)')} |")
-    return folded(f"The {len(rows) - 2} words", "\n".join(rows))
+        rows.append(f"| `{word}` | {book.text.kit.get(name, '(no line)')} |")
+    return "\n".join(rows)
 
 
 def filled(text, book):
@@ -263,8 +241,8 @@ def filled(text, book):
 
 def markdown(book):
     """Returns the page."""
-    parts = [MADE + filled(book.text.front, book)]
+    parts = [MADE + filled(without_folds(book.text.front), book)]
     for chapter, definitions in zip(book.text.chapters, book.chapters):
-        parts.append(f"## {chapter.title}\n\n{filled(chapter.introduction, book)}\n")
+        parts.append(f"## {chapter.title}\n\n{filled(without_folds(chapter.introduction), book)}\n")
         parts += [entry_page(book.entries[definition], book) for definition in definitions]
     return "\n".join(parts)

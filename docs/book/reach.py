@@ -53,7 +53,8 @@ class Reach:
         return sorted((target for target in self.users if isinstance(target, Library)), key=lambda word: (word.module, word.name))
 
     def ordered(self):
-        """Returns the definitions, each after all its users but for those in a circle."""
+        """Returns the definitions: first the statement that the first contract names, and then each after all its users but for those
+        in a circle."""
         met, order, used = set(), [], {}
         for target, users in self.users.items():
             for user in users if isinstance(target, Definition) else ():
@@ -67,9 +68,12 @@ class Reach:
                     visit(target)
             order.append(definition)
 
-        for one in reversed(self.contracts):
+        first, *others = self.contracts
+        for one in [first, *reversed(others)]:
             visit(one)
-        return [definition for definition in reversed(order) if definition.kind not in ("trait", "contract")]
+        statement = next(use.target for use in self.readings[first].uses if isinstance(use.target, Definition))
+        found = [definition for definition in reversed(order) if definition.kind not in ("trait", "contract")]
+        return sorted(found, key=lambda definition: definition is not statement)
 
     def chapters(self, patterns):
         """Returns the definitions of each chapter: by the longest pattern that fits, but none in a chapter before all its users."""

@@ -6,13 +6,17 @@ Without a word it writes the pictures. With `--check` it writes nothing, and fai
 or else the one that ./pp6600 runs.
 """
 
-import os
 import sys
+
+if not getattr(sys.flags, "safe_path", False):
+    del sys.path[0]  # nothing beside this file is taken for a module of Python's own
+import os
 from html import escape
 
 HERE = os.path.dirname(os.path.abspath(__file__))
 TOP = os.path.dirname(os.path.dirname(HERE))
-sys.path.insert(0, os.path.join(TOP, "tools"))
+at = [path.endswith("-packages") for path in [*sys.path, "-packages"]].index(True)  # behind Python's own modules
+sys.path.insert(at, os.path.join(TOP, "tools"))
 
 from pp6600.shell.command_line import Failure, arguments, run, script_lines, simulator
 from pp6600.front.panel.app import Panel

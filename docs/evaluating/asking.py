@@ -4,7 +4,7 @@ import functools
 import operator
 import os
 import re
-from typing import Any, Callable, Dict, Iterator, List, Optional, Tuple
+from typing import Any, Callable, Dict, Iterator, List, Optional, Set, Tuple
 
 from book.expressions import Apply, Parser
 from book.names import Names, Sources, Unresolved
@@ -17,14 +17,27 @@ from evaluating.lists import NIL, Stuck, items, listed, replicate
 # Of several definitions with one name, the only one of the first crate has it alone, or else the only one outside of the second;
 # those of inner files count as the second's, and a definition comes before the constructors with its name. What the crates
 # beside the program define comes last.
-MAIN, WORKED, BESIDE = "pp_machine", "pp_worked", ("pp_assembler", "pp_loading")
+PROGRAM, MAIN, WORKED = "pp6600", "pp_machine", "pp_worked"
 
 
-def rank(one: Any) -> int:
+def crates_of_the_program(top: str) -> Set[str]:
+    """Returns the crates that the program is made of."""
+    with open(os.path.join(top, "crates.txt"), encoding="utf-8") as file:
+        below = {name: found.split() for name, found in re.findall(r"^(\w+)[^:\n]*:(.*)$", file.read(), re.M)}
+    found, ahead = set(), [PROGRAM]
+    while ahead:
+        name = ahead.pop()
+        ahead += below.get(name, []) if name not in found else []
+        found.add(name)
+    return found
+
+
+def rank(one: Any, near: Set[str]) -> int:
     """Returns the rank of what has a name: the first has it alone, if it is the only one of its rank."""
     owner = getattr(one, "type", one)
-    is_far = owner.crate in (WORKED, *BESIDE) or "/Inner" in owner.place
-    return 6 * (owner.crate in BESIDE) + 3 * (owner is not one) + (2 if is_far else owner.crate != MAIN)
+    is_beside = owner.crate not in near
+    is_far = owner.crate == WORKED or is_beside or "/Inner" in owner.place
+    return 6 * is_beside + 3 * (owner is not one) + (2 if is_far else owner.crate != MAIN)
 
 
 class Definitions:
@@ -38,8 +51,9 @@ class Definitions:
         scopes = [scope for scope in self.sources.scopes.values() if "tests" not in scope.module[2]]
         owners = [one for scope in scopes for one in scope.definitions.values() if isinstance(one, Definition)]
         found: Dict[str, Dict[Any, int]] = {}
+        near = crates_of_the_program(top) | {WORKED}
         for one in [*owners, *(member for owner in owners for member in owner.members.values())]:
-            found.setdefault(one.name, {})[one] = rank(one)
+            found.setdefault(one.name, {})[one] = rank(one, near)
             self.scope.definitions[one.whole_name] = one
         self.first = {name: [one for one, own in ranks.items() if own == min(ranks.values())] for name, ranks in found.items()}
         self.shared = {name for name, ranks in found.items() if sum(own % 3 < 2 for own in ranks.values()) > 1}
@@ -104,6 +118,8 @@ class Definitions:
 
     def ask(self, text: str) -> Any:
         """Returns the value of an expression."""
+        if not text.strip():
+            raise Stuck("nothing: write an expression, as 'add18 0o777776 1'")
         try:
             return self.value(text, self.scope)
         except Unresolved as fault:
@@ -159,7 +175,7 @@ def meaning(definitions: Definitions, words: tuple) -> tuple:
 
 # What is outside of a run: what each device shows of itself to contracts, before it.
 HOST = {"known_words": NONE, "known_files": lambda path: NONE, "log": NIL, "failure_count": 0}
-SOURCE = {"rest": NONE, "given": NIL, "ended": False, "failure_count": 0}
+SOURCE = {"rest": NONE, "given": NIL, "ended": False, "calls": NIL, "failure_count": 0}
 SINK = {"text": {"bytes": NIL, "held": ("Some", NIL)}, "failure_count": 0}
 
 
@@ -179,10 +195,10 @@ def holds(definitions: Definitions, name: str, *given: Any) -> bool:
 
 
 def check_written(definitions: Definitions, course: dict, output: Any, errors: Any) -> None:
-    """Asks whether what is written, and a sink that did not fail, are as IsOutput and IsReported say."""
+    """Asks whether what is written, to sinks that did not fail, is as IsOutput and IsReported say."""
     before = outside(definitions, SINK, SINK)
     after = outside(definitions, *({**SINK, "text": {"bytes": text, "held": ("Some", text)}} for text in (output, errors)))
-    if not holds(definitions, "IsOutput", course, before["output"], after["output"]):
+    if not holds(definitions, "IsOutput", course["ended"], course["answers"], before["output"], after["output"]):
         raise Stuck("a run whose output is not as IsOutput says")
     if not holds(definitions, "IsReported", course["ended"], before["errors"], after["errors"]):
         raise Stuck("a run whose errors are not as IsReported says")
@@ -194,15 +210,28 @@ def performed(definitions: Definitions, words: List[str], read: Callable[[], byt
     texts = ("Words.Texts", listed(listed(os.fsencode(word)) for word in ["pp6600", *words]))
     means = meaning(definitions, texts)
     asked = means[1] if means[0] == "Ok" else None
-    files = functools.lru_cache(None)(lambda kind: content(definitions.call("path_of", asked, kind)))
+    opened: List[dict] = []
+
+    @functools.lru_cache(None)
+    def files(kind: tuple) -> tuple:
+        """Returns the file of a kind, and notes that it was opened, if the options name it."""
+        path = definitions.call("path_of", asked, kind)
+        opened.extend([{"kind": kind, "path": path[1]}] if path != NONE else [])
+        return content(path)
+
     try:
         typed = read() if asked and definitions.call("path_of", asked, ("FileKind.Script",)) == NONE else b""
     except OSError:
         raise Stuck(CUT) from None
     course = definitions.call("program", {"words": texts, "files": files, "input": listed(typed)}, means)
-    line = NIL if course["ended"][0] == "Ok" else definitions.call("line_of", course["ended"][1])
-    check_written(definitions, course, course["answers"], line)
-    return bytes(items(course["answers"])), bytes(items(line)), definitions.call("exit_of", course["ended"])
+    if list(items(course["opened"])) != opened:
+        raise Stuck("a run whose course opens other files, or in another order")
+    output, errors = course["answers"], NIL
+    if course["ended"][0] == "Err":
+        line = definitions.call("line_of", course["ended"][1])
+        output, errors = (line, NIL) if course["ended"][1] == ("Trouble.Help",) else (output, line)
+    check_written(definitions, course, output, errors)
+    return bytes(items(output)), bytes(items(errors)), definitions.call("exit_of", course["ended"])
 
 
 # ---- the steps of a processor
@@ -231,12 +260,17 @@ def place_and_number(word: str, view: dict) -> Tuple[tuple, int]:
 
 
 def stepped(definitions: Definitions, words: List[str], steps: int) -> Iterator[Any]:
-    """Yields what each step writes, of a program at 0100 of a blank processor with these numbers."""
+    """Yields what each step writes, of a program at P, or at 0100, of a blank processor with these numbers."""
     view = {**definitions.call("pp_worked/Processors:blank"), "central": replicate(CENTRAL, 0)}
     program = [int(word, 8) for word in words if re.fullmatch("[0-7]{1,4}", word)]
-    others = [place_and_number(word, view) for word in words if not re.fullmatch("[0-7]{1,4}", word)]
-    cells = definitions.call("cells_from", 0o100, listed(program))
-    writes = listed([*others, (("PpPlace.P",), 0o100), *items(cells)])
+    others: Dict[tuple, int] = {("PpPlace.P",): 0o100}
+    for word in (word for word in words if not re.fullmatch("[0-7]{1,4}", word)):
+        place, number = place_and_number(word, view)
+        if place in others and place != ("PpPlace.P",) or sum(other.upper().startswith("P=") for other in words) > 1:
+            raise Stuck(f"{word!r}: the place is given twice")
+        others[place] = number
+    cells = definitions.call("cells_from", others["PpPlace.P",], listed(program))
+    writes = listed([*others.items(), *items(cells)])
     for _ in range(steps):
         view = definitions.call("pp_step/View:over", view, writes)
         writes = definitions.call("pp_writes", view)

@@ -2,16 +2,16 @@
 examples/.
 
 The examples were recorded from these definitions. The worked rows, which the prover proves, and the cases, whose answers are those of
-the pages, say what the definitions should be.
+the pages, say what the definitions should be. What can't be computed is passed over, and counted.
 """
 
 import os
 import tempfile
-from typing import Any, Iterable, Iterator
+from typing import Any, Iterable, Iterator, List, Optional
 
 from book.names import Unresolved
 from evaluating.asking import CUT, Definitions, definitions_of, performed
-from evaluating.examples import FILE, faults_of, worked
+from evaluating.examples import FILE, faults_of, load, worked
 from evaluating.lists import Stuck
 from tests.cases import Stored, named
 
@@ -19,8 +19,8 @@ NOT_COMPUTED = ("a statement about each or some x", CUT)
 NO_SENSE = (Stuck, Unresolved, TypeError, KeyError, IndexError, AttributeError)  # what definitions that are wrong may come to
 
 
-def faults_of_rows(top: str, definitions: Definitions) -> Iterator[str]:
-    """Yields what is wrong with the worked rows."""
+def faults_of_rows(top: str, definitions: Definitions, passed_over: Optional[List[str]] = None) -> Iterator[str]:
+    """Yields what is wrong with the worked rows. Notes those that it passes over."""
     for name, text, scope in worked(top, definitions):
         try:
             if definitions.value(text, scope) is not True:
@@ -28,6 +28,8 @@ def faults_of_rows(top: str, definitions: Definitions) -> Iterator[str]:
         except NO_SENSE as what:
             if str(what) not in NOT_COMPUTED:
                 yield f"worked row {name}: can't compute {what}"
+            elif passed_over is not None:
+                passed_over.append(name)
 
 
 def outcome(definitions: Definitions, case: Stored) -> Any:
@@ -44,23 +46,32 @@ def outcome(definitions: Definitions, case: Stored) -> Any:
             os.chdir(here)
 
 
-def faults_of_cases(definitions: Definitions, cases: Iterable[Stored]) -> Iterator[str]:
-    """Yields the cases that only run the program, and have another outcome."""
+def faults_of_cases(definitions: Definitions, cases: Iterable[Stored], passed_over: Optional[List[str]] = None) -> Iterator[str]:
+    """Yields the cases that only run the program, and have another outcome. Notes those that it passes over."""
     for case in cases:
+        is_computed = not case.how
         try:
-            if not case.how and outcome(definitions, case) != (case.out, case.err, case.status):
+            if is_computed and outcome(definitions, case) != (case.out, case.err, case.status):
                 yield f"the case {case.name} has another outcome"
         except NO_SENSE as what:
+            is_computed = False
             if str(what) not in NOT_COMPUTED:
                 yield f"the case {case.name}: can't compute {what}"
+        if not is_computed and passed_over is not None:
+            passed_over.append(case.name)
 
 
 def check(top: str) -> int:
-    """Checks all of this, prints what is wrong, and returns 1 if something is."""
+    """Checks all of this, prints what is wrong, what was computed and what was passed over, and returns 1 if something is wrong."""
     with open(os.path.join(top, FILE), encoding="utf-8") as file:
-        examples = [f"{FILE}: {fault}" for fault in faults_of(top, file.read())]
-    definitions = definitions_of(top)
-    others = [*faults_of_rows(top, definitions), *faults_of_cases(definitions, (case for _, case in named()))]
+        text = file.read()
+    examples = [f"{FILE}: {fault}" for fault in faults_of(top, text)]
+    definitions, cases, rows_over, cases_over = definitions_of(top), [case for _, case in named()], [], []
+    others = [*faults_of_rows(top, definitions, rows_over), *faults_of_cases(definitions, cases, cases_over)]
     advice = ["if the definitions are right, run docs/evaluate --record"] * bool(examples and not others)
-    print("".join(f"{line}\n" for line in [*examples, *others, *advice]), end="")
+    count, rows = sum(bool(one.text) for own in load(text).values() for one in own), sum(1 for _ in worked(top, definitions))
+    said = [f"computed: {count} examples, {rows - len(rows_over)} of {rows} worked rows, {len(cases) - len(cases_over)} of {len(cases)} cases",
+            f"passed over: rows about each or some x: {', '.join(rows_over)}; cases with a device that fails, or run in another way: "
+            f"{', '.join(cases_over)}"]
+    print("".join(f"{line}\n" for line in [*examples, *others, *advice, *said]), end="")
     return 1 if examples or others else 0

@@ -107,6 +107,7 @@ KIT: Dict[str, Any] = {
     "None": "NONE", "Some": "('Some', {0})", "Ok": "('Ok', {0})", "Err": "('Err', {0})", "is_none": "({0} == NONE)",
     "option_map": lambda f, x: ("Some", f(x[1])) if x[0] == "Some" else NONE,
     "option_and_then": lambda f, x: f(x[1]) if x[0] == "Some" else NONE,
+    "unwrap_or": lambda x, other: x[1] if x[0] in ("Some", "Ok") else other,
     "option_to_list": lambda x: Cons(x[1], NIL) if x[0] == "Some" else NIL,
     "result_map_both": lambda f, g, x: ("Ok", f(x[1])) if x[0] == "Ok" else ("Err", g(x[1])),
 
