@@ -2,6 +2,7 @@
 
    It understands as much of the console as bench/run needs, with all words written out, and refuses nothing: SET, STEP
    and DUMP. With -DUNDO each turn also leaves a record in a ring of the newest 10,000, and BACK and FORWARD are there.
+   With -DCOUNTED too, the loop of turns asks for the end of the ring once for all turns up to it.
    The deck is empty; all else is as in the simulator without options. */
 
 #include <inttypes.h>
@@ -46,7 +47,7 @@ enum { CELL = 1, FIVE_CELLS = 2, CENTRAL_WORD = 4, EXCHANGE = 8, CHANNEL = 16, B
 typedef struct {
     Processor processor;
     uint16_t address, cell; /* of the cell, or the address of the first of five */
-    uint8_t slot, changed, channel_number, reader_mode, printer_mode, printer_column, symbols;
+    uint8_t changed, channel_number, reader_mode, printer_mode, printer_column, symbols;
     Channel channel, reader_channel, printer_channel; /* in the order in which they were overwritten */
     uint16_t five[5];
     uint64_t word;
@@ -283,13 +284,12 @@ wait:;
 }
 
 /* A step of the processor in the slot, one of the reader, one of the printer; then the clock and the slot. */
-HOT void turn(Machine *m)
+HOT void turn(Machine *m KEEP(, Record *record))
 {
     const uint32_t slot = m->slot;
     Processor *now = &m->processor[slot];
     uint16_t *cell = m->cell[slot];
-    KEEP(Record *record = &records[next_record]; next_record = next_record + 1 == KEPT ? 0 : next_record + 1;)
-    KEEP(record->processor = *now; record->slot = slot; record->changed = 0;)
+    KEEP(record->processor = *now; record->changed = 0;)
     if (UNLIKELY(now->phase != 0)) block(m, now, cell KEEP(, record));
     else instruction(m, now, cell KEEP(, record));
     if (m->channel[READER].state != INACTIVE) step_reader(m KEEP(, record));
@@ -300,7 +300,30 @@ HOT void turn(Machine *m)
     } else m->slot = slot + 1;
 }
 
+#ifndef UNDO
 RARE void run(Machine *m, uint64_t turns) { while (turns--) turn(m); }
+#elif defined COUNTED
+/* The place in the ring counts the turns up to its end, so no turn asks whether the ring is at its end. */
+RARE void run(Machine *m, uint64_t turns)
+{
+    while (turns) {
+        const uint64_t room = KEPT - next_record, most = turns < room ? turns : room;
+        Record *record = &records[next_record], *end = record + most;
+        for (; record != end; record++) turn(m, record);
+        next_record = most == room ? 0 : next_record + most;
+        turns -= most;
+    }
+}
+#else
+RARE void run(Machine *m, uint64_t turns)
+{
+    while (turns--) {
+        Record *record = &records[next_record];
+        next_record = next_record + 1 == KEPT ? 0 : next_record + 1;
+        turn(m, record);
+    }
+}
+#endif
 
 #ifdef UNDO
 /* All but the registers and one cell, from the last thing that the turn overwrote to the first. */
@@ -332,12 +355,13 @@ RARE void back(Machine *m, uint64_t turns)
     while (turns--) {
         next_record = next_record == 0 ? KEPT - 1 : next_record - 1;
         const Record *record = &records[next_record];
-        uint16_t *cell = m->cell[record->slot];
-        m->slot = record->slot;
-        if (record->slot == PROCESSORS - 1) m->clock = (m->clock - 1) & 07777;
+        const uint32_t slot = m->slot == 0 ? PROCESSORS - 1 : m->slot - 1;
+        uint16_t *cell = m->cell[slot];
+        m->slot = slot;
+        if (slot == PROCESSORS - 1) m->clock = (m->clock - 1) & 07777;
         if (UNLIKELY(record->changed & ~CELL)) back_rest(m, record, cell);
         if (record->changed & CELL) cell[record->address] = record->cell;
-        m->processor[record->slot] = record->processor;
+        m->processor[slot] = record->processor;
     }
 }
 #endif

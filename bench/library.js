@@ -1,7 +1,6 @@
 // The library's module at the other end of a pipe, for bench/run: it performs the lines of standard input, and writes their answers.
-//   node library.js library.js MODULE
+//   node library.js library.mjs MODULE
 const files = require("fs");
-const { LibrarySession, openLibrary } = require(require("path").resolve(process.argv[2]));
 
 function* linesOfInput() {
   const piece = Buffer.alloc(1 << 16);
@@ -12,7 +11,7 @@ function* linesOfInput() {
   }
 }
 
-openLibrary(files.readFileSync(process.argv[3])).then((calls) => {
-  const session = new LibrarySession(calls);
+import(require("url").pathToFileURL(process.argv[2])).then(async ({ LibrarySession, openLibrary }) => {
+  const session = new LibrarySession(await openLibrary(files.readFileSync(process.argv[3])));
   for (const line of linesOfInput()) files.writeSync(1, session.answer(`${line}\n`).text);
 });
