@@ -6,6 +6,7 @@ import io
 import os
 import platform
 import re
+import shlex
 import shutil
 import signal
 import subprocess
@@ -128,6 +129,14 @@ def lasting_room():
     folder = tempfile.mkdtemp(prefix="pp6600-test-")
     atexit.register(shutil.rmtree, folder)
     return folder
+
+
+@functools.lru_cache(maxsize=None)
+def quick_path():
+    """Returns a path of commands on which python3 starts sooner: without what is installed beside the standard library."""
+    folder = lasting_room()
+    write(os.path.join(folder, "python3"), f'#!/bin/sh\nexec {shlex.quote(sys.executable)} -S "$@"\n', 0o755)
+    return f"{folder}{os.pathsep}{os.environ['PATH']}"
 
 
 class Block(NamedTuple):

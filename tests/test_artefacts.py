@@ -1,5 +1,5 @@
 """Tests that the artefacts of dist/ for other machines and other programs answer as the program does, byte for byte: the rows of pp_console,
-the sessions of the pages, the stored cases, and 500 random sessions. What can't run here is skipped, and said. Those for Windows are in
+the sessions of the pages, the stored cases, and 200 random sessions. What can't run here is skipped, and said. Those for Windows are in
 test_windows.
 
 PP6600_ARTEFACTS names another folder than dist/."""
@@ -36,7 +36,7 @@ from pp6600.engine.plain.program import read_options, read_words
 TARGETS, CLIENTS = os.path.join(TOP, "targets"), os.path.join(TOP, "tests", "artefacts")
 WEB = os.path.join(TOP, "tools", "pp6600", "front", "film", "web")
 HEADER = os.path.join(TOP, "crates", "pp_library", "pp6600.h")
-RANDOM = 500
+RANDOM = 200
 CORES = len(os.sched_getaffinity(0))
 WARNINGS = "-Wall -Wextra -Wconversion -Wsign-conversion -Werror".split()
 
@@ -185,11 +185,6 @@ def answer_in_python(options, room):
         return b"", f"{refused}\n".encode("ascii"), refused.status
 
 
-def traced(seed):
-    """Returns a sequence of calls of the library, and what they came to."""
-    return seed, library_calls.trace_of(seed, functools.partial(library_calls.Native, artefact("libpp6600.so")))
-
-
 def compiled(compiler, source, *words):
     """Compiles a file in C, without a warning."""
     done = subprocess.run([compiler, "-O1", *WARNINGS, "-I", os.path.dirname(HEADER), source, *words], capture_output=True, text=True, check=False)
@@ -259,14 +254,6 @@ class Library(Artefacts):
         shown = run_tool(self.tool("node", "nodejs"), *self.for_node("numbers.js"),
                          json.dumps(library_calls.NUMBERS))
         self.assertRegex(shown, r"^true \d+\n$")
-
-    def test_node_random_calls(self):
-        """The module does in each call what the library does, which tests/test_library.py checks."""
-        node = self.tool("node", "nodejs")
-        with concurrent.futures.ProcessPoolExecutor() as pool:
-            traces = pool.map(traced, range(RANDOM), chunksize=10)
-            path = write(self.path("traces"), "".join(f"{json.dumps(trace)}\n" for trace in traces))
-        self.assertGreater(int(run_tool(node, os.path.join(CLIENTS, "calls.js"), artefact("pp6600.wasm"), path)), 30 * RANDOM)
 
     def test_node_is_told_what_is_wrong(self):
         """A session of the module rejects a deck, a count and a place; it answers more lines than one call takes, and none after its end."""

@@ -17,10 +17,11 @@ from .support import LIBRARY, TOP, Case, tool
 
 from pp6600.engine.assembler import COMPLAINTS, DONE, LINES, NAMES, ROOM, Cell, assembler_here
 from pp6600.engine.library import REFUSED
-from pp6600.language.assembling import STOPS, by_library, in_python
+from pp6600.language.assembling import STOPS, by_library
 from pp6600.language.source.disassembler import Disassembler
 from pp6600.language.source.passes import assembled
-from pp6600.language.sources import names_of
+from pp6600.language.source.writing import lines_of
+from pp6600.language.sources import complaints, names_of
 
 COUNT = int(os.environ.get("PP6600_SOURCES", "3000"))
 FORMS = ("words", "set", "listing")
@@ -48,20 +49,18 @@ def names_in(program):
 class Library(Case):
     def check(self, lines):
         """Compares the two assemblers on a source. Returns whether the library takes it."""
-        source, taken = text_of(lines), False
-        for number, form in enumerate(FORMS):
-            got, wanted = by_library(assembler_here(), source, "a.pp", form, 9 - number), in_python(source, "a.pp", form, 9 - number, None, None)
-            if got is None:
-                (refusal,) = assembler_here().text(source, COMPLAINTS)[0].decode().splitlines()[:1]
-                self.assertTrue(refusal.endswith(STOPS), refusal)
-                continue
-            taken = True
-            self.assertEqual((wanted.complaints, wanted.is_wrong), (got.complaints, got.is_wrong))
+        source, program = text_of(lines), assembled(lines)
+        found = [by_library(assembler_here(), source, "a.pp", form, number) for number, form in enumerate(FORMS)]
+        if None in found:
+            refusal = assembler_here().text(source, COMPLAINTS)[0].decode().partition("\n")[0]
+            self.assertTrue(refusal.endswith(STOPS), refusal)
+            return False
+        for number, (form, got) in enumerate(zip(FORMS, found)):
+            self.assertEqual((complaints("a.pp", program), bool(program.messages)), got[:2])
             if not got.is_wrong:
-                self.assertEqual(wanted.lines(), got.lines())
-        if taken:
-            self.check_texts(source, assembled(lines))
-        return taken
+                self.assertEqual(list(lines_of(program, form, number)), got.lines())
+        self.check_texts(source, program)
+        return True
 
     def check_texts(self, source, program):
         """Compares what only the page asks for."""

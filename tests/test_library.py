@@ -2,6 +2,8 @@
 the program does, tests/test_artefacts.py tries."""
 
 import concurrent.futures
+import functools
+import json
 import os
 import re
 import shutil
@@ -10,6 +12,7 @@ import sys
 import unittest
 
 from tests import library_calls
+from tests.built import artefact
 from tests.generator import BUSY, WATCHED as WATCHING, Maker
 from tests.support import PATIENCE, PROVED, TOP, Case, blocks, program, read
 
@@ -21,7 +24,7 @@ from pp6600.failure import Failure
 
 CRATE = os.path.join(TOP, "crates", "pp_library")
 PLACES = 106592 + 32768  # of a machine with the smallest central memory
-SEQUENCES = 500
+SEQUENCES = 200
 STACKS = 28 << 10, 144 << 10, 16 << 10  # bytes of the assembler's calls, of a search and of another, as the header says
 # Opens sessions with little memory until there is none, and compares the others before and after.
 LITTLE_MEMORY = """
@@ -218,18 +221,31 @@ class WrongHands(LibraryCase):
             LibrarySession(path=self.file("not a library"))
 
 
-def has_passed(seed):
-    """Returns how many calls a sequence made."""
-    return len(library_calls.trace_of(seed))
+def trace(seed):
+    """Returns the seed of a sequence, and its calls with what they came to."""
+    return seed, library_calls.trace_of(seed)
+
+
+@functools.lru_cache(maxsize=None)
+def traces():
+    """Returns all sequences."""
+    with concurrent.futures.ProcessPoolExecutor() as pool:
+        return list(pool.map(trace, range(SEQUENCES), chunksize=10))
 
 
 class RandomCalls(LibraryCase):
     """Random sequences of calls, on two sessions side by side, with guards round each buffer."""
 
     def test_sequences(self):
-        with concurrent.futures.ProcessPoolExecutor() as pool:
-            calls = list(pool.map(has_passed, range(SEQUENCES), chunksize=10))
-        self.assertGreater(min(calls), 30)
+        self.assertGreater(min(len(calls) for _, calls in traces()), 30)
+
+    def test_sequences_in_node(self):
+        """The module for browsers and Node does in each call what the library does."""
+        node = shutil.which("node") or shutil.which("nodejs") or self.skipTest("node is missing")
+        path = self.file("".join(f"{json.dumps(one)}\n" for one in traces()))
+        words = (node, os.path.join(TOP, "tests", "artefacts", "calls.js"), artefact("pp6600.wasm"), path)
+        done = subprocess.run(words, capture_output=True, text=True, check=True, timeout=PATIENCE)
+        self.assertGreater(int(done.stdout), 30 * SEQUENCES)
 
     def test_slips_are_seen(self):
         for name in library_calls.SLIPS:

@@ -16,7 +16,7 @@ import os
 import shutil
 
 from tests.fixtures import PAGES, sessions
-from tests.support import EXAMPLES, TOP, Case, add_tests, blocks, program, read, run, write
+from tests.support import EXAMPLES, TOP, Case, add_tests, blocks, program, quick_path, read, run, write
 from tests.transcripts import TranscriptCase, transcripts
 
 from pp6600 import Console
@@ -62,7 +62,7 @@ class Commands(Case):
         there = os.listdir(self.folder)
         for name, text in files.items():
             write(self.path(name), text)
-        done = run("bash", "-c", f"exec 2>&1\n{commands}", cwd=self.folder)
+        done = run("bash", "-c", f"exec 2>&1\n{commands}", cwd=self.folder, env={"PATH": quick_path()})
         self.assertEqual(wanted, done.out)
         ignored = [pattern.strip("/") for pattern in read(".gitignore").splitlines()]
         self.assertEqual([], [name for name in os.listdir(self.folder) if name not in (*there, *ignored)])
@@ -70,6 +70,8 @@ class Commands(Case):
 
 class Transcripts(TranscriptCase):
     """The transcripts of tests/sessions."""
+
+    commands = staticmethod(quick_path)
 
 
 class Exercises(Case):

@@ -23,26 +23,54 @@ exec python3 -c 'import pty, sys; sys.exit(pty.spawn(sys.argv[1:]) >> 8)' "$@" <
 """
 COMMAND = re.compile(r"^\$ (.*<<END.*\n(?:.*\n)*?END|.*)\n", re.M)  # with its own lines
 MARK = "====\n"
-# A tool with words that need no shell, on a file or nothing, and whether its status is shown. Such a tool runs in the tests' own process.
-ALONE = re.compile(r"tools/(?!talk|panel|debug)([\w-]+)((?: (?:[\w./:=,+@%-]+|'[^']*'))*)(?: <([\w./-]+))?(; echo \$\?)?")
+# A tool with words that need no shell, on a file, on what some commands write, or on nothing; where its output goes, or which of its lines are
+# shown; and whether its status is. Such a tool runs in the tests' own process.
+ALONE = re.compile(r"""(?:(printf\ '[^']*'(?:\ "[^"$`]*")*|echo\ [^|&;<>`$]*|\([^|&<>()]*\))\ \|\ )?
+                       tools/(?!talk|panel|debug)([\w-]+)((?:\ (?:[\w./:=,+@%-]+|'[^']*'))*)(?:\ <([\w./-]+))?
+                       (?:\ >([\w.-]+)|\ \|\ (head|tail)\ -n\ (\d+))?(;\ echo\ \$\?)?""", re.X)
+DEFINED = re.compile(r"([a-z]+)\(\) \{ (.*); \}")  # a function of the shell
+GIVEN = re.compile(r"\$(\d)|\$\{(\d):-(\w+)\}")  # what it is given, or what it takes in its place
+OUTSIDE = re.compile(r"\.py|/dev/std")  # code or files of the tests' own process
+LEAVES = re.compile(r"(?<!\()\b(?:cd|export) ")  # changes what a tool of this process would not see
 
 
 class Shell:
     """A bash in a folder."""
 
-    def __init__(self, folder):
-        self.folder = folder
+    def __init__(self, folder, path):
+        self.folder, self.functions, self.is_here = folder, {}, True
         self.process = subprocess.Popen(["bash"], cwd=folder, stdin=subprocess.PIPE, stdout=subprocess.PIPE, stderr=subprocess.STDOUT,
-                                        env={**os.environ, "PP6600": program(), "PATH": f"{folder}/bin:{os.environ['PATH']}"})
+                                        env={**os.environ, "PP6600": program(), "PATH": f"{folder}/bin:{path}"})
 
     def perform(self, command):
         """Performs a command. Returns what it writes, standard error too."""
-        found = ALONE.fullmatch(command)
-        if found and ".py" not in command:
-            name, words, path, shows_status = found.groups()
-            script = part(self.folder, path).decode("latin-1") if path else ""
-            done = tool_here(name, *shlex.split(words), script=script, folder=self.folder, is_one=True)
-            return done.out + (f"{done.status}\n" if shows_status else "")
+        self.functions.update(DEFINED.findall(command))
+        self.is_here &= not LEAVES.search(command)
+        found = ALONE.fullmatch(self.as_called(command))
+        if found and self.is_here and not OUTSIDE.search(command):
+            return self.performed_here(*found.groups())
+        return self.written(command).decode("utf-8", "replace")
+
+    def as_called(self, command):
+        """Returns the command of a function that is called with these words, or else the command."""
+        name, _, words = command.partition(" ")
+        if name not in self.functions or "\n" in command:
+            return command
+        given = ["", *shlex.split(words), *[""] * 9]
+        return GIVEN.sub(lambda mark: given[int(mark[1] or mark[2])] or mark[3] or "", self.functions[name])
+
+    def performed_here(self, source, name, words, path, into, end, count, shows_status):
+        """Returns what a tool writes that runs in this process."""
+        script = part(self.folder, path) if path else self.written(source) if source else b""
+        done = tool_here(name, *shlex.split(words), script=script.decode("latin-1"), folder=self.folder, is_one=not (into or end))
+        lines = done.out.splitlines(keepends=True)
+        if into:
+            write(os.path.join(self.folder, into), done.out)
+        shown = [] if into else lines[:int(count)] if end == "head" else lines[-int(count):] if end else lines
+        return done.err * bool(into or end) + "".join(shown) + (f"{done.status}\n" if shows_status else "")
+
+    def written(self, command):
+        """Returns what a command of the shell writes, standard error too."""
         self.process.stdin.write(f"{{\n{command}\n}} </dev/null\n{{ status=$?; echo; echo '{MARK}'; (exit $status); }}\n".encode())
         self.process.stdin.flush()
         written = b""
@@ -51,7 +79,7 @@ class Shell:
             if not line:
                 raise EOFError(written.decode())
             written += line
-        return written[:-len(MARK) - 2].decode("utf-8", "replace")
+        return written[:-len(MARK) - 2]
 
     def end(self):
         self.process.communicate(timeout=PATIENCE)
@@ -87,9 +115,14 @@ class TranscriptCase(Case):
             os.symlink(os.path.join(TOP, name), self.path(name))
         os.symlink(program(), self.path("pp6600"))
         write(self.path("bin", "at-terminal"), AT_TERMINAL, 0o755)
-        shell = Shell(self.folder)
+        shell = Shell(self.folder, self.commands())
         self.addCleanup(shell.end)
         return shell
+
+    @staticmethod
+    def commands():
+        """Returns the path of the commands."""
+        return os.environ["PATH"]
 
     def written(self, shell, command):
         """Returns what a command writes, without empty lines and names of folders."""
