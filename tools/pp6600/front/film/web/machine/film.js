@@ -150,6 +150,16 @@ export class Film {
   // The moment that a BACK or FORWARD leads to, else the moment itself.
   resolve(moment) { while (moment > 0 && this.kinds[moment] === JUMP) moment = this.jumps.get(moment); return moment; }
 
+  // The stretches of moments that are not in effect at the end, as a BACK has taken them back: each its first moment, and the last BACK or FORWARD.
+  takenBack() {
+    const jumps = [...this.jumps.keys()], found = [];
+    for (let jump = lastUpTo(jumps, this.last), to; jump; jump = lastUpTo(jumps, to)) {
+      to = this.resolve(jump);
+      if (to >= 0 && to < jump - 1) found.push([to + 1, jump]);
+    }
+    return found;
+  }
+
   // The latest change in effect at a moment, of those at these moments; 0 if there is none.
   changeBefore(changes, moment) {
     let at = this.resolve(moment);
