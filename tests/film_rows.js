@@ -4,13 +4,16 @@
 import { openLibrary } from "../tools/pp6600/front/film/web/engine/library.mjs";
 import { Session } from "../tools/pp6600/front/film/web/engine/session.js";
 import { Film } from "../tools/pp6600/front/film/web/machine/film.js";
-import { constantText } from "../tools/pp6600/front/film/web/machine/origins.js";
+import { placesOfSetting, wordsIn } from "../tools/pp6600/front/film/web/machine/lines.js";
+import { LINE } from "../tools/pp6600/front/film/web/machine/moments.js";
+import { columnOf, constantText } from "../tools/pp6600/front/film/web/machine/origins.js";
 import { isUpper, isWord, layout, upperOf, wordOfUpper } from "../tools/pp6600/front/film/web/machine/places.js";
+import { lineText } from "../tools/pp6600/front/film/web/machine/words.js";
 
 const fs = require("fs"), [, , module_, about, sessions] = process.argv, CONTROL = { pause: async () => {}, isStopped: () => false };
 
 function changesOf(film, moment) {
-  const changed = [...film.places.subarray(film.starts[moment], film.starts[moment + 1])].filter((place) => place < layout.deck);
+  const changed = [...film.places.subarray(film.starts[moment], film.starts[moment + 1])].filter((place) => place < layout.end);
   const places = [...new Set(changed.map((place) => (isUpper(place) ? wordOfUpper(place) : place)))];
   const number = (place, row) => {
     const low = film.numberIn(moment, place, row);
@@ -19,10 +22,14 @@ function changesOf(film, moment) {
   return places.map((place) => [place, number(place, film.was), number(place, film.now)]).sort(([one], [other]) => one - other);
 }
 
+// What a moment wrote: of a line the number of each word, of a turn whether it moved a number, a device wrote it, or a block ended so.
 function writesOf(film, moment) {
-  const isTurn = film.isTurn(moment);
-  return film.writesOf(moment).map(({ place, what, sources }) => [place, isTurn ? what & 11 : what, isTurn ? constantText(film, moment, { what }) : "",
-    sources.map((one) => [one.place, one.parts])]);
+  if (!film.isTurn(moment)) return film.kinds[moment] === LINE ? placesOfSetting(wordsIn(lineText(film, moment))).map(([place, word]) => [place, word, "", []]) : [];
+  return film.writesOf(moment).map((write) => {
+    const column = columnOf(film, { moment, write }), sources = write.sources.map((one) => [one.place, one.parts]);
+    if (write.isOfDevice) return [write.place, 2, "", column ? [[layout.end + 80 * column.card + column.column, 0]] : []];
+    return [write.place, (write.isMoved ? 1 : 0) | (write.endsBlock ? 8 : 0), constantText(film, moment, write), sources];
+  });
 }
 
 (async () => {
@@ -36,7 +43,7 @@ function writesOf(film, moment) {
       film.goTo(at);
       moments.push([film.kinds[at], film.processor[at], film.p[at], film.turn[at], changesOf(film, at), writesOf(film, at)]);
     }
-    console.log(JSON.stringify({ answers, moments, deck: layout.deck, numbers: [...film.numbers.subarray(0, layout.watches)] }));
+    console.log(JSON.stringify({ answers, moments, deck: layout.end, numbers: [...film.numbers.subarray(0, layout.watches)] }));
     session.close();
   }
 })();

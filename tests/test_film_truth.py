@@ -1,8 +1,10 @@
 """The modules of a film's page, run by Node, beside the tools and the program on random sessions: the answers, and of each moment its kind,
-what it changed, what it wrote and from what. Other seeds: TRUTH_SEEDS="1000 200" compares 200 sessions from seed 1000 on (decimal)."""
+what it changed, what it wrote and from what; and what its searches find. Other seeds: TRUTH_SEEDS="1000 200" compares 200 sessions from seed 1000 on (decimal)."""
 
 import json
 import os
+import random
+import re
 import shutil
 import unittest
 
@@ -12,8 +14,10 @@ from tests.support import EXAMPLES, TOP, Case, program, read
 from tests.support import run as run_program
 from tests.turns import Recording, Turn, TurnKind
 
-from pp6600.engine.interface import CARD, CLOCK, PHASE, SLOT, A, P, Q, place_number
+from pp6600.engine.choose import engine_of
+from pp6600.engine.interface import CARD, CLOCK, PHASE, SLOT, WAITS, A, Form, P, Q, place_number
 from pp6600.front.film import page
+from pp6600.run.conditions import joined, parsed
 from pp6600.run.forms import CELLS, CHANNELS, PROCESSORS, STATES
 from pp6600.run.session import Session
 from pp6600.run.turn import AT_END_OF_BLOCK, AT_END_OF_INPUT, NO_WORD, RETURN, ZERO, places_of_setting
@@ -26,6 +30,7 @@ EXCHANGE = ["SET C 1 12345670123456701234", "SET M 0 100 1400 2600 2700 2077 777
             "FORWARD 3", "SET M 1 7776 1404 3420 6120 0 7105", "SET P 1 7776", "SET A 1 77776", "STEP 200"]
 IDLE, WAITING, BUSY_TURN, BLOCK, LINE, JUMP = range(6)  # what a lane shows of a moment, as docs/FILM.md has it, and other moments
 BLOCKS = (0o61, 0o63, 0o71, 0o73)
+LJM, RPN = 0o01, 0o27
 READER, PRINTER = 0o12, 0o13
 MOVED, BY_DEVICE, AT_END = 1, 2, 8
 COLUMNS = 80
@@ -73,7 +78,8 @@ def bits(parts):
 def written(turn):
     """Returns what a processor wrote in a turn: of each place its number, what kind of write it was, its constant and its sources."""
     ends = any(turn.effects() is one for one in (AT_END_OF_BLOCK, AT_END_OF_INPUT))
-    return [[place_number(*write.place), MOVED * write.is_moved | AT_END * (ends and write.place.kind == "P"),
+    moves = turn.processor.code == RPN or turn.processor.code == LJM and turn.processor.channel == 0  # the table has them as computed
+    return [[place_number(*write.place), MOVED * (write.is_moved or moves) | AT_END * (ends and write.place.kind == "P"),
              "".join(constant_of(turn, name) for name in write.constants[:1]),
              [[place_number(*source.place), bits(source.parts)] for source in write.sources]]
             for write in turn.writes() if write.place.kind not in ("S", "PHASE")]
@@ -103,7 +109,7 @@ def turns_of(run, count, deck):
     for at in range(count):
         turn = Turn(recording, at)
         yield [kind_of(turn), turn.number, turn.processor.p, turn_before + at + 1, changed(recording, at),
-               written(turn) + written_by_devices(recording, at, turn, deck)]
+               sorted(written(turn) + written_by_devices(recording, at, turn, deck))]
 
 
 def line_written(line):
@@ -143,7 +149,8 @@ class Truth(Case):
             if kind == "TURNS":
                 count = int(rest[0], 8)
                 for wanted in turns_of(run, count, deck):
-                    self.assertEqual(wanted, next(moments), line)
+                    *others, writes = next(moments)
+                    self.assertEqual(wanted, [*others, sorted(writes)], line)
                 turns += count
             elif kind in ("OK", "BACK", "FORWARD"):
                 number, _, _, turn, _, writes = next(moments)
@@ -151,3 +158,58 @@ class Truth(Case):
                 self.assertEqual([LINE if kind == "OK" else JUMP, run.turn, wanted], [number, turn, sorted(writes)], line)
         self.assertIsNone(next(moments, None))
         return turns
+
+
+SEARCHED = "500 24"  # of the sessions in which conditions are looked for: the first, and how many
+TESTS = ("P {n} = {p}", "A {n} != 0", "A {n} > 7", "Q {n} <= 3", "A {n} < 100", "M {n} 20 >= 1", "P {n} outside 100 117", "A {n} inside 1 77", "M {n} 20 changes", "P {n} changes",
+         "M {n} 0 177 is written", "A {n} is written", "C 0 is written", "H {c} is F", "H {c} changes state", "PP {n} waits", "PP {n} performs {p}", "PP {n} in a block",
+         "PP {n} not in a block")
+
+
+def condition_of(choose):
+    """Returns a condition, and its forms as the tools read it."""
+    test = lambda: choose.choice(TESTS).format(n=choose.randrange(3), p=f"{choose.randrange(0o100, 0o120):o}", c=choose.choice(("0", "1", "12", "13")))
+    lists = [[test() for _ in range(choose.choice((1, 1, 2)))] for _ in range(choose.choice((1, 1, 1, 2)))]
+    form = lambda text: Form(WAITS, int(text.split()[1], 8)) if text.endswith("waits") else parsed(text).alternatives[0].forms[0][0]
+    return " or ".join(" and ".join(tests) for tests in lists), joined([[form(text) for text in tests] for tests in lists])
+
+
+@unittest.skipUnless(shutil.which("node"), "there is no node")
+class Searches(Case):
+    """What the page finds, beside what the simulator in Python does."""
+
+    def test_random_conditions(self):
+        first, count = map(int, os.environ.get("SEARCHED_SEEDS", SEARCHED).split())
+        sessions, wanted = [], []
+        for seed in range(first, first + count):
+            choose = random.Random(seed)
+            lines = [line for line in lines_of(seed) if re.match(r"(SET|STEP|DEADSTART)\b", line) and self.accepted(line)]
+            conditions = [condition_of(choose) for _ in range(8)]
+            sessions.append({"lines": lines, "conditions": [text for text, _ in conditions]})
+            wanted.append([self.found(lines, forms) for _, forms in conditions])
+        about = self.file(json.dumps({**page.tables(), **page.options(arguments("").parse_args([])), "labels": {}}))
+        found = [json.loads(line) for line in in_node("film_searches.js", os.path.join(TOP, "dist", "pp6600.wasm"), about, self.file(json.dumps(sessions)))]
+        for session, own, others in zip(sessions, wanted, found):
+            for text, one, other in zip(session["conditions"], own, others):
+                self.assertEqual(one, other, (text, session["lines"]))
+        self.assertGreater(sum(one != [None, None] for own in wanted for one in own), count)
+
+    @staticmethod
+    def accepted(line):
+        return not engine_of("plain", []).answer(f"{line}\n")[0].startswith("ERR")
+
+    @staticmethod
+    def found(lines, forms):
+        """Returns after how many actions a condition comes to hold first in a turn, and last in an action before the newest."""
+        engine, at, first = engine_of("plain", []), 0, None
+        for line in lines:
+            kind, count = [*line.split(), "1"][:2]
+            count = int(count, 8) if kind == "STEP" else 1
+            made, is_found = engine.search(forms, count) if kind == "STEP" and first is None else (0, False)
+            if is_found:
+                first = at + made
+            if kind != "STEP" or made < count:
+                engine.answer(f"{line}\n" if kind != "STEP" else f"STEP {count - made:o}\n")
+            at += count
+        undone = engine.search_back(forms)
+        return [first, at - undone if undone else None]

@@ -217,10 +217,8 @@ class Turn:
         return self.state(channel, 1) == "F" and self.state_left(channel) != "F"
 
     def is_changed_by_device(self, channel):
-        """Returns whether a device made a channel as it is after the turn, and not the processor."""
-        has_written = any(write.place in (Place("S", (channel,)), Place("H", (channel,))) for write in self.writes())
-        after = self.state(channel, 1)
-        return self.state(channel) != after and not (has_written and self.state_left(channel) == after)
+        """Returns whether a device made a channel as it is after the turn, and not the processor, also as it was before."""
+        return self.state_left(channel) != self.state(channel, 1)
 
 
 def of_word(place: Place, word: Optional[Place], parts: Optional[Tuple[int, ...]]) -> Write:

@@ -19,8 +19,7 @@ from ...language.sources import Source, words_of
 from ...language.source.statements import TAB
 from ...run import conditions, sentences
 from ...run.forms import MODES
-from ...run.turn import (
-    AT_END_OF_BLOCK, AT_END_OF_INPUT, IN_BLOCK, INSTRUCTIONS, NAMES, RELATIVE_JUMPS, STATE_LETTERS, TWO_WORDS, WAITS_FOR)
+from ...run.turn import BLOCK_GOES_ON, COMPLETES, NAMES, RELATIVE_JUMPS, STATE_LETTERS, TWO_WORDS, WAITS_FOR
 from ...shell.options import given_options, in_words
 from ..keys import for_page
 from .joining import joined
@@ -70,7 +69,7 @@ def tables() -> Dict[str, Any]:
     return {"names": NAMES, "two_words": TWO_WORDS, "relative_jumps": list(RELATIVE_JUMPS), "symbols": SYMBOLS,
             "modes": {"reader": MODES["CR MODE"], "printer": MODES["LP MODE"]},
             "states": [(letter, name) for name, letter in STATE_LETTERS.items()], "waits_for": WAITS_FOR,
-            "table": INSTRUCTIONS, "blocks": IN_BLOCK, "ends": {"block": AT_END_OF_BLOCK, "input": AT_END_OF_INPUT},
+            "goes_on_in": {"instruction": COMPLETES, "block": BLOCK_GOES_ON},
             "meanings": meanings(), "keys": for_page(), "condition": conditions.FORM,
             "sentences": {"of": {code.rjust(2, "0") if code[0] != "b" else f"b{code[1:]:>02}": rows
                                  for code, rows in sentences.ROWS.items()},

@@ -1,104 +1,110 @@
-// ---- conditions on the machine, as P 0 = 105 and PP 3 waits: the observer of a simulator that says after each action whether they hold
+// ---- conditions on the machine, as P 0 = 105 and PP 3 waits: how they are read, and how the library finds the turns in which they come to hold
 
-import { CLOCK, CELLS, layout, REGISTERS, register, isWord, isUpper, upperOf, wordOfUpper, octal, KINDS,
-  placeIn } from "../machine/places.js";
-import { WAITING } from "../machine/moments.js";
-import { NO_TURN } from "../machine/lines.js";
-import { turning } from "../machine/turns.js";
+import { CELLS, CLOCK, KINDS, PROCESSORS, layout, octal, placeIn, register } from "../machine/places.js";
+import { FORM } from "./library.mjs";
 
-const COMPARES = { "=": (a, b) => a === b, "!=": (a, b) => a !== b, "<": (a, b) => a < b, ">": (a, b) => a > b, "<=": (a, b) => a <= b,
-  ">=": (a, b) => a >= b, outside: (a, first, last) => a < first || a > last, inside: (a, first, last) => a >= first && a <= last };
+const { INSIDE, OUTSIDE, CHANGES, WRITES, PERFORMS, WAITS, OR } = FORM;
+const MOST_TESTS = 0o10, GREATEST = 2n ** 64n - 1n, FAR = 64; // actions among which is the latest turn of each processor
+const RJM = 2, IN_BLOCK = 3; // an instruction, and the kind of a turn
+// Of each comparison the kind of its form, and the ends of the range; null is the number that is compared with.
+const COMPARISONS = { "=": [INSIDE, null, null], "!=": [OUTSIDE, null, null], "<=": [INSIDE, 0n, null], ">=": [INSIDE, null, GREATEST],
+  "<": [OUTSIDE, null, GREATEST], ">": [OUTSIDE, 0n, null] };
 
-// The number at a place; one of 60 bits is a BigInt.
-const numberAt = (numbers, place) => (isWord(place) ? (BigInt(numbers[upperOf(place)]) << 30n) | BigInt(numbers[place]) : numbers[place]);
+const joined = (alternatives) => alternatives.flatMap((forms, at) => (at ? [{ kind: OR }, ...forms] : forms));
+const writesP = (n) => ({ kind: WRITES, place: register(n, 0), first: 1 });
 
-// A test is an observer: begin(n, numbers), if it has it, before an action, by a processor or by none, tell(place) for each change, and
-// end(n, numbers) after it, which returns whether what is asked for holds. An event holds anew each time. Here a number is to be right.
-const numberTest = (place, isRight) => ({ end: (n, numbers) => isRight(numberAt(numbers, place)) });
-
-// Whether a number has changed in an action at a place that is one of those wanted.
-export function changeTest(isWanted) {
-  let changed;
-  const tell = (place) => { if (isWanted(isUpper(place) ? wordOfUpper(place) : place)) changed = true; };
-  return { isEvent: true, begin: () => { changed = false; }, tell, end: () => changed };
+// Whether forms come to hold in the latest turn, which is made again.
+function comesInLatest(session, forms) {
+  session.back(1);
+  return session.until(forms, 1).found;
 }
 
-// Whether the latest turn of a processor was a wait, and no line has changed its registers since.
-function waitTest(processor) {
-  let waits = false, one = null;
-  return {
-    begin: (n, numbers) => { one = n === processor ? turning.processor(numbers, n) : null; },
-    tell: (place) => { if (!one && REGISTERS.some((first) => first + processor === place)) waits = false; },
-    end: (n, numbers) => (waits = one ? turning.kindOf(one, numbers) === WAITING : waits),
-  };
-}
-
-// Whether a subroutine has returned to another address than was stored; labels have the jump back with the cell of the return address.
-function returnTest({ n: processor, name, own }) {
-  if (!own || !own.entries.length) {
-    throw new Error(`${name} returns wrongly needs labels of a subroutine: NAMEX, and NAME at the cell after it`);
+// The processors whose latest turn was a wait: it has not even written P.
+function waiting(session) {
+  const count = Math.min(session.counts().kept, FAR), found = new Set();
+  session.back(count);
+  const { made, olds } = session.turns(count, FAR, 128 * FAR, "again");
+  for (let at = 0, old = 0; at < made.length; at += 2) {
+    const n = made[at], places = olds.subarray(2 * old, 2 * (old += made[at + 1])).filter((_, index) => index % 2 === 0);
+    if (n < PROCESSORS) found[places.includes(BigInt(register(n, 0))) ? "delete" : "add"](n);
   }
-  const entries = new Map(own.entries), stored = new Map(), jumpOf = new Map(own.entries.map(([jump, cell]) => [cell + 1, jump]));
-  let one = null;
-  const end = (n, numbers) => {
-    if (!one || one.phase) return false;
-    const { p, code, words } = one, now = numbers[register(n, 0)], jump = jumpOf.get(now);
-    if (code === 2 && jump !== undefined && now !== p) stored.set(jump, (p + words) & 0o7777);
-    const wanted = stored.get(p);
-    return entries.has(p) && stored.delete(p) && wanted !== now;
-  };
-  return { isEvent: true, begin: (n, numbers) => { one = n === processor ? turning.processor(numbers, n) : null; }, end };
+  return found;
 }
 
-// A condition is one of several lists of tests, which hold together. It notes after how many actions one held the first and the last time.
+// Notes the calls of subroutines. Returns a function that says after each turn of a processor whether a subroutine has returned to another
+// address than was stored.
+function returnsOf({ n, entries }) {
+  const stored = new Map(), jumpOf = new Map(entries.map(([jump, cell]) => [cell + 1, jump]));
+  return (session) => {
+    session.back(1);
+    const { address, word, kind } = session.nextOrigins();
+    session.forward(1);
+    const now = Number(session.numbers(register(n, 0), 1)[0]), jump = jumpOf.get(now), wanted = stored.get(address);
+    if (kind === IN_BLOCK) return false;
+    if (word >> 6 === RJM && jump !== undefined && now !== address) stored.set(jump, (address + 2) % CELLS);
+    return stored.delete(address) && wanted !== now;
+  };
+}
+
+// An alternative is forms that the library judges, and perhaps what else must be so then. Several processors wait together if the latest turn of
+// each was a wait.
+function alternativesOf(tests) {
+  const returns = tests.filter((one) => one.entries), others = tests.filter(({ kind }) => kind !== undefined && kind !== WAITS);
+  const waits = tests.filter(({ kind }) => kind === WAITS).map(({ place }) => place), allWait = (session) => waits.every((n) => waiting(session).has(n));
+  if (returns.length) {
+    const [one] = returns, forms = [writesP(one.n)], isWrong = returnsOf(one);
+    return [{ forms, also: (session) => isWrong(session) && comesInLatest(session, [...forms, ...others]) && allWait(session) }];
+  }
+  if (waits.length < 2) return [{ forms: tests }];
+  return waits.map((n) => ({ forms: [{ kind: WAITS, place: n }, ...others], also: allWait }));
+}
+
+// A condition is one of several lists of tests, which hold together.
 export class Condition {
   constructor(lists) {
-    this.lists = lists.map((tests) => ({ tests, holds: false, isEvent: tests.some(({ isEvent }) => isEvent) }));
-    this.tests = lists.flat();
+    this.alternatives = lists.flatMap(alternativesOf);
+    this.forms = joined(this.alternatives.map(({ forms }) => forms));
+    this.isOfLibrary = this.alternatives.every(({ also }) => !also);
   }
 
-  // Begins with the numbers as they are after so many actions.
-  start(numbers, at) {
-    Object.assign(this, { numbers, at: at - 1 });
-    this.begin(NO_TURN);
-    this.end(NO_TURN);
-    this.first = this.last = null;
-  }
-
-  begin(n) {
-    this.at++;
-    for (const test of this.tests) test.begin?.(n, this.numbers);
-  }
-
-  tell(place) { for (const test of this.tests) test.tell?.(place); }
-
-  end(n) {
-    for (const list of this.lists) {
-      const before = list.holds;
-      list.holds = list.tests.map((test) => test.end(n, this.numbers)).every(Boolean);
-      if (!list.holds || (before && !list.isEvent)) continue;
-      this.first = this.first ?? this.at;
-      this.last = this.at;
+  // Makes turns of a session, at most so many, up to the first in which it comes to hold. Returns how many, and whether it does.
+  next(session, most) {
+    for (let count = 0; ;) {
+      const { turns, found } = session.until(this.forms, most - count);
+      count += turns;
+      const isFound = found && (this.isOfLibrary || this.isRight(session));
+      if (isFound || !found || count === most) return { count, isFound };
     }
   }
+
+  isRight(session) {
+    return this.alternatives.filter(({ forms, also }) => comesInLatest(session, forms) && (!also || also(session))).length > 0;
+  }
 }
+
+// The condition that one of some places changes.
+export const changes = (places) => new Condition(places.map((place) => [{ kind: CHANGES, place, first: 1 }]));
 
 // ---- their texts; labels has of each processor the addresses by their names, and its subroutines
 
-const PLACE = "(M \\S+ \\S+|[APQCH] \\S+)";
+const PLACE = "(M \\S+ \\S+|[APQCH] \\S+)", DO = "(changes|is written)";
+const kindOf = (word) => (/^c/i.test(word) ? CHANGES : WRITES);
 const FORMS = [
-  ["(PP \\S+) waits", ({ n }) => waitTest(n)], ["(PP \\S+) returns wrongly", returnTest],
-  ["(PP \\S+) (not )?in a block", ({ n }, not) => numberTest(register(n, 3), (phase) => (phase === 0) === Boolean(not))],
-  [`${PLACE} (=|!=|<|>|<=|>=) (\\S+)`, compareTest], [`${PLACE} (outside|inside) (\\S+) (\\S+)`, compareTest],
-  ["(M \\S+ \\S+) (\\S+) changes", cellsTest], [`${PLACE} changes`, ({ at }) => changeTest((place) => place === at)],
-  ["(H \\S+) changes state", (channel) => { const at = stateOfChannel(channel); return changeTest((place) => place === at); }],
-  ["(H \\S+) is (\\S+)", stateTest],
+  ["(PP \\S+) waits", ({ n }) => ({ kind: WAITS, place: n })], ["(PP \\S+) returns wrongly", returnTest],
+  ["(PP \\S+) performs (\\S+)", ({ n, number }, word) => ({ kind: PERFORMS, place: n, first: number(word) })],
+  ["(PP \\S+) (not )?in a block", ({ n }, not) => ({ kind: not ? INSIDE : OUTSIDE, place: register(n, 3) })],
+  [`${PLACE} (=|!=|<|>|<=|>=) (\\S+)`, compareTest], [`${PLACE} (outside|inside) (\\S+) (\\S+)`, rangeTest],
+  [`(M \\S+ \\S+) (\\S+) ${DO}`, cellsTest], [`${PLACE} ${DO}`, ({ at }, word) => ({ kind: kindOf(word), place: at, first: 1 })],
+  ["(H \\S+) changes state", (channel) => ({ kind: CHANGES, place: stateOfChannel(channel), first: 1 })], ["(H \\S+) is (\\S+)", stateTest],
 ].map(([form, make]) => [new RegExp(`^${form}$`, "i"), make]);
 
 // Conditions of which one must hold are joined by or. `forms` is the sentence about what a condition is.
 export function parseCondition(text, labels, forms) {
-  const testsOf = (list) => list.split(/\s+and\s+/i).map((part) => parseTest(part.replace(/\s+/g, " "), labels, forms));
-  return new Condition(text.trim().split(/\s+or\s+/i).map(testsOf));
+  return new Condition(text.trim().split(/\s+or\s+/i).map((list) => {
+    const tests = list.split(/\s+and\s+/i).map((part) => parseTest(part.replace(/\s+/g, " "), labels, forms));
+    if (tests.length > MOST_TESTS) throw new Error(`at most ${octal(MOST_TESTS)} tests are joined by and`);
+    return tests;
+  }));
 }
 
 function parseTest(text, labels, forms) {
@@ -116,19 +122,24 @@ function numberFor(kind, word, own, name) {
   if (typeof label !== "number" && !/^[0-7]+$/.test(word)) throw new Error(`${word} is no octal number${own ? " and no label" : ""}`);
   const number = typeof label === "number" ? BigInt(label) : BigInt(`0o${word}`);
   if (number >= 1n << BigInt(3 * digits)) throw new Error(`${word} is more than ${name} can be`);
-  return digits > 10 ? number : Number(number);
+  return number;
 }
 
-function compareTest({ at, number }, kind, ...words) {
-  const numbers = words.map(number), [first, last] = numbers;
+function compareTest({ at, number }, sign, word) {
+  const [kind, ...ends] = COMPARISONS[sign], [first, last] = ends.map((end) => end ?? number(word));
+  return { kind, place: at, first, last };
+}
+
+function rangeTest({ at, number }, kind, ...words) {
+  const [first, last] = words.map(number);
   if (first > last) throw new Error(`${octal(first)} is over ${octal(last)}`);
-  return numberTest(at, (now) => COMPARES[kind.toLowerCase()](now, ...numbers));
+  return { kind: /^i/i.test(kind) ? INSIDE : OUTSIDE, place: at, first, last };
 }
 
-function cellsTest({ at, name, number }, word) {
-  const last = number(word) - (at % CELLS);
-  if (last < 0) throw new Error(`${word} is before the first cell of ${name.toUpperCase()}`);
-  return changeTest((place) => place >= at && place <= at + last);
+function cellsTest({ at, name, number }, word, how) {
+  const count = Number(number(word)) - (at % CELLS) + 1;
+  if (count < 1) throw new Error(`${word} is before the first cell of ${name.toUpperCase()}`);
+  return { kind: kindOf(how), place: at, first: count };
 }
 
 function stateOfChannel({ n }) {
@@ -139,5 +150,11 @@ function stateOfChannel({ n }) {
 function stateTest(place, letter) {
   const state = ["I", "E", "F", "X"].indexOf(letter.toUpperCase());
   if (state < 0) throw new Error("a channel is I, E, F or X");
-  return numberTest(stateOfChannel(place), (now) => now === state);
+  return { kind: INSIDE, place: stateOfChannel(place), first: state, last: state };
+}
+
+// Labels have the jump back of a subroutine with the cell of its return address.
+function returnTest({ n, name, own }) {
+  if (!own || !own.entries.length) throw new Error(`${name} returns wrongly needs labels of a subroutine: NAMEX, and NAME at the cell after it`);
+  return { n, entries: own.entries };
 }

@@ -5,7 +5,7 @@ const REASONS = ["", "no room", "", "the session is closed", "the session is ope
 
 // The kinds of the forms of a condition.
 export const FORM = { INSIDE: 0, OUTSIDE: 1, CHANGES: 2, WRITES: 3, PERFORMS: 4, WAITS: 5, OR: 6 };
-const FORM_BYTES = 24, MADE_BYTES = 16, LINK_BYTES = 24, NOTHING = 2n ** 64n - 1n;
+const FORM_BYTES = 24, MADE_BYTES = 16, LINK_BYTES = 24;
 const MOST_LINKS = 33, MOST_CONTROL = 7; // of the next turn
 
 // A call failed. If an option or a file was rejected, the text is the program's line, and `exit` is the program's exit status.
@@ -81,6 +81,19 @@ class Rooms {
   results = (count) => [0, 2, 4, 6].slice(0, count).map((at) => this.view(Uint32Array, this.room("results", 32), 8)[at]);
 }
 
+// Returns turns that a call wrote, each with its links. The source of a link is undefined if a number is read nowhere.
+function turnsIn(made, links) {
+  let next = 0;
+  const link = () => {
+    const [place, , source, isNone, how] = links.subarray(next, next += LINK_BYTES / 4);
+    return { place, source: isNone ? undefined : source, operation: how & 0xff, field: (how >> 8) & 0xff, further: how >>> 16 };
+  };
+  return Array.from({ length: 2 * made.length / MADE_BYTES }, (_, turn) => {
+    const [processor, address, word, kind, count, own, low, high] = made.subarray(MADE_BYTES / 2 * turn);
+    return { processor, address, word, kind, links: Array.from({ length: count }, link), own, olds: low + 0x10000 * high };
+  });
+}
+
 // A session. Places and numbers of the machine are 64 bits wide too. Arrays are copies.
 export class LibrarySession extends Rooms {
   // The options are the program's; `central` is a count of words, and `deck` and `panel` are the bytes of their files.
@@ -149,43 +162,33 @@ export class LibrarySession extends Rooms {
     return { status, made: this.view(Uint32Array, made, 2 * turns).slice(), olds: this.view(BigUint64Array, olds, 2 * used).slice() };
   }
 
-  // Makes turns as `turns` does. Returns the status; for each turn its processor, the address and the word of its instruction, its kind, its
-  // links, of which the first `own` are its processor's, and how many old numbers it has; and these.
-  origins(most, room = 4096, linkRoom = 8 * room, oldRoom = 8 * room) {
+  // Makes turns as `turns` does. Returns the status, and what the library writes of them: of each turn eight numbers, of each link six, and the
+  // old numbers.
+  recorded(most, room = 4096, linkRoom = 8 * room, oldRoom = 8 * room) {
     const [turnsAtMost] = checked("origins", most), made = this.room("made", MADE_BYTES * room);
     const links = this.room("links", LINK_BYTES * linkRoom), olds = this.room("olds", 16 * oldRoom), rooms = [room, linkRoom, oldRoom].map(counted);
     const status = this.call("origins", turnsAtMost, made, rooms[0], links, rooms[1], olds, rooms[2], ...this.outs(3));
-    const [turns, , used] = this.results(3);
-    return { status, made: this.madeAt(made, links, turns), olds: this.view(BigUint64Array, olds, 2 * used).slice() };
+    const [turns, linked, used] = this.results(3);
+    return {
+      status, made: this.view(Uint16Array, made, MADE_BYTES / 2 * turns).slice(), links: this.view(Uint32Array, links, LINK_BYTES / 4 * linked).slice(),
+      olds: this.view(BigUint64Array, olds, 2 * used).slice(),
+    };
+  }
+
+  // Makes turns as `turns` does. Returns the status; for each turn its processor, the address and the word of its instruction, its kind, its
+  // links, of which the first `own` are its processor's, and how many old numbers it has; and these.
+  origins(...how) {
+    const { status, made, links, olds } = this.recorded(...how);
+    return { status, made: turnsIn(made, links), olds };
   }
 
   // Returns what the next turn is, with the links of its processor alone, and the control places. No turn is made.
   nextOrigins() {
     const made = this.room("made", MADE_BYTES), links = this.room("links", LINK_BYTES * MOST_LINKS), control = this.room("control", 8 * MOST_CONTROL);
-    const [count, controlCount] = this.outs(2);
-    this.call("next_origins", made, links, BigInt(MOST_LINKS), count, control, BigInt(MOST_CONTROL), controlCount);
-    return { ...this.madeAt(made, links, 1)[0], control: [...this.view(BigUint64Array, control, this.results(2)[1])].map(Number) };
-  }
-
-  // Returns turns that a call wrote, each with its links. The source of a link is undefined if a number is read nowhere.
-  madeAt(made, links, turns) {
-    const data = new DataView(this.calls.memory.buffer), word = (at) => data.getUint16(at, true), number = (at) => data.getBigUint64(at, true);
-    let next = Number(links);
-    const link = () => {
-      const at = next, source = number(at + 8);
-      next += LINK_BYTES;
-      return {
-        place: Number(number(at)), source: source === NOTHING ? undefined : Number(source),
-        operation: data.getUint8(at + 16), field: data.getUint8(at + 17), further: word(at + 18),
-      };
-    };
-    return Array.from({ length: turns }, (_, turn) => {
-      const at = Number(made) + MADE_BYTES * turn;
-      return {
-        processor: word(at), address: word(at + 2), word: word(at + 4), kind: word(at + 6), links: Array.from({ length: word(at + 8) }, link),
-        own: word(at + 10), olds: data.getUint32(at + 12, true),
-      };
-    });
+    const outs = this.outs(2);
+    this.call("next_origins", made, links, BigInt(MOST_LINKS), outs[0], control, BigInt(MOST_CONTROL), outs[1]);
+    const [linked, count] = this.results(2), words = this.view(Uint32Array, links, LINK_BYTES / 4 * linked);
+    return { ...turnsIn(this.view(Uint16Array, made, MADE_BYTES / 2), words)[0], control: [...this.view(BigUint64Array, control, count)].map(Number) };
   }
 
   // Puts a condition into the memory: forms, each with a kind of FORM and the place and the numbers that this kind names. Returns its address

@@ -1,79 +1,30 @@
-// ---- what the page gets of each action: a moment with the places that it changed, and what it wrote and from what
+// ---- a session with its numbers: what the page gets of each action is a moment with the places that it changed, and of a turn the links by
+// which its numbers come from others
 
-import { COLUMNS, layout } from "../machine/places.js";
-import { LINE, ROWS } from "../machine/moments.js";
-import { NO_TURN, placesOfSetting } from "../machine/lines.js";
-import { BY_DEVICE, numberOfInstruction, turning } from "../machine/turns.js";
+import { CELLS, HALF, PROCESSORS, isWord, layout, setLayout, upperOf } from "../machine/places.js";
+import { BLOCK, BUSY, IDLE, LINE, ROWS, WAITING } from "../machine/moments.js";
+import { placesOfSetting } from "../machine/lines.js";
+import { numberOfInstruction } from "../machine/turns.js";
+import { AFTER, packed } from "../machine/written.js";
+import { STATUS } from "./library.mjs";
 
-// Records the actions of a simulator, whose observer it is. What came since the last call of take() is one delivery.
+const MOST_RECORDED = 4096;
+const LINKS = 4, OWN = 5, OLDS = 6, MADE = 8, LINK = 6; // of what the library writes of a turn: which number is which, and how many there are
+const WAITED = 1, PASSED = 2; // kinds of turns
+const OLD = 4, LOW = 2, HIGH = 3; // an old number: its place and the number itself, each of 64 bits as two words
+const isRelative = (code) => code >= 3 && code < 8, isConditional = (code) => isRelative(code) || (code >= 0o64 && code < 0o70);
+
 export class Recorder {
-  constructor(simulator, about) {
-    Object.assign(this, { simulator, reader: about.reader, printer: about.printer, readerModes: about.modes.reader });
+  constructor(session, about) {
+    Object.assign(this, { session, twoWords: new Set(about.two_words), numbers: new Int32Array(setLayout(about.central)) });
     Object.assign(this, { count: 0, position: 0, turn: 0 }); // moments, and actions and turns in effect
+    // Of the places that the latest batch of turns overwrote: the numbers that the action before left, and the number of the batch.
+    Object.assign(this, { left: new Uint32Array(2 * layout.high), batch: new Uint32Array(layout.high), latest: 0 });
     this.beginDelivery();
-    this.endMoment(LINE, 0, 0, 0);
+    this.leap(LINE, 0, 0);
   }
 
   beginDelivery() { this.rows = Object.fromEntries(Object.keys(ROWS).map((name) => [name, []])); }
-
-  // ---- the observer
-
-  begin(n) {
-    if (n === NO_TURN) return;
-    const { numbers } = this.simulator;
-    this.one = turning.processor(numbers, n);
-    this.states = [numbers[layout.states + this.reader], numbers[layout.states + this.printer]];
-  }
-
-  tell(place, was, now) { this.push({ places: place, was, now }); }
-
-  end(n) {
-    this.position++;
-    if (n === NO_TURN) return this.endMoment(LINE, 0, 0, 0);
-    this.turn++;
-    const { numbers } = this.simulator, { one } = this, kind = turning.kindOf(one, numbers);
-    this.addWritesOfDevices(turning.writes(one, numbers, (...write) => this.addWrite(...write)));
-    return this.endMoment(kind, n, one.p, numberOfInstruction(one));
-  }
-
-  push(numbers) { for (const name of Object.keys(numbers)) this.rows[name].push(numbers[name]); }
-
-  addWrite(place, what, read) { this.rows.writes.push(place, what, read.length, ...read); }
-
-  endMoment(kinds, processor, p, turned) {
-    const { position, turn, rows } = this;
-    this.push({ kinds, position, turn, processor, p, turned, starts: rows.places.length, writeStarts: rows.writes.length });
-    this.count++;
-  }
-
-  // What the devices did after the processor, by the states of their channels; it made this state of its own, or none (null).
-  addWritesOfDevices(made) {
-    const { numbers } = this.simulator, { one } = this;
-    [this.reader, this.printer].forEach((c, at) => {
-      const before = this.states[at], now = numbers[layout.states + c], isOwn = one.d === c && turning.isOfChannel(one.code) && !one.waited;
-      const state = isOwn && made !== null ? made : before;
-      if (now === 2 && state !== 2) this.addWrite(layout.words + c, BY_DEVICE, c === this.reader ? this.columnRead() : []);
-      if (before !== now && !(isOwn && state === now)) this.addWrite(layout.states + c, BY_DEVICE, []);
-    });
-  }
-
-  // The column that the reader has put on its channel; none if that was its status.
-  columnRead() {
-    const [card, column, mode] = this.simulator.numbers.subarray(layout.reader, layout.reader + 3);
-    return this.readerModes[mode] === "READING" ? [layout.deck + COLUMNS * card + column - 1] : [];
-  }
-
-  // ---- other actions
-
-  // A line that is one action: what it writes, each place with the number of its word (of the panel at a dead start), or 0.
-  addWritesOfLine(words) { for (const [place, word] of placesOfSetting(words)) this.addWrite(place, word, []); }
-
-  // Notes a BACK or FORWARD, or turns that were not recorded, by all numbers, and how many actions and turns are then in effect.
-  leap(kind, position, turn) {
-    Object.assign(this, { position, turn });
-    this.simulator.readAll(this);
-    this.endMoment(kind, 0, 0, 0);
-  }
 
   // The rows of what has come since the last delivery.
   take() {
@@ -81,4 +32,134 @@ export class Recorder {
     this.beginDelivery();
     return rows;
   }
+
+  endMoment(kind, processor, p, turned) {
+    const { rows } = this;
+    rows.kinds.push(kind);
+    rows.position.push(this.position);
+    rows.turn.push(this.turn);
+    rows.processor.push(processor);
+    rows.p.push(p);
+    rows.turned.push(turned);
+    rows.starts.push(rows.places.length);
+    rows.linkStarts.push(rows.links.length);
+    this.count++;
+  }
+
+  // ---- turns
+
+  // Makes turns, at most `most`. Returns how many, and whether a watch ended them.
+  turns(most) {
+    const { status, made, links, olds } = this.session.recorded(Math.min(most, MOST_RECORDED), MOST_RECORDED);
+    const old = new Uint32Array(olds.buffer), now = this.newNumbers(made, old);
+    for (let at = 0, pair = 0, link = 0; at < made.length; at += MADE) {
+      const before = this.before(made[at]);
+      for (const end = pair + made[at + OLDS]; pair < end; pair++) this.put(old[OLD * pair], now[2 * pair], now[2 * pair + 1]);
+      this.endTurn(made.subarray(at, at + MADE), links.subarray(link, link += LINK * made[at + LINKS]), before);
+    }
+    return { count: made.length / MADE, isWatched: status === STATUS.WATCHED };
+  }
+
+  // The registers of a processor, and its word after P.
+  before(n) {
+    const { numbers } = this, p = numbers[layout.P + n];
+    return { p, a: numbers[layout.A + n], q: numbers[layout.Q + n], phase: numbers[layout.phase + n], second: numbers[n * CELLS + ((p + 1) % CELLS)] };
+  }
+
+  endTurn(made, links, before) {
+    const [n, , word, kind] = made, after = this.before(n), isTwo = this.twoWords.has(word >> 6);
+    const isUnmoved = after.p === before.p && after.a === before.a && after.q === before.q && after.phase === before.phase;
+    const isOfBlock = before.phase || after.phase, { p, phase, second } = before;
+    this.position++;
+    this.turn++;
+    this.addLinks(links, LINK * made[OWN], n, !phase && isConditional(word >> 6) ? { word, isNext: after.p === (p + (isTwo ? 2 : 1)) % CELLS } : null);
+    this.endMoment(kind === WAITED ? WAITING : isOfBlock ? BLOCK : isUnmoved || kind === PASSED ? IDLE : BUSY, n, p,
+      numberOfInstruction(word, phase, isTwo ? second : null));
+  }
+
+  // Adds the links of a turn, of which the first so many numbers are its processor's. Those of the clock and of the slot say nothing, and P
+  // is written by jumps and blocks alone.
+  addLinks(links, own, n, jump) {
+    for (let at = 0, rest = 0, isAdded = false; at < links.length; at += LINK) {
+      const place = links[at], how = links[at + 4], operation = how & 0xff, source = links[at + 3] ? -1 : links[at + 2], isOfDevice = at >= own;
+      if (!rest) isAdded = isOfDevice ? place >= layout.states && place < layout.clock : place !== layout.P + n ? place < layout.phase || place >= layout.words
+        : !goesOn(jump, operation, source === place);
+      rest = how >>> 16;
+      if (isAdded) this.rows.links.push(packed(place, operation, (how >> 8) & 0xff, isOfDevice, rest), source);
+    }
+  }
+
+  // The number that its action left at each place of these old numbers, as two words: the old number of the next action that overwrote it,
+  // or the number that is there now. If an action names a place twice, the first old number is the one that was there.
+  newNumbers(made, old) {
+    const now = new Uint32Array(old.length / 2), { left } = this, latest = ++this.latest;
+    for (let at = made.length - MADE, end = now.length / 2; at >= 0; at -= MADE) {
+      const first = end - made[at + OLDS];
+      for (let pair = first; pair < end; pair++) {
+        const place = old[OLD * pair];
+        if (this.batch[place] !== latest) left.set(this.words(place, 1), 2 * place);
+        this.batch[place] = latest;
+        now[2 * pair] = left[2 * place];
+        now[2 * pair + 1] = left[2 * place + 1];
+      }
+      for (let pair = end - 1; pair >= first; pair--) {
+        const place = old[OLD * pair];
+        left[2 * place] = old[OLD * pair + LOW];
+        left[2 * place + 1] = old[OLD * pair + HIGH];
+      }
+      end = first;
+    }
+    return now;
+  }
+
+  // ---- other actions
+
+  // A line that was performed and is an action: besides what it writes only registers, channels, devices or watches change.
+  addLine(words) {
+    for (const [place] of placesOfSetting(words)) if (place < layout.A || place >= layout.central) this.read(place, 1);
+    this.read(layout.A, layout.paper - layout.A);
+    this.read(layout.slot, layout.central - layout.slot);
+    this.position++;
+    this.endMoment(LINE, 0, 0, 0);
+  }
+
+  // Notes a BACK or FORWARD, or turns that were not recorded, by all numbers, and how many actions and turns are then in effect.
+  leap(kind, position, turn) {
+    Object.assign(this, { position, turn });
+    this.read(0, layout.high);
+    this.endMoment(kind, 0, 0, 0);
+  }
+
+  // ---- numbers
+
+  // The numbers at places in a row, each as two words.
+  words(first, count) { return new Uint32Array(this.session.numbers(first, count).buffer); }
+
+  read(first, count) {
+    const words = this.words(first, count);
+    for (let at = 0; at < count; at++) this.put(first + at, words[2 * at], words[2 * at + 1]);
+  }
+
+  // Puts a number, which comes as two words of 32 bits.
+  put(place, low, high) {
+    if (!isWord(place)) return this.note(place, low);
+    this.note(place, low & 0x3fffffff);
+    return this.note(upperOf(place), high * 4 + (low >>> HALF));
+  }
+
+  note(place, number) {
+    const { numbers, rows } = this, was = numbers[place];
+    if (was === number) return;
+    numbers[place] = number;
+    rows.places.push(place);
+    rows.was.push(was);
+    rows.now.push(number);
+  }
+}
+
+// Whether P goes on to the next instruction, also by a jump there, or to the next cell of a block; or stops, by a relative jump by no cells.
+function goesOn(jump, operation, isOfItself) {
+  if (!jump) return isOfItself && operation >= AFTER.one && operation <= AFTER.five;
+  const { word, isNext } = jump, d = word & 0o77;
+  return isNext || (isRelative(word >> 6) && (d === 0 || d === 0o77));
 }

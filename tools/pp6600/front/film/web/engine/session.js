@@ -1,60 +1,27 @@
-// ---- a session: its lines, its tape, and a simulator at a position on it
+// ---- a session: its lines, its tape, and the simulator at a position on it
 
 import { layout, octal, two, watchesIn } from "../machine/places.js";
-import { JUMP, SKIP, firstNot } from "../machine/moments.js";
+import { JUMP, SKIP } from "../machine/moments.js";
 import { LONGEST_ANSWER, MOST_TURNS, wordsIn } from "../machine/lines.js";
-import { turning } from "../machine/turns.js";
-import { Simulator } from "./simulator.js";
 import { Recorder } from "./recorder.js";
-import { changeTest, Condition } from "./conditions.js";
+import { changes } from "./conditions.js";
+import { Searcher, ask, stepped } from "./tape.js";
 
 const MOST_MOMENTS = 1 << 20, FULL = 5 << 18, AFTER_LONG = 0o10000;
 const MOVES = { BACK: -1, FORWARD: 1 };
 export const moveBy = (distance) => `${distance < 0 ? "BACK" : "FORWARD"} ${octal(Math.abs(distance))}`;
 
-// The actions of a session: those in effect, and behind them those that were taken back.
-class Tape {
-  length = 0;
-  lines = []; // each action that is no turn: its text, and how many actions there are up to its end
-
-  add(count, text = null) {
-    this.length += count;
-    if (text !== null) this.lines.push({ text, end: this.length });
-  }
-
-  // Forgets all after so many actions.
-  cut(position) {
-    this.length = position;
-    this.lines.length = this.countUpTo(position);
-  }
-
-  countUpTo(position) { return firstNot(this.lines.length, (at) => this.lines[at].end <= position); }
-  turnsAt(position) { return position - this.countUpTo(position); }
-
-  // The parts between two positions, each a text, or a count of turns with null.
-  *between(from, to) {
-    let position = from;
-    for (const { text, end } of this.lines.slice(this.countUpTo(from), this.countUpTo(to))) {
-      if (end - 1 > position) yield { text: null, count: end - 1 - position };
-      yield { text, count: 1 };
-      position = end;
-    }
-    if (to > position) yield { text: null, count: to - position };
-  }
-}
-
-export class Session {
-  // `control` has pause(), which lets messages come, and isStopped(). `wanted` are first and last positions that a long STEP records too.
+export class Session extends Searcher {
+  // `wanted` are first and last positions that a long STEP records too.
   constructor(calls, about, control, wanted = []) {
-    Object.assign(this, { calls, about, control, wanted });
-    turning.open(about);
-    this.simulator = new Simulator(calls, about);
-    this.recorder = new Recorder(this.simulator, about);
-    this.tape = new Tape();
+    super(calls, about, control);
+    this.wanted = wanted;
+    this.recorder = new Recorder(this.opened(), about);
     this.lines = []; // those that have come since the last delivery, with their answers and moments
   }
 
-  close() { this.simulator.session.close(); }
+  get simulator() { return this.recorder.session; }
+  close() { this.simulator.close(); }
   get position() { return this.recorder.position; }
   get isFull() { return this.recorder.count >= FULL; }
   checkRoom() { if (this.isFull) throw new Error(`the film is full, it has ${octal(FULL)} moments: save the script`); }
@@ -72,7 +39,7 @@ export class Session {
   }
 
   async performOther(text, words) {
-    const count = countOf(words), answer = this.simulator.ask(text), [kind, moved] = (answer[0] || "").split(" ");
+    const count = countOf(words), answer = ask(this.simulator, text), [kind, moved] = (answer[0] || "").split(" ");
     if (kind === "OK") this.settle(text, words);
     if (kind in MOVES) this.moved(this.position + MOVES[kind] * parseInt(moved, 8));
     if (/^ERR (07|16)/.test(answer[0]) && count && words[0] in MOVES) return this.goAnew(this.position + MOVES[words[0]] * count, answer);
@@ -84,8 +51,7 @@ export class Session {
   settle(text, words) {
     this.tape.cut(this.position);
     this.tape.add(1, text);
-    this.recorder.addWritesOfLine(words);
-    this.simulator.readAfter(words, this.recorder);
+    this.recorder.addLine(words);
   }
 
   // ---- turns
@@ -93,7 +59,7 @@ export class Session {
   // Makes turns, and records them, if the session does not become too long. If a watch has ended them, the last one is made once more, for
   // the simulator's answer.
   async step(turns) {
-    const first = this.position, { session } = this.simulator;
+    const first = this.position;
     this.tape.cut(first);
     let isHit = false;
     for (const { count, isRecorded } of this.partsOf(turns)) {
@@ -102,11 +68,13 @@ export class Session {
     }
     const made = this.position - first;
     if (!made) return ["TURNS 0", "stopped"];
-    const turnsLine = `TURNS ${octal(made)} SLOT ${two(this.simulator.numbers[layout.slot])}`;
+    const turnsLine = `TURNS ${octal(made)} SLOT ${this.slot()}`;
     if (!isHit) return [turnsLine, ...(made < turns ? ["stopped"] : [])];
-    session.back(1);
-    return [turnsLine, ...this.simulator.ask("STEP 1").slice(1)];
+    this.simulator.back(1);
+    return [turnsLine, ...ask(this.simulator, "STEP 1").slice(1)];
   }
+
+  slot() { return two(this.recorder.numbers[layout.slot]); }
 
   // How so many turns are recorded: all, or if the session would become too long the last ones and those that are wanted.
   partsOf(turns) {
@@ -120,7 +88,7 @@ export class Session {
 
   // Returns whether a watch ended the turns.
   async recordTurns(count) {
-    for await (const { count: made, isWatched } of this.batches(this.simulator, count, this.recorder, this)) {
+    for await (const { count: made, isWatched } of this.batches(count, (left) => this.recorder.turns(left), this)) {
       this.tape.add(made);
       if (isWatched || this.control.isStopped()) return isWatched;
     }
@@ -129,28 +97,17 @@ export class Session {
 
   // Makes turns that are not recorded; but if a watch ends them, or a hand, the last ones are.
   async skipTurns(count) {
-    const { session } = this.simulator;
     let made = 0, isWatched = false;
-    for await (const batch of this.batches(this.simulator, count, null, this)) {
+    for await (const batch of this.batches(count, (left) => stepped(this.simulator, left), this)) {
       made += batch.count;
       isWatched = batch.isWatched;
       if (isWatched || this.control.isStopped()) break;
     }
-    const recorded = made < count || isWatched ? Math.min(made, AFTER_LONG, session.counts().kept) : 0, skipped = made - recorded;
-    session.back(recorded);
+    const recorded = made < count || isWatched ? Math.min(made, AFTER_LONG, this.simulator.counts().kept) : 0, skipped = made - recorded;
+    this.simulator.back(recorded);
     this.tape.add(skipped);
     this.recorder.leap(SKIP, this.position + skipped, this.recorder.turn + skipped);
     return (await this.recordTurns(recorded)) || isWatched;
-  }
-
-  // Makes turns in a simulator, a batch after the other, and lets messages come between them. Without an observer nobody is told of them.
-  async *batches(simulator, count, observer, news = null) {
-    for (let left = count; left > 0;) {
-      const batch = simulator.turns(left, observer);
-      left -= batch.count;
-      yield batch;
-      await this.control.pause(news);
-    }
   }
 
   // ---- back and forward, over all actions
@@ -158,51 +115,22 @@ export class Session {
   // Beyond what the simulator keeps: performs the tape anew up to a position, if it has it. The answer has a second line that says so.
   async goAnew(position, answer) {
     if (position < 0 || position > this.tape.length) return answer;
-    const distance = position - this.position, { session } = await this.simulatorAt(position);
+    const distance = position - this.position, session = await this.sessionAt(position);
     this.close();
-    this.simulator.session = session;
+    this.recorder.session = session;
     this.moved(position);
-    const slot = two(this.simulator.numbers[layout.slot]);
-    return [`${moveBy(distance)} SLOT ${slot}`, "replayed"];
+    return [`${moveBy(distance)} SLOT ${this.slot()}`, "replayed"];
   }
 
   // Beyond what the simulator keeps: the latest change of what is watched now.
   async backToChange(answer) {
-    const watched = watchesIn(this.simulator.numbers);
-    if (!watched.length || this.position <= this.simulator.session.counts().kept) return answer;
-    const condition = new Condition([[changeTest((place) => watched.includes(place))]]);
-    const { last } = await this.search(condition, 0, this.tape.between(0, this.position));
+    const watched = watchesIn(this.recorder.numbers);
+    if (!watched.length || this.position <= this.simulator.counts().kept) return answer;
+    const last = await this.lastOf(changes(watched), this.position);
     return last === null ? answer : this.goAnew(last - 1, answer);
   }
 
   moved(position) { this.recorder.leap(JUMP, position, this.tape.turnsAt(position)); }
-
-  // ---- simulators of their own over the same tape
-
-  async simulatorAt(position) {
-    const simulator = new Simulator(this.calls, this.about);
-    await this.replay(simulator, this.tape.between(0, position), null, () => false);
-    simulator.readAll({ tell() {} });
-    return simulator;
-  }
-
-  // Performs parts of a tape in a simulator, up to where it is enough.
-  async replay(simulator, parts, observer, isEnough) {
-    for (const { text, count } of parts) {
-      if (text !== null) simulator.ask(text);
-      if (text !== null && observer) simulator.readAfter(wordsIn(text), observer);
-      for await (const batch of this.batches(simulator, text === null ? count : 0, observer)) if (isEnough(batch)) return;
-    }
-  }
-
-  // Returns a condition that has observed parts of a tape from a position on, up to where it is enough.
-  async search(condition, from, parts, isEnough = () => false) {
-    const scout = await this.simulatorAt(from);
-    condition.start(scout.numbers, from);
-    await this.replay(scout, parts, condition, () => isEnough() || this.control.isStopped());
-    scout.session.close();
-    return condition;
-  }
 
   // What has come since the last delivery.
   take() { return { rows: this.recorder.take(), lines: this.lines.splice(0) }; }

@@ -6,6 +6,7 @@ import { STOP, message, wordsOf } from "./protocol.js";
 import { LibrarySession, openLibrary } from "./library.mjs";
 import { parseCondition } from "./conditions.js";
 import { Session, moveBy } from "./session.js";
+import { Searcher, Tape } from "./tape.js";
 
 const AT_ONCE = 50; // milliseconds between two deliveries, and after which messages are looked for
 const MOST_SECONDS = 20, MOST_SEARCHED = 10; // seconds of a script that is opened, and of a search
@@ -74,13 +75,12 @@ const SERVICES = {
 
   // The first time after so many actions at which a condition comes to hold among actions that the film has; or the last time before.
   async find({ given, parts, from, text, isBack, labels }) {
-    const condition = parseCondition(text, labels, at.about.condition), scout = new Session(at.calls, withFiles(given), control), { tape } = scout;
+    const condition = parseCondition(text, labels, at.about.condition), tape = new Tape();
     for (const part of parts) tape.add(typeof part === "number" ? part : 1, typeof part === "number" ? null : part);
-    const [begin, end] = isBack ? [0, Math.max(from - 1, 0)] : [from, tape.length];
+    const searcher = new Searcher(at.calls, withFiles(given), control, tape);
     at.until = performance.now() + 1000 * MOST_SEARCHED;
-    await scout.search(condition, begin, tape.between(begin, end), () => !isBack && condition.first !== null);
-    scout.close();
-    return { found: isBack ? condition.last : condition.first };
+    if (isBack) return { found: await searcher.lastOf(condition, from) };
+    return { found: (await searcher.firstOf(condition, from, tape.between(from, tape.length))).found };
   },
 };
 
@@ -116,13 +116,12 @@ async function performLine(session, line) {
 
 // Goes on to where a condition comes to hold the first time, or back to the last time.
 async function search(session, condition, isBack) {
-  const begin = session.position, parts = isBack ? session.tape.between(0, Math.max(begin - 1, 0)) : [{ text: null, count: Infinity }];
+  const begin = session.position;
   at.until = performance.now() + 1000 * MOST_SEARCHED;
-  await session.search(condition, isBack ? 0 : begin, parts, () => !isBack && condition.first !== null);
-  const found = isBack ? condition.last : condition.first;
+  const { found, at: end } = isBack ? { found: await session.lastOf(condition, begin) }
+    : await session.firstOf(condition, begin, [{ text: null, count: Infinity }]);
   if (isBack && control.isStopped()) return { said: "stopped: the search took too long", isWrong: true };
-  const vain = isBack ? "not before this" : `not among the next ${octal(condition.at - begin)} turns`;
-  if (found === null) return { said: vain, isWrong: true };
+  if (found === null) return { said: isBack ? "not before this" : `not among the next ${octal(end - begin)} turns`, isWrong: true };
   at.until = Infinity;
   if (isBack) await session.perform(moveBy(found - begin));
   while (session.position < found && !control.isStopped()) await session.perform(stepsOf(found - session.position)[0]);

@@ -4,7 +4,8 @@
 import { CELLS, CHANNELS, CLOCK, KINDS, PROCESSORS, layout, nameOf, octal, placeAt, placeIn, placeOf, range, setLayout,
   watchesIn } from "./places.js";
 import { BLOCK, BUSY, IDLE, JUMP, LINE, ROWS, SKIP, WAITING, firstNot } from "./moments.js";
-import { BY_DEVICE, PART, instructionOf, isOfBlock, turning } from "./turns.js";
+import { instructionOf, isOfBlock, turning } from "./turns.js";
+import { writesIn } from "./written.js";
 
 export const NOT_RECORDED = -1; // in the place of a moment: it may lie in turns that were not recorded
 const MOST_CHANGES = 40; // of a moment that are named
@@ -124,8 +125,8 @@ export class Film {
   }
 
   // The nearest moment in a direction for which something holds; -1 if there is none.
-  nearest(direction, holds) {
-    let at = this.at + direction;
+  nearest(direction, holds, from = this.at) {
+    let at = from + direction;
     while (at > 0 && at < this.count && !holds(at)) at += direction;
     return at > 0 && at < this.count ? at : -1;
   }
@@ -148,6 +149,16 @@ export class Film {
 
   // The moment that a BACK or FORWARD leads to, else the moment itself.
   resolve(moment) { while (moment > 0 && this.kinds[moment] === JUMP) moment = this.jumps.get(moment); return moment; }
+
+  // The stretches of moments that are not in effect at the end, as a BACK has taken them back: each its first moment, and the last BACK or FORWARD.
+  takenBack() {
+    const jumps = [...this.jumps.keys()], found = [];
+    for (let jump = lastUpTo(jumps, this.last), to; jump; jump = lastUpTo(jumps, to)) {
+      to = this.resolve(jump);
+      if (to >= 0 && to < jump - 1) found.push([to + 1, jump]);
+    }
+    return found;
+  }
 
   // The latest change in effect at a moment, of those at these moments; 0 if there is none.
   changeBefore(changes, moment) {
@@ -222,25 +233,17 @@ export class Film {
     return this.numbers[place];
   }
 
-  // The writes of a moment: each its number, a place, what it was, and the sources: each a place, and of a word its parts as bits, 0 for all.
-  writesOf(moment) {
-    const { writes, writeStarts } = this, found = [];
-    for (let at = writeStarts[moment], end; at < writeStarts[moment + 1]; at = end) {
-      end = at + 3 + writes[at + 2];
-      const sources = [...writes.subarray(at + 3, end)].map((one) => ({ place: one % PART, parts: Math.floor(one / PART) }));
-      found.push({ at, place: writes[at], what: writes[at + 1], sources });
-    }
-    return found;
-  }
+  // What a turn wrote, and from what; nothing of another moment.
+  writesOf(moment) { return writesIn(this.links, this.linkStarts[moment], this.linkStarts[moment + 1]); }
 
-  changedByDevice(moment, place) { return this.writesOf(moment).some((one) => one.place === place && one.what & BY_DEVICE); }
+  changedByDevice(moment, place) { return this.writesOf(moment).some((one) => one.place === place && one.isOfDevice); }
 
   // The word that a turn moved over a channel, or null.
   wordMoved(moment) {
     const isRegister = (place) => place >= layout.words && place <= layout.clock;
-    for (const { place, what, sources } of this.isTurn(moment) ? this.writesOf(moment) : []) {
+    for (const { place, isOfDevice, sources } of this.writesOf(moment)) {
       const from = sources.length ? sources[0].place : -1, isOutput = isRegister(place);
-      if (what & BY_DEVICE || !(isOutput || isRegister(from))) continue;
+      if (isOfDevice || !(isOutput || isRegister(from))) continue;
       return { channel: (isOutput ? place : from) - layout.words, isOutput, word: this.numberIn(moment, place, this.now) };
     }
     return null;

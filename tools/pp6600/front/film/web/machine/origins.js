@@ -1,8 +1,9 @@
 // ---- where a number came from: the steps by which it came to be in its place, from the writes of the moments of a film
 
-import { COLUMNS, four, isWord, layout, nameOf, octal, range, two } from "./places.js";
+import { four, isWord, layout, nameOf, octal, range, two } from "./places.js";
 import { LINE, SKIP } from "./moments.js";
-import { AT_END, BY_DEVICE, CONSTANTS, CONSTANT_FROM, MOVED } from "./turns.js";
+import { placesOfSetting, wordsIn } from "./lines.js";
+import { placeIn } from "./written.js";
 import { NOT_RECORDED } from "./film.js";
 import { lineText, turnText, whenText } from "./words.js";
 
@@ -12,37 +13,45 @@ export const hasOrigin = (place) => place !== null && HAVE_AN_ORIGIN.includes(pl
 
 // ---- steps
 
-// The latest write of a place in effect at a moment (null of the clock), and its moment: 0 if none, -1 if it may be in skipped turns.
+// The latest write of a place in effect at a moment, and its moment: 0 if none, -1 if it may be in skipped turns. That of a line is the number of
+// its word, and that of the clock is null.
 function lastWrite(film, place, moment) {
-  const { writeStarts, writes, places, starts } = film;
   let at = film.resolve(moment);
   for (; at > 0; at = film.resolve(at - 1)) {
-    const hasIt = writes.subarray(writeStarts[at], writeStarts[at + 1]).includes(place); // or reads it
-    const write = hasIt && film.writesOf(at).findLast((one) => one.place === place);
     if (film.kinds[at] === SKIP) return { moment: NOT_RECORDED, write: null };
-    if (write) return { moment: at, write };
-    if (place !== layout.clock || !film.isTurn(at)) continue;
-    if (places.subarray(starts[at], starts[at + 1]).includes(place)) return { moment: at, write: null };
+    const write = writeIn(film, place, at);
+    if (write !== undefined) return { moment: at, write };
   }
   return { moment: at, write: null };
 }
 
+// The write of a place in a moment; undefined if there is none.
+function writeIn(film, place, at) {
+  const { kinds, links, linkStarts, places, starts } = film;
+  if (kinds[at] === LINE) return placesOfSetting(wordsIn(lineText(film, at))).findLast(([one]) => one === place)?.[1];
+  if (place === layout.clock) return places.subarray(starts[at], starts[at + 1]).includes(place) ? null : undefined;
+  for (let link = linkStarts[at]; link < linkStarts[at + 1]; link += 2) {
+    if (placeIn(links[link]) === place) return film.writesOf(at).findLast((one) => one.place === place);
+  }
+  return undefined;
+}
+
 // The sources of a write, of which some parts are wanted.
-function sourcesOf({ place, what, sources }, wanted) {
-  if (!wanted || !(what & MOVED) || !isWord(place)) return sources;
+function sourcesOf({ place, isMoved, sources }, wanted) {
+  if (!wanted || !isMoved || !isWord(place)) return sources;
   if (sources.length > 1) return sources.filter((_, at) => wanted & (1 << at));
   return sources.map((one) => ({ ...one, parts: one.parts ? one.parts & wanted : wanted })).filter(({ parts }) => parts);
 }
 
 const isOfP = (place) => place >= layout.P && place < layout.Q;
 const isTurnStep = (film, { moment, write }) => moment > 0 && film.isTurn(moment) && write !== null;
-export const isOfDevice = (film, step) => isTurnStep(film, step) && (step.write.what & BY_DEVICE) !== 0;
+export const isOfDevice = (film, step) => isTurnStep(film, step) && step.write.isOfDevice;
 
 // The write before it, if by the same instruction (in a block, of the same one), which computes the place from itself alone; or null.
 function isAgain(film, { moment, write }) {
-  const isComputed = (step) => isTurnStep(film, step) && !(step.write.what & (MOVED | BY_DEVICE));
+  const isComputed = (step) => isTurnStep(film, step) && !step.write.isMoved && !step.write.isOfDevice;
   const isOfItself = write && write.sources.length === 1 && write.sources[0].place === write.place;
-  if (!isOfItself || !isComputed({ moment, write }) || write.what >> CONSTANT_FROM) return null;
+  if (!isOfItself || !isComputed({ moment, write }) || write.constant) return null;
   const before = lastWrite(film, write.place, moment - 1), { processor, turned, p } = film;
   if (!isComputed(before) || processor[before.moment] !== processor[moment] || turned[before.moment] !== turned[moment]) return null;
   const hasBegun = () => film.changeBefore(film.phases[processor[moment]], moment - 1) > before.moment; // or ended a block transfer since
@@ -52,7 +61,7 @@ function isAgain(film, { moment, write }) {
 // The step that wrote a place, with the steps of its sources, the latest first, up to so many.
 function originOf(film, place, moment) {
   const known = new Map(), root = { place, parts: 0, ...lastWrite(film, place, moment) }, open = [root];
-  const numberOfWrite = ({ write }) => (write ? write.at : -1);
+  const numberOfWrite = ({ write }) => write?.at ?? -1;
   for (let count = 0; open.length && count < MOST_STEPS;) {
     open.sort((one, other) => one.moment - other.moment || numberOfWrite(one) - numberOfWrite(other));
     const link = open.pop(), key = `${link.place} ${link.moment} ${link.parts}`;
@@ -79,9 +88,9 @@ function follow(film, step) {
 }
 
 // The card and the column that the reader put on its channel in a turn, or null.
-function columnOf(film, step) {
-  const [source] = isOfDevice(film, step) ? step.write.sources : [], at = source && source.place - layout.deck;
-  return source ? { card: Math.floor(at / COLUMNS), column: at % COLUMNS } : null;
+export function columnOf(film, step) {
+  const read = () => ({ card: film.number("CARD"), column: film.number("CARD-COLUMN") });
+  return isOfDevice(film, step) && step.write.isPunched ? film.atMoment(step.moment - 1, read) : null;
 }
 
 // ---- in words
@@ -92,11 +101,10 @@ function sourceText({ place, parts }) {
 }
 
 // The constant of a write, in words; or "".
-export function constantText(film, moment, { what }) {
-  const { word, second } = film.turnOf(moment), name = CONSTANTS[what >> CONSTANT_FROM], d = two(word & 0o77);
-  const texts = { d, m: second, dm: d + second };
-  if (name in texts) return `the constant ${texts[name]}`;
-  return { return: "the return address", "no word": "zero, past the last central word" }[name] || name;
+export function constantText(film, moment, { constant }) {
+  const { word, second } = film.turnOf(moment), d = two(word & 0o77), texts = { d, m: second, dm: d + second };
+  if (constant in texts) return `the constant ${texts[constant]}`;
+  return { return: "the return address", "no word": "zero, past the last central word" }[constant] || constant;
 }
 
 // What wrote a step's number, in words.
@@ -104,14 +112,14 @@ function causeText(film, sources, step) {
   const { moment, write } = step, when = whenText(film, Math.max(0, moment));
   if (moment < 0) return "written in turns that were not recorded, or never";
   if (moment === 0) return isOfP(step.place) && film.numbers[step.place] ? "never written, it only went on" : "never written";
-  if (film.kinds[moment] === LINE) return `${when}, ${lineCause(film, moment, write.what)}`;
+  if (film.kinds[moment] === LINE) return `${when}, ${lineCause(film, moment, write)}`;
   if (!write) return `${when}, the clock`;
   const column = columnOf(film, step);
   if (column) return `${when}, the card reader, card ${four(column.card)} column ${octal(column.column, 3)}`;
   if (isOfDevice(film, step)) return `${when}, the status of the ${film.about.devices[step.place - layout.words]}`;
   const times = step.times > 1 ? `, ${octal(step.times)} times since ${whenText(film, step.earliest)}` : "";
-  const names = [...step.links.map(sourceText), constantText(film, moment, write)].filter(Boolean).join(" and ") || "zero";
-  const verb = write.what & AT_END ? "at its end, of " : !(write.what & MOVED) ? "of " : step.links.length ? "from " : "";
+  const names = [...step.links.map(sourceText), constantText(film, moment, write)].filter(Boolean).join(" and ");
+  const verb = write.endsBlock ? "at its end, of " : !write.isMoved ? "of " : step.links.length ? "from " : "";
   return `${when}, ${turnText(film, sources, moment)}${times}, ${verb}${names}`;
 }
 

@@ -4,7 +4,7 @@ export const PROCESSORS = 10, CHANNELS = 12, CLOCK = 12, CELLS = 4096, FRAME_WOR
 export const CENTRAL_ADDRESSES = 0o1000000, HALF = 30; // a number of 60 bits is kept in halves
 
 // The first place of each part; the clock is the last of the words. Behind the library's places come the upper halves of the numbers of 60
-// bits; and the columns of the deck, which have no number but are where one came from.
+// bits.
 export const layout = {
   cells: 0, A: 40960, P: 40970, Q: 40980, phase: 40990, states: 41000, words: 41012, clock: 41024, frame: 41025, reader: 41041,
   printer: 41044, paper: 41047, slot: 106583, watches: 106584, central: 106592,
@@ -12,11 +12,11 @@ export const layout = {
 
 // Sets the parts that depend on the size of central memory. Returns how many numbers the row has.
 export function setLayout(size) {
-  const high = layout.central + size, deck = high + FRAME_WORDS + size;
-  Object.assign(layout, { size, high, deck });
+  const high = layout.central + size, end = high + FRAME_WORDS + size;
+  Object.assign(layout, { size, high, end });
   KINDS.C.sizes = [size];
   placesKnown.clear();
-  return deck;
+  return end;
 }
 
 export const REGISTERS = [layout.P, layout.A, layout.Q, layout.phase];
@@ -24,7 +24,7 @@ export const register = (processor, index) => REGISTERS[index] + processor; // P
 
 const isFrame = (place) => place >= layout.frame && place < layout.reader;
 export const isWord = (place) => isFrame(place) || (place >= layout.central && place < layout.high); // whether its number has 60 bits
-export const isUpper = (place) => place >= layout.high && place < layout.deck;
+export const isUpper = (place) => place >= layout.high && place < layout.end;
 export const upperOf = (place) => layout.high + (isFrame(place) ? place - layout.frame : FRAME_WORDS + place - layout.central);
 export const wordOfUpper = (place) => (place - layout.high < FRAME_WORDS ? layout.frame + place - layout.high
   : place - FRAME_WORDS - layout.size);

@@ -18,25 +18,29 @@ function rowOfWords(text) {
   return { number, location: location % CELLS, origin: origin % CELLS, words };
 }
 
-// A message with its line and column. The library counts bytes, and the page letters.
+// A message with its line and column, and in a text that comes before the source with its name. The library counts bytes, and the page letters.
 function messageOf(message, isFault, lines) {
-  const [, line, column, text] = /^(\d+):(\d+): (.*)$/s.exec(message), bytes = new TextEncoder().encode(lines[line - 1] ?? "");
-  return { line: Number(line), column: new TextDecoder().decode(bytes.subarray(0, column - 1)).length + 1, text, isFault };
+  const [, at, column, text] = /^(\d+):(\d+): (.*)$/s.exec(message), { name = "", line, text: own = "" } = lines[at - 1] ?? lines.at(-1);
+  return { name, line, column: new TextDecoder().decode(new TextEncoder().encode(own).subarray(0, column - 1)).length + 1, text, isFault };
 }
+
+// The lines of a text with their numbers, and its name.
+const numbered = (text, name = "") => linesOf(text).map((line, at) => ({ text: line, line: at + 1, name }));
 
 export class Assembling {
   // The texts of a system and of common decks come before what is assembled: their names and macros are there, their lines are not counted.
-  constructor(calls) { Object.assign(this, { assembler: new Assembler(calls), texts: new Map() }); }
+  constructor(calls, texts = []) { Object.assign(this, { assembler: new Assembler(calls), texts: new Map(texts) }); }
 
-  before() { return ofLines([...this.texts.values()].flatMap(linesOf).filter((line) => !/^\s+(IDENT|END)\b/.test(line))); }
+  linesBefore() { return [...this.texts].flatMap(([name, text]) => numbered(text, name)).filter(({ text }) => !/^\s+(IDENT|END)\b/.test(text)); }
+  before() { return ofLines(this.linesBefore().map(({ text }) => text)); }
 
   written(text, form) { return this.assembler.written("assemble", this.before() + text, form); }
 
   // Returns the messages of a source, and the rows with words if nothing is wrong.
   assembled(text) {
-    const before = this.before(), all = linesOf(before + text), shift = before.split("\n").length - 1;
+    const before = this.linesBefore(), shift = before.length, all = [...before, ...numbered(text)];
     const { lines: complaints, faults } = this.written(text, WRITTEN.COMPLAINTS);
-    const messages = complaints.map((line, at) => messageOf(line, at < faults, all)).map((one) => ({ ...one, line: one.line - shift }));
+    const messages = complaints.map((line, at) => messageOf(line, at < faults, all));
     const rows = faults ? [] : this.written(text, WRITTEN.LINES).lines.map(rowOfWords).map((row) => ({ ...row, number: row.number - shift }));
     return { messages, rows: rows.filter(({ number }) => number > 0), listing: faults ? "" : this.written(text, WRITTEN.LISTING).lines.join("\n") };
   }

@@ -37,9 +37,14 @@ export class Editor extends Part {
   }
 
   // The texts of a system, and common decks: their names and macros are known to what is assembled.
-  addText(name, text) { this.assembling.texts.set(name, text); this.again(); }
-  dropTexts() { this.assembling.texts.clear(); this.again(); }
-  again() { const { editor } = this.state; this.update({ editor: { ...editor, ...this.assembled(editor.text) } }); }
+  // Without a text the one with this name goes.
+  setText(name, text = null) {
+    const { texts } = this.assembling, { editor } = this.state;
+    if (text === null) texts.delete(name);
+    else texts.set(name, text);
+    if (!keep("texts", [...texts])) this.say(NO_ROOM, true);
+    this.update({ editor: { ...editor, ...this.assembled(editor.text) } });
+  }
 
   // Loads what was typed by lines of the script; from then on it is the source of the processor.
   async load() {

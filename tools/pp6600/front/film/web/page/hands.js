@@ -39,7 +39,7 @@ export class Hands extends Part {
     const { session, state } = this;
     return {
       check: () => this.exercises.check(), "begin-again": () => this.exercises.again(), load: () => this.editor.load(),
-      "load-and-run": () => this.editor.loadAndRun(), edit: () => this.openEditor(), "drop-texts": () => this.editor.dropTexts(),
+      "load-and-run": () => this.editor.loadAndRun(), edit: () => this.openEditor(),
       save: () => this.sharing.savePage(), "save-script": () => this.sharing.saveScript(), "copy-link": () => this.sharing.copyLink(),
       restore: () => session.restore(state.offer.record), undo: () => session.leaveBranch(), stop: () => session.stop(),
       "time-before": () => this.moves.toTimeOf(state.line, -1), "next-time": () => this.moves.toTimeOf(state.line, 1),
@@ -67,7 +67,7 @@ export class Hands extends Part {
       ["processor", (n) => store.change(chooseProcessor(state, Number(n)))], ["branch", (id) => session.goToBranch(Number(id))],
       ["look", (look) => this.look(look)], ["tab", (tab) => store.change({ tab })], ["exercise", (name) => this.exercises.goTo(name)],
       ["line", (number, { shiftKey }) => moves.toTimeOf(Number(number), shiftKey ? -1 : 1)],
-      ["meaning", (name) => store.change({ meaning: name })],
+      ["meaning", (name) => store.change({ meaning: name })], ["text", (name) => this.editor.setText(name)],
     ];
   }
 

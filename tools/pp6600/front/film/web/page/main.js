@@ -107,7 +107,7 @@ async function begin({ about, address, store, parts: { session, exercises, edito
   const opened = session.open(given, saved ? keeps.tree : newTree(), { moment: saved ? saved.moment : undefined, isTrusted: Boolean(saved) });
   const [reply, calls] = await Promise.all([opened, callsOf(module)]); // while the worker performs the script
   if (reply.isFault) throw new Error(reply.said);
-  editor.assembling = new Assembling(calls);
+  editor.assembling = new Assembling(calls, keeps?.texts || kept("texts") || []);
   if (keeps) {
     addSessions(keeps.sessions);
     for (const [name, text] of Object.entries(keeps.drafts)) store.state.drafts.set(name, text);

@@ -10,8 +10,6 @@ import { canSet } from "./setting.js";
 import { Part } from "./store.js";
 
 export const RATES = [1, 8, 64, 512, 4096]; // turns a second
-const untilLine = (points,
-  isBack) => `${isBack ? "back " : ""}until ${points.map(([n, address]) => `P ${octal(n)} = ${octal(address)}`).join(" or ")}`;
 
 export class Moves extends Part {
   condition = null; // that was looked for last
@@ -120,20 +118,17 @@ export class Moves extends Part {
   }
 
   // On to a breakpoint or to the chosen cell, or back: in the film, else by turns that are made.
-  runTo(direction) {
-    const { film } = this, { chosen, breakpoints } = this.state, cells = chosen && chosen.kind === "M" ? [chosen.numbers] : [];
-    const points = [...[...breakpoints].map((one) => one.split(" ").map(Number)), ...cells], here = film.at;
+  runTo(isBack) {
+    const { chosen, breakpoints } = this.state, cells = chosen && chosen.kind === "M" ? [chosen.numbers] : [];
+    const points = [...[...breakpoints].map((one) => one.split(" ").map(Number)), ...cells];
     if (!points.length) return this.say("choose a cell, or click the number of a line, to run there", true);
-    const isThere = () => points.some(([n, address]) => film.number("P", n) === address);
-    for (let at = here + direction, was = isThere(); at >= 0 && at < film.count; at += direction) {
-      film.goTo(at);
-      if (isThere() && !was) return this.moveTo(at);
-      was = isThere();
-    }
-    if (direction > 0) return this.session.act([untilLine(points)]);
-    film.goTo(here);
-    return film.breaks.some((at) => film.kinds[at] === SKIP) ? this.session.type([untilLine(points, true)])
-      : this.say("P was not there before this", true);
+    return this.runUntil(points.map(([n, address]) => `PP ${octal(n)} performs ${octal(address)}`).join(" or "), isBack);
+  }
+
+  async runUntil(condition, isBack) {
+    const { film, session } = this, isInFilm = isBack || film.at < film.last, { at } = isInFilm ? await session.momentOf(condition, isBack) : { at: null };
+    if (at !== null) return at < 0 || this.moveTo(at);
+    return isBack ? this.say("P was not there before this", true) : this.until(condition, false);
   }
 
   // ---- lines of the source, of the script
@@ -238,7 +233,7 @@ export class Moves extends Part {
       help: () => this.update({ help: !state.help }), play: () => this.play(!state.playing), faster: () => this.faster(1),
         slower: () => this.faster(-1),
       "script-line-before": () => this.toScriptLine(-1), "next-script-line": () => this.toScriptLine(1),
-      "run-to": () => this.runTo(1), "run-back": () => this.runTo(-1), set: () => canSet(state.chosen) && hands.openField(),
+      "run-to": () => this.runTo(false), "run-back": () => this.runTo(true), set: () => canSet(state.chosen) && hands.openField(),
       barrel: () => hands.fold(`${state.look} barrel`), projector: () => this.project(),
     };
   }

@@ -2,7 +2,7 @@
 
 import { LONGEST_ANSWER, UNTIL, ofLines, stepsOf, wordsIn } from "../machine/lines.js";
 import { JUMP, LINE } from "../machine/moments.js";
-import { Film } from "../machine/film.js";
+import { Film, NOT_RECORDED } from "../machine/film.js";
 import { growSources, sourcesOf } from "../machine/sources.js";
 import { choose, viewAt } from "./choice.js";
 import { octalRows } from "./files.js";
@@ -139,16 +139,27 @@ export class Session extends Part {
   async findsInFilm(line) {
     const [, back, text] = UNTIL.exec(line) || [], { film, sources } = this.state, isBack = Boolean(back);
     if (text === undefined) return false;
-    const jump = film.breaks.find((moment) => moment > film.at) ?? film.count, parts = film.partsInEffect(isBack ? film.at : jump - 1);
-    const { labels } = film, from = film.position[film.at];
-    const { found, said } = await this.client.ask("find", { given: this.files(), parts, from, text, isBack, labels });
-    const at = said || found === null ? -1 : film.nearest(isBack ? -1 : 1, (moment) => film.position[moment] === found);
-    if (at < 0 && !said && found !== null && film.skipOver(found) >= 0) return this.recordAt(found);
-    const vain = said || (isBack ? "not before this" : "not in the film after this: at its end a search makes turns");
-    if (at < 0) return this.addLook(line, [vain]);
+    const { at, said } = await this.momentOf(text, isBack);
+    if (at === NOT_RECORDED) return true;
+    if (at === null) return this.addLook(line, [said || (isBack ? "not before this" : "not in the film after this: at its end a search makes turns")]);
     film.goTo(at);
     const change = changeFound(film, sources, text);
     return this.addLook(line, [`shown: the film has it${change ? change.text : ""}`], change && change.name);
+  }
+
+  // The moment of the film at which a condition comes to hold next, or came to hold last, of what is in effect; null if there is none. Turns that were
+  // skipped are recorded for it.
+  async momentOf(text, isBack) {
+    const { film } = this.state, { position, kinds, count, breaks, labels } = film;
+    for (let from = film.at; from < count;) {
+      const jump = isBack ? count : breaks.find((moment) => moment > from && kinds[moment] === JUMP) ?? count, parts = film.partsInEffect(isBack ? from : jump - 1);
+      const { found, said } = await this.client.ask("find", { given: this.files(), parts, from: position[from], text, isBack, labels });
+      const at = film.nearest(isBack ? -1 : 1, (moment) => position[moment] === found, from);
+      if (said || at >= 0) return { at: said ? null : at, said };
+      if (found !== null && (await this.recordAt(found))) return { at: NOT_RECORDED };
+      from = jump;
+    }
+    return { at: null };
   }
 
   // Notes a line that only looked, and chooses the place with a name.

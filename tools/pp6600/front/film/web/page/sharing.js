@@ -33,7 +33,7 @@ export class Sharing extends Part {
     const { sources, labels } = exercise ? session.about : film.about,
       keptDrafts = Object.entries(allKept("draft ")).map(([name, text]) => [`draft ${name}`, text]);
     const keeps = { exercise, solved, tree: session.tree(), drafts: { ...Object.fromEntries(keptDrafts), ...Object.fromEntries(drafts) },
-      sessions: sessionsOfTab() };
+      texts: [...this.exercises.editor.assembling.texts], sessions: sessionsOfTab() };
     const about = { ...session.about, ...session.given.options, sources, labels, files, again: "", opens: null, keeps };
     if (!this.hasPictures(script)) delete about.pictures;
     saveBytes(new TextEncoder().encode(await pageWith(about)), `${this.name()}.html`);
@@ -59,7 +59,7 @@ export class Sharing extends Part {
     for (const file of files) {
       const text = textOfBytes(new Uint8Array(await file.arrayBuffer())), kind = kindOfFile(text);
       if (!kind) return this.say(`${file.name} is no script, deck or panel: these are texts`, true);
-      if (isForEditor) this.exercises.editor.addText(file.name, text);
+      if (isForEditor) this.exercises.editor.setText(file.name, text);
       else given[kind] = text;
       names.push(file.name);
     }

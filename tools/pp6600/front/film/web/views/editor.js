@@ -8,13 +8,14 @@ import { pane, select } from "./parts.js";
 
 // The numbers of the lines, decimal, with a sign at the one that is next and a colour at those with a message.
 function gutter({ text, messages }, next) {
-  const wrong = new Map([...messages].reverse().map((one) => [one.line, one.isFault ? "bad" : "warn"]));
+  const wrong = new Map(messages.filter(({ name }) => !name).reverse().map((one) => [one.line, one.isFault ? "bad" : "warn"]));
   return range(text.split("\n").length).map((at) => h("span", { class: at + 1 === next ? "next" : wrong.get(at + 1) || "" },
     `${at + 1 === next ? "▶" : " "}${String(at + 1).padStart(3)}\n`));
 }
 
-function message({ line, column, text, isFault }) {
-  return h("li", { class: isFault ? "wrong" : "warning" }, h("button", { "data-line-at": `${line} ${column}` }, `${line}:${column}: ${text}`));
+function message({ name, line, column, text, isFault }) {
+  const at = `${line}:${column}: ${text}`;
+  return h("li", { class: isFault ? "wrong" : "warning" }, name ? `${name}:${at}` : h("button", { "data-line-at": `${line} ${column}` }, at));
 }
 
 export function editorPane(state) {
@@ -26,8 +27,8 @@ export function editorPane(state) {
     h("button", { "data-action": "load-and-run", disabled: !hasWords, title: "load it, and run the script again, beside this session" }, "Run again"),
     h("button.main", { "data-action": "load", disabled: !hasWords, id: "load" }, hasWords ? `Load ${octal(words)} words` : "Load")];
   return pane(state, "editor", "Editor", more, [
-    texts.length ? h("p.texts", `with the names and macros of ${texts.join(", ")} `,
-      h("button", { "data-action": "drop-texts" }, "without")) : null,
+    texts.length ? h("p.texts", `with the names and macros of ${texts.join(", ")} `, texts.map((name) =>
+      h("button", { "data-text": name, title: `assemble without ${name}` }, texts.length > 1 ? `without ${name}` : "without"))) : null,
     h("div.editing", { "data-box": "" }, h("pre.numbers", { "aria-hidden": "true" }, gutter(editor, next)),
       h("textarea", { id: "source-text", wrap: "off", spellcheck: "false", autocapitalize: "off", autocomplete: "off", "aria-label": "source",
         rows: text.split("\n").length + 1, value: text })),

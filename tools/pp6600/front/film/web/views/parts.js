@@ -9,7 +9,7 @@ import { icon } from "./icons.js";
 // and the next turn of each processor.
 export function marksOf({ film, chosen }) {
   const changed = new Set(film.places.subarray(film.starts[film.at], film.starts[film.at + 1]));
-  const read = new Set(film.isTurn(film.at) ? film.writesOf(film.at).flatMap(({ sources }) => sources.map(({ place }) => place)) : []);
+  const read = new Set(film.writesOf(film.at).flatMap(({ sources }) => sources.map(({ place }) => place)));
   const next = range(PROCESSORS).map((n) => film.next(n)), changes = film.changesOf(film.at);
   return { changed, read, chosen: chosen ? chosen.places.at(-1) : -1, next, changes, waits: next.map(turning.waits) };
 }

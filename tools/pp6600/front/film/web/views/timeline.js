@@ -1,13 +1,13 @@
 // ---- the run: a lane for each processor that does something and for each channel that is used
 
 import { h, keeper } from "../page/dom.js";
-import { nameOf, octal, two } from "../machine/places.js";
+import { nameOf, octal, range, two } from "../machine/places.js";
 import { JUMP, SKIP, WAITING, firstNot } from "../machine/moments.js";
 import { isQuiet } from "../machine/film.js";
 import { isOfDevice } from "../machine/origins.js";
 import { namesOf, select } from "./parts.js";
 
-const LABEL = 62, LEAST = 80; // the width of the names, in pixels of letters of 14, and of the lanes
+const LABEL = 62, LEAST = 80, STRIPE = 4; // the width of the names, in pixels of letters of 14, and of the lanes; and from stripe to stripe
 const MOST_LANES = { debug: 10, class: 10, projector: 5, phone: 4 };
 const PARTS_OF_RUN = [0o10000, 0o1000, 0o100]; // how many moments can be seen at once, if not all
 const keptStills = keeper(), columnsOf = new WeakMap();
@@ -112,6 +112,13 @@ function skipMarks(state, height, unit) {
   });
 }
 
+// Stripes over what was taken back, and is a branch that was left.
+function takenMarks(state, top, bottom) {
+  const stretches = state.film.takenBack().map(([from, to]) => [from, to].map((at) => Math.round(pixelOf(state, Math.max(state.span.from, Math.min(at, state.span.to))))));
+  const stripes = stretches.flatMap(([from, to]) => range(Math.ceil((to - from) / STRIPE)).map((at) => `M${from + STRIPE * at + 1} ${top}V${bottom}`));
+  return h("path.taken", { d: stripes.join("") });
+}
+
 function chosenMarks(state, y, high) {
   const { changes } = state;
   let d = "";
@@ -150,6 +157,7 @@ export function timeline(state) {
   const key = [film.count, film.lines.length, span.from, span.to, room.timeline, unit, chosen && chosen.name, changes.length, lanes.length].join();
   const still = keptStills(film, key, () => h("g", name("script", 13 * unit), scriptMarks(state, height, unit), skipMarks(state, height, unit),
     lanes.map(({ name: text, lane }, n) => h("g", name(text, top + n * step + high), laneMarks(state, lane, top + n * step, high))),
+    takenMarks(state, top, own),
     chosen ? [name(chosen.kind === "M" ? `M ${chosen.name.slice(-4)}` : chosen.name, own + high, "name mine"), chosenMarks(state, own, high)]
       : null));
   const x = Math.round(pixelOf(state, film.at + 0.5)) + 0.5,
@@ -163,7 +171,7 @@ export function timeline(state) {
 }
 
 const LEGEND = [["passes, inactive", "M0 10h14v1h-14z", "passes"], ["waits, empty", "M0 5h14v6h-14zM1 6v4h12v-4z", "half"],
-  ["busy, full", "M0 4h14v7h-14z", "half"], ["block, function", "M0 0h14v11h-14z", "tall"]];
+  ["busy, full", "M0 4h14v7h-14z", "half"], ["block, function", "M0 0h14v11h-14z", "tall"], ["taken back", "M0 0h2v11h-2zM4 0h2v11h-2zM8 0h2v11h-2zM12 0h2v11h-2z", "half"]];
 const legend = LEGEND.map(([text, d, kind]) => h("span", h("svg", { viewBox: "0 0 14 11" }, h("path", { d, class: kind })), text));
 
 function foot({ film, zoom, allLanes }, quiet) {
