@@ -52,7 +52,7 @@ def platforms():
 def package(programs):
     """Returns the files of the Python package, by their names in the archive, with these programs in it."""
     found = {path[len("tools/"):]: entry for path, entry in part("tools/pp6600").items()}
-    found.update({f"pp6600/{name}": read_file(path) for name, path in programs.items()})
+    found.update({f"pp6600/{name}": read_file(path) for name, path in programs.items() if not name.endswith(".a")})
     return {**found, "pp6600/VERSION": File(read("VERSION"))}
 
 

@@ -38,6 +38,7 @@ WEB = os.path.join(TOP, "tools", "pp6600", "front", "film", "web")
 HEADER = os.path.join(TOP, "crates", "pp_library", "pp6600.h")
 RANDOM = 200
 CORES = len(os.sched_getaffinity(0))
+SONAME = "libpp6600.so.1"  # what is linked with a shared library asks for this name
 WARNINGS = "-Wall -Wextra -Wconversion -Wsign-conversion -Werror".split()
 
 
@@ -215,7 +216,7 @@ def answers_here():
     if not shutil.which("gcc") or platform.machine() != "x86_64":
         return None
     with tempfile.TemporaryDirectory(prefix="pp6600-test-") as folder:
-        return answers_of(folder, client_in_c(folder, "gcc", "libpp6600.so", "libpp6600.so"))
+        return answers_of(folder, client_in_c(folder, "gcc", "libpp6600.so", SONAME))
 
 
 class Library(Artefacts):
@@ -235,11 +236,13 @@ class Library(Artefacts):
         self.on("x86_64")
         self.tool("gcc")
         self.check("libpp6600.so", answers_here())
+        self.check("libpp6600.a", answers_of(self.folder, client_in_c(self.folder, "gcc", "libpp6600.a", "libpp6600.a")))
 
     def test_aarch64(self):
         compiler, runner = self.tool("aarch64-linux-gnu-gcc"), self.tool("qemu-aarch64", "qemu-aarch64-static")
-        client = client_in_c(self.folder, compiler, "libpp6600-aarch64.so", "libpp6600-aarch64.so")
-        self.check("libpp6600-aarch64.so", answers_of(self.folder, runner, "-L", "/usr/aarch64-linux-gnu", client))
+        for name, linked in (("libpp6600-aarch64.so", SONAME), ("libpp6600-aarch64.a", "libpp6600.a")):
+            client = client_in_c(self.folder, compiler, name, linked)
+            self.check(name, answers_of(self.folder, runner, "-L", "/usr/aarch64-linux-gnu", client))
 
     def test_node(self):
         self.check("pp6600.wasm", answers_of(self.folder, self.tool("node", "nodejs"), *self.for_node("client.js")))
@@ -277,16 +280,21 @@ class Files(Artefacts):
     """What is in the artefacts."""
 
     def test_exports(self):
-        """A shared library has the calls of the header and no other symbol, and asks for none and for no other library."""
+        """A library has the calls of the header and no other symbol for others, and asks for none and for no other library."""
         calls = sorted(re.findall(r"^uint32_t (pp6600_\w+)\(", read(HEADER), flags=re.M))
         self.assertIn("pp6600_answer", calls)
         reader = self.tool("readelf")
+        for name in ("libpp6600.a", "libpp6600-aarch64.a"):
+            symbols = re.findall(r"(?:GLOBAL|WEAK) +\w+ +(\w+) (\S+)$", run_tool(reader, "--syms", "--wide", artefact(name)), flags=re.M)
+            self.assertEqual(calls, sorted(name for _, name in symbols))
+            self.assertNotIn("UND", dict(symbols))
+        self.assertEqual(calls, sorted(re.findall(r"\0(pp6600_\w+)\0pp6600\.dll\0", part(FOLDER, "libpp6600.dll.a").decode("latin-1"))))
         for name in ("libpp6600.so", "libpp6600-aarch64.so"):
             symbols = run_tool(reader, "--dyn-syms", "--wide", artefact(name))
             self.assertEqual(calls, sorted(line.split()[-1] for line in symbols.splitlines()[4:]))
             dynamic = run_tool(reader, "--dynamic", artefact(name))
             self.assertNotIn("NEEDED", dynamic)
-            self.assertIn(f"soname: [{name}]", dynamic)
+            self.assertIn(f"soname: [{SONAME}]", dynamic)
 
     def test_the_module_imports_nothing(self):
         node = self.tool("node", "nodejs")

@@ -41,7 +41,8 @@ class Windows(artefacts.Artefacts):
 
     def test_library(self):
         compiler = self.tool("x86_64-w64-mingw32-gcc")
-        client = artefacts.client_in_c(self.folder, compiler, "pp6600.dll", "pp6600.dll")
+        shutil.copy(artefacts.artefact("pp6600.dll"), self.folder)
+        client = artefacts.client_in_c(self.folder, compiler, "libpp6600.dll.a", "libpp6600.dll.a")
         answers = artefacts.answers_of(self.folder, self.wine, client, env=self.environment, timeout=None)
         artefacts.Library.check(self, "pp6600.dll", answers)
 

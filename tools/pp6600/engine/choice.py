@@ -17,7 +17,9 @@ HOME = PACKAGE if os.path.exists(os.path.join(PACKAGE, "VERSION")) else ABOVE
 IN_PYTHON = (sys.executable, os.path.join(PACKAGE, "engine", "plain", "__main__.py"))
 # The proved programs for a machine, the best first. The second one for x86-64 needs no C library.
 NAMES = {"x86_64": ("pp6600", "pp6600-static"), "aarch64": ("pp6600-aarch64",), "windows": ("pp6600.exe",)}
-LIBRARIES = {"x86_64": ("libpp6600.so",), "aarch64": ("libpp6600-aarch64.so",), "windows": ("pp6600.dll",)}  # beside the programs
+# The library beside the programs, and what compilers link in its place.
+LIBRARIES = {"x86_64": ("libpp6600.so", "libpp6600.a"), "aarch64": ("libpp6600-aarch64.so", "libpp6600-aarch64.a"),
+             "windows": ("pp6600.dll", "libpp6600.dll.a")}
 MACHINES = {("Linux", "x86_64"): "x86_64", ("Linux", "aarch64"): "aarch64", ("Windows", "AMD64"): "windows", ("Windows", "ARM64"): "windows"}
 THIS_IS = "this is pp6600-python, which is not proved"
 NOT_PROVED = f"the proved program does not start here; {THIS_IS}"

@@ -96,8 +96,8 @@ CALLS_OF_ORIGINS, CALLS_OF_SEARCHES = ("origins", "next_origins"), ("until", "ba
 
 def load(path: Optional[str] = None) -> Any:
     """Loads the library from this path, or from $PP6600_LIBRARY, or from where the tools are: a checkout, an installation, a package."""
-    names = LIBRARIES.get(machine_here(), ("libpp6600.so",))
-    beside = [os.path.join(HOME, folder, name) for folder in ("dist", "lib", "") for name in names]
+    name = LIBRARIES.get(machine_here(), ("libpp6600.so",))[0]
+    beside = [os.path.join(HOME, folder, name) for folder in ("dist", "lib", "")]
     return loaded(path or os.environ.get("PP6600_LIBRARY") or next((one for one in beside if os.path.isfile(one)), beside[0]))
 
 

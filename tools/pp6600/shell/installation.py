@@ -40,7 +40,7 @@ IN_OWN = {"pp6600-python": "pp6600-python", "VERSION": "VERSION", "commands": "s
 OF_CHECKOUT = re.compile(r"docs/(.*\.(py|txt)|evaluate)$")  # what makes pages, or needs the sources
 ALL = "all"  # for each machine
 PAGE_MODULE = "pp6600.wasm"  # with which a page of any machine runs
-LOADED = (".so", ".dll", ".wasm")  # how files end that are loaded, and not run
+LOADED = (".so", ".dll", ".wasm", ".a")  # how files end that are loaded or linked, and not run
 FRESH, OLDER = ".pp6600-new", ".pp6600-old"  # behind the name of a file until all that is new is there
 # A link of a page, with its text; the file that it leads to is before a #.
 LINKS = {".md": re.compile(r"!?\[(?P<text>[^\[\]]*)\]\((?P<file>[^)#:\s]+)[^)]*\)"),

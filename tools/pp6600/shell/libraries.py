@@ -9,9 +9,14 @@ from typing import Iterable, Union
 from ..engine.choice import version
 from .manifest import File, Manifest, SymbolicLink, files_below, read
 
-FOLDERS = {"libpp6600.so": "lib/x86_64-linux-gnu", "libpp6600-aarch64.so": "lib/aarch64-linux-gnu"}  # of a system for several machines
-SHARED = "libpp6600.so"
-VERSIONED = f"{SHARED}.1"  # the number is raised when a call is no longer what it was
+# The libraries for each machine: their folder of a system for several machines, and the name of each there with that in dist. The number at
+# the end is raised when a call is no longer what it was.
+SHARED, VERSIONED = "libpp6600.so", "libpp6600.so.1"
+MACHINES = {
+    "lib/x86_64-linux-gnu": {VERSIONED: "libpp6600.so", "libpp6600.a": "libpp6600.a"},
+    "lib/aarch64-linux-gnu": {VERSIONED: "libpp6600-aarch64.so", "libpp6600.a": "libpp6600-aarch64.a"},
+    "lib/x86_64-w64-mingw32": {"pp6600.dll": "pp6600.dll", "libpp6600.dll.a": "libpp6600.dll.a"},
+}
 HEADER = "crates/pp_library/pp6600.h"
 NODE, NODE_MODULE = "share/nodejs/pp6600", "tools/pp6600/front/film/web/engine/library.mjs"
 PACKAGE_CONFIG = """prefix=${{pcfiledir}}/{up}
@@ -34,14 +39,15 @@ def upward(folder: str) -> str:
 def for_c(top: str, own: str, programs: Iterable[str], separate: bool) -> Manifest:
     """Returns what compilers want of a checkout whose libraries are installed in the folder `own`. Of several machines, or if it is said, each
     has a folder of its own."""
-    shared = [name for name in programs if name in FOLDERS]
-    found: Manifest = {"include/pp6600.h": read(os.path.join(top, HEADER))} if shared else {}
-    for name in shared:
-        folder = FOLDERS[name] if separate or len(shared) > 1 else "lib"
+    named = set(programs)
+    found: Manifest = {}
+    machines = {folder: names for folder, names in MACHINES.items() if named.issuperset(names.values())}
+    for alone, names in machines.items():
+        folder = alone if separate or len(machines) > 1 else "lib"
         config = PACKAGE_CONFIG.format(up=upward(f"{folder}/pkgconfig"), version=version())
-        found.update({f"{folder}/{VERSIONED}": SymbolicLink(f"{upward(folder)}/{own}/{name}"), f"{folder}/{SHARED}": SymbolicLink(VERSIONED),
-                      f"{folder}/{name}": SymbolicLink(VERSIONED),  # the name that it has for what is linked with it
-                      f"{folder}/pkgconfig/pp6600.pc": File(config.encode())})
+        found.update({f"{folder}/{name}": SymbolicLink(f"{upward(folder)}/{own}/{file}") for name, file in names.items()})
+        found.update({f"{folder}/{SHARED}": SymbolicLink(VERSIONED)} if VERSIONED in names else {})
+        found.update({"include/pp6600.h": read(os.path.join(top, HEADER)), f"{folder}/pkgconfig/pp6600.pc": File(config.encode())})
     return found
 
 
