@@ -11,14 +11,17 @@ use Rattle.pp_search.proofs.forms.condition_of.Goals.{then-form-eq-OR+else-is_fu
 
 pub loop-form-preserved : goal.loop-form-preserved
 loop-form-preserved c =
-    let more = All-more (IsForm c.args.machine.now.setup.central_words) c.args.forms.now c.loop-form.form-index _ c.loop-form-test.true c.loop-form.invariant.are in
+    let Is = IsForm c.args.machine.now.setup.central_words in
+    let begun = c.loop-form.invariant in
+    let more = All-more Is c.args.forms.now c.loop-form.form-index _ c.loop-form-test.true begun.are in
+    let small_more = All-push IsSmall c.loop-form.alternatives.items _ begun.small begun.begun_small in
     elim c.if-form-eq-OR.branch [
       | then-form-eq-OR+else-is_full w ↦ record {
         is = grind (arith, common_steps);
         has = grind (arith, common_steps);
         are = more (inl w.if-form-eq-OR.true);
         few = search rules;
-        small = rw (w.alternatives-is, w.push.ensures.items) (All-push IsSmall c.loop-form.alternatives.items _ c.loop-form.invariant.small c.loop-form.invariant.begun_small);
+        small = rw (w.alternatives-is, w.push.ensures.items) small_more;
         begun_small = search rules;
         begun = grind (arith, common_steps);
       }
@@ -55,10 +58,10 @@ returns-clause-is c =
 
 pub returns-clause-are_forms : goal.returns-clause-are_forms
 returns-clause-are_forms c =
-    let is =
-    condition_is c.args.forms.now (record { alternatives = c.push-2.new.self }) c.loop-form.alternatives.items c.loop-form.tests.items _
-    (drop_of_length-le c.args.forms.now c.loop-form-test.false) c.loop-form.invariant.is c.push-2.ensures.items in
-    let few : length c.push-2.new.self.items ≤ MOST_ALTERNATIVES = grind (arith, nat_tests, c.push-2.ensures.len, c.is_full-2.ensures, c.if-is_full-3.false) in
-    let small : All IsSmall c.push-2.new.self.items =
-    rw c.push-2.ensures.items (All-push IsSmall c.loop-form.alternatives.items _ c.loop-form.invariant.small c.loop-form.invariant.begun_small) in
-    (subst HasRoom is (few, small), rw (take_whole c.args.forms.now c.loop-form.form-index c.loop-form-test.false) at c.loop-form.invariant.are)
+    let is = returns-clause-is c in
+    let begun = c.loop-form.invariant in
+    let all = c.push-2.new.self.items in
+    let few : length all ≤ MOST_ALTERNATIVES = grind (arith, nat_tests, c.push-2.ensures.len, c.is_full-2.ensures, c.if-is_full-3.false) in
+    let small : All IsSmall all =
+    rw c.push-2.ensures.items (All-push IsSmall c.loop-form.alternatives.items _ begun.small begun.begun_small) in
+    (subst HasRoom is (few, small), rw (take_whole c.args.forms.now c.loop-form.form-index c.loop-form-test.false) at begun.are)
