@@ -20,7 +20,7 @@ use pp_history::{Reversible, UndoRecord};
 use pp_machine::{Place, place_at};
 use pp_rig::{MOST_OLDS, Old, Rig, RigRecord, ShortTurn, old_value};
 
-/// Of at most so many numbers each is looked up in the undo record, whether it changed.
+/// The most places of a range that are tested one by one.
 const FEW: u32 = 8;
 
 /// Returns whether a number is from `first` to `last`.

@@ -119,6 +119,7 @@ fn find_turn(
 
 /// Performs turns until a condition comes to hold in one, or `most` were performed. Returns how many were performed if it
 /// came to hold in the last one, and else `None`. A watched place does not stop it.
+#[inline(never)]
 pub fn until(session: &mut Session<Rig>, condition: &Condition, most: u32) -> Option<u32>
     requires has { HasAllPlaces session.old.machine.setup.central_words condition.now }
     ensures first { result ≡ first_turn condition.now most session.old.machine }
@@ -149,6 +150,7 @@ fn back_once(session: &mut Session<Rig>, condition: &Condition, plan: &Plan) -> 
 
 /// Goes back to the end of the last action before the newest one in which a condition came to hold, and returns how many
 /// actions were undone: at least 1. If there is none, returns `None`, and the session is as it was.
+#[inline(never)]
 pub fn back_until(session: &mut Session<Rig>, condition: &Condition) -> Option<u32>
     requires has { HasAllPlaces session.old.machine.setup.central_words condition.now }
     ensures last { AtEach rules session.old (λ v. result ≡ last_before condition.now v) }
