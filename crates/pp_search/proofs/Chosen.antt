@@ -5,7 +5,7 @@ use Rattle.std.proofs.lemmas.List.Elements.{All-contains, All-push, Contains-app
 use Rattle.std.proofs.lemmas.List.Folds.{list_any_none}
 use Rattle.std.specs.List.{list_any}
 use Rattle.pp_history.proofs.Names.{cases_lt}
-use Rattle.pp_search.specs.Plan.{AreCandidates, IsOfAnother}
+use Rattle.pp_search.specs.Plan.{AreCandidates, IsCandidate, IsOfAnother, KeepsFlags}
 use Rattle.pp_search.specs.declared.condition.Alternative.{Alternative}
 use Rattle.pp_search.specs.declared.plan.Candidates.{Candidates}
 
@@ -29,22 +29,24 @@ chosen_within xs x n less all = All-push (λ (j : ℕ). j < n) xs x all less
 pub ruleset chosen = (chosen_here, chosen_still, chosen_within)
 
 -- an alternative is a candidate, or of another processor
-abbrev pub IsChosen : ℕ → List Alternative → List ℕ → ℕ → Type 0
-IsChosen pp alternatives candidates i = (d : Alternative) → Contains candidates i ⊎ IsOfAnother pp (get_or alternatives i d)
+abbrev pub IsChosen : ℕ → List Alternative → Candidates → ℕ → Type 0
+IsChosen pp alternatives candidates i =
+    (d : Alternative) → IsCandidate pp candidates i (get_or alternatives i d) ⊎ IsOfAnother pp (get_or alternatives i d)
 
-pub chosen_more : (old new : List ℕ) (alternatives : List Alternative) (pp n : ℕ) (here : Alternative) → n < length alternatives →
-    ((j : ℕ) → Contains old j → Contains new j) → ((i : ℕ) → i < n → IsChosen pp alternatives old i) →
-    here ≡ get_or alternatives n here → Contains new n ⊎ IsOfAnother pp here → (i : ℕ) → i < n + 1 → IsChosen pp alternatives new i
-chosen_more old new alternatives pp n here within keeps earlier is added i less d = elim (cases_lt i n) [
+pub chosen_more : (old new : Candidates) (alternatives : List Alternative) (pp n : ℕ) (here : Alternative) → n < length alternatives →
+    ((j : ℕ) → Contains old.alternatives.items j → Contains new.alternatives.items j) → KeepsFlags old new →
+    ((i : ℕ) → i < n → IsChosen pp alternatives old i) → here ≡ get_or alternatives n here →
+    IsCandidate pp new n here ⊎ IsOfAnother pp here → (i : ℕ) → i < n + 1 → IsChosen pp alternatives new i
+chosen_more old new alternatives pp n here within keeps flags earlier is added i less d = elim (cases_lt i n) [
   | inl before ↦ elim (earlier i before d) [
-    | inl has ↦ inl (keeps i has)
+    | inl chosen ↦ let (has, address, tests, awaited) = chosen in inl (keeps i has, address, tests, flags address awaited)
     | inr other ↦ inr other
   ]
   | inr past ↦
       let last : n ≡ i = omega (arith, less, past) in
       let same : here ≡ get_or alternatives n d = is ∙ get_or_default alternatives n here d within in
-      subst (λ (j : ℕ). Contains new j ⊎ IsOfAnother pp (get_or alternatives j d)) last
-      (subst (λ (a : Alternative). Contains new n ⊎ IsOfAnother pp a) same added)
+      subst (λ (j : ℕ). IsCandidate pp new j (get_or alternatives j d) ⊎ IsOfAnother pp (get_or alternatives j d)) last
+      (subst (λ (a : Alternative). IsCandidate pp new n a ⊎ IsOfAnother pp a) same added)
 ]
 
 -- ---- the candidates of each processor
@@ -68,6 +70,6 @@ pub none_chosen : (does : Alternative → Bool) (alternatives : List Alternative
     list_any does alternatives ≡ false
 none_chosen does alternatives candidates pp are another none =
     list_any_none does alternatives (λ i d less. elim (are.others i d less) [
-      | inl is ↦ All-contains (λ (i : ℕ). (d : Alternative) → does (get_or alternatives i d) ≡ false) candidates.alternatives.items i none is d
+      | inl is ↦ All-contains (λ (i : ℕ). (d : Alternative) → does (get_or alternatives i d) ≡ false) candidates.alternatives.items i none is.0 d
       | inr of ↦ another _ of
     ])

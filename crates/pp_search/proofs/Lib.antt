@@ -7,3 +7,4 @@ pub mod Owned
 pub mod ReadForms
 pub mod Steps
 pub mod Unmarked
+pub mod Written

@@ -1,7 +1,10 @@
 -- A turn of another processor: no alternative about one processor alone comes to hold in it.
-use Rattle.std.proofs.Common.{◌≡◌, ◌∙◌, ◌≢◌, ◌∷◌, ◌+◌, ◌-◌, ◌/◌, ◌%◌, ◌<◌, ◌≤◌, [], ℕ, None, Some, ap, arith, false, refl}
+use Rattle.std.proofs.Common.{◌≡◌, ◌∙◌, ◌≢◌, ◌∷◌, ◌+◌, ◌-◌, ◌/◌, ◌%◌, ◌<◌, ◌≤◌, ◌==◌, ◌||◌, [], ℕ, Bool, None, Some}
+use Rattle.std.proofs.Common.{ap, arith, false, get_or, inl, inr, length, refl, true}
+use Rattle.std.proofs.lemmas.List.Folds.{list_all_at, list_any_none}
+use Rattle.std.specs.Prelude.{slice_index_or}
 use Rattle.std.proofs.lemmas.Bool.Decides.{nat_tests}
-use Rattle.pp_machine.specs.Machine.{Machine, same_place}
+use Rattle.pp_machine.specs.Machine.{Machine, number, same_place}
 use Rattle.pp_machine.specs.Numbering.{place_at}
 use Rattle.pp_machine.specs.Prelude.{Writes, lookup, renamed}
 use Rattle.pp_machine.specs.declared.place.Place.{Place}
@@ -15,9 +18,12 @@ use Rattle.pp_rig.specs.declared.rig.ShortTurn.{ShortTurn}
 use Rattle.pp_rig.specs.declared.rig.TurnRecord.{TurnRecord}
 use Rattle.pp_rig.specs.declared.rig.TurnRest.{TurnRest}
 use Rattle.pp_search.proofs.Unmarked.{does_not_come, same_number}
-use Rattle.pp_search.specs.Condition.{comes}
-use Rattle.pp_search.specs.Plan.{IsOfAnother, IsOwnPlace}
+use Rattle.pp_search.specs.Condition.{comes, comes_to_hold, holds}
+use Rattle.pp_search.specs.Plan.{AreCandidates, IsCandidate, IsOfAnother, IsOwnPlace, can_hold_at, has_flag}
 use Rattle.pp_search.specs.declared.condition.Alternative.{Alternative}
+use Rattle.pp_search.specs.declared.condition.Condition.{Condition}
+use Rattle.pp_search.specs.declared.condition.Test.TheVariants.{Performs}
+use Rattle.pp_search.specs.declared.plan.Candidates.{Candidates}
 use Rattle.pp_step.specs.Step.{pp_pairs}
 use Rattle.pp_step.specs.View.{PpPlace, pp_place}
 
@@ -68,6 +74,45 @@ other_does_not_come turn back now pp alternative is slot fits (m, other, own) =
     (λ p is_own. let unwritten = none p is_own in grind (arith, unwritten))
     (λ n same. let turned = ap (λ ws. lookup ws Slot) pairs ∙ slot_of_turn r in grind (arith, nat_tests, turned, same, another))
     alternative own
+
+-- ---- its alternatives come to hold only where it is awaited
+
+different : (candidates : Candidates) (p a : ℕ) → has_flag candidates p ≡ false → has_flag candidates a ≡ true → (p == a) ≡ false
+different candidates p a off on = grind (arith, nat_tests, off, on)
+
+awaited_does_not_come : (alternative : Alternative) (candidates : Candidates) (n i : ℕ) (old new : Machine) (olds : Writes Place) →
+    candidates.is_anywhere ≡ false → has_flag candidates (number new (RegP n)) ≡ false → IsCandidate n candidates i alternative →
+    comes alternative old olds new ≡ false
+awaited_does_not_come alternative candidates n i old new olds off flag (has, None, tests, awaited) = absurd (cc)
+awaited_does_not_come alternative candidates n i old new olds off flag (has, Some a, (k, less, is), awaited) =
+    let here = different candidates (number new (RegP n)) a flag awaited in
+    let one : holds (slice_index_or alternative.tests.items k (Performs n a)) old olds new ≡ false = rw is (rw here refl) in
+    let none = list_all_at (λ test. holds test old olds new) alternative.tests.items k (Performs n a) less one in
+    rw none refl
+
+neither : (a b : Bool) → (a || b) ≡ false → (a ≡ false) × (b ≡ false)
+neither false b is = (refl, is)
+neither true b is = absurd (cc)
+
+candidate_does_not_come : (alternative : Alternative) (candidates : Candidates) (n i : ℕ) (old new : Machine) (olds : Writes Place) →
+    can_hold_at candidates (number new (RegP n)) ≡ false → IsCandidate n candidates i alternative → comes alternative old olds new ≡ false
+candidate_does_not_come alternative candidates n i old new olds off is =
+    let (k, less, found) = is.0 in
+    let some : (length candidates.alternatives.items == 0) ≡ false = grind (arith, nat_tests, less) in
+    let none = neither candidates.is_anywhere (has_flag candidates (number new (RegP n))) (rw some at off) in
+    awaited_does_not_come alternative candidates n i old new olds none.0 none.1 is
+
+pub none_where_it_is : (turn : ShortTurn) (back : RigRecord) (now : Machine) (pp : ℕ) (condition : Condition) (candidates : Candidates) →
+    back ≡ whole turn → turn.rest.slot ≡ pp → FitsRecord back now → AreCandidates pp condition.alternatives.items candidates →
+    can_hold_at candidates (number now (RegP pp)) ≡ false → comes_to_hold condition (before back now) (record_pairs back) now ≡ false
+none_where_it_is turn back now pp condition candidates is slot fits are off =
+    let old = before back now in
+    let olds = record_pairs back in
+    let all = condition.alternatives.items in
+    list_any_none (λ (alternative : Alternative). comes alternative old olds now) all (λ i d less. elim (are.others i d less) [
+      | inl of ↦ candidate_does_not_come (get_or all i d) candidates pp i old now olds off of
+      | inr of ↦ other_does_not_come turn back now pp (get_or all i d) is slot fits of
+    ])
 
 -- ---- cells of one memory
 

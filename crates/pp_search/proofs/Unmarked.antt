@@ -1,5 +1,5 @@
 -- A turn whose undo record has no marked place: no condition whose places are marked comes to hold in it.
-use Rattle.std.proofs.Common.{◌≡◌, ◌∙◌, ℕ, zero, suc, ◌+◌, ◌-◌, ◌<◌, ◌≤◌, ◌==◌, ◌&&◌, ◌∷◌, [], Bool, false, true, not, List, All, None, ap, ap₂, arith, refl, sym, unwrap_or}
+use Rattle.std.proofs.Common.{◌≡◌, ◌∙◌, ℕ, suc, ◌+◌, ◌-◌, ◌<◌, ◌≤◌, ◌==◌, ◌&&◌, ◌∷◌, [], Bool, false, true, not, List, All, None, ap, ap₂, arith, refl, sym, unwrap_or}
 use Rattle.std.proofs.lemmas.List.Elements.{recursion_from_All}
 use Rattle.std.specs.List.{AllByRecursion, list_any}
 use Rattle.pp_actions.specs.declared.action.Action.TheVariants.{Turn}
@@ -7,7 +7,6 @@ use Rattle.pp_history.specs.Marks.{covers}
 use Rattle.pp_history.specs.Repeating.{AreUnmarked}
 use Rattle.pp_history.specs.declared.marks.Marks.{Marks}
 use Rattle.pp_machine.specs.Machine.{Machine, number}
-use Rattle.pp_machine.specs.Numbering.{place_at}
 use Rattle.pp_machine.specs.Prelude.{Writes, lookup}
 use Rattle.pp_machine.specs.declared.place.Place.{Place}
 use Rattle.pp_machine.specs.declared.place.Place.TheVariants.{Phase, RegP, Slot}
@@ -18,7 +17,8 @@ use Rattle.pp_rig.specs.Rules.{rules}
 use Rattle.pp_rig.specs.Stopping.{turned}
 use Rattle.pp_rig.specs.declared.rig.RigRecord.{RigRecord}
 use Rattle.pp_search.proofs.AnyPlace.{unchanged}
-use Rattle.pp_search.specs.Condition.{all_hold, all_met, comes, comes_to_hold, holds, is_changed, is_inside, is_met, is_of_any, is_turn_of, is_written}
+use Rattle.pp_search.proofs.Written.{none_of_any}
+use Rattle.pp_search.specs.Condition.{all_hold, all_met, comes, comes_to_hold, holds, is_changed, is_inside, is_met, is_turn_of, is_written}
 use Rattle.pp_search.specs.Plan.{IsCovered, IsPlan, OfPlaces}
 use Rattle.pp_search.specs.Search.{comes_in_turn}
 use Rattle.pp_search.specs.declared.condition.Alternative.{Alternative}
@@ -32,15 +32,6 @@ pub same_number : (back : RigRecord) (old new : Machine) (p : Place) → FitsRec
     lookup (record_pairs back) p ≡ None → number old p ≡ number new p
 same_number back old new p fits led none =
     sym (ap (λ s. number s p) led) ∙ record_was back new p fits ∙ ap (λ o. unwrap_or o (number new p)) none
-
--- it is so of none of some places
-none_of_any : (is : Place → Bool) (first count : ℕ) → ((k : ℕ) → k < count → is (place_at (first + k)) ≡ false) → is_of_any is first count ≡ false
-none_of_any is first zero none = refl
-none_of_any is first (suc count) none =
-    let all : first + 0 ≡ first = omega arith in
-    let here = rw all at (none 0 (omega arith)) in
-    let rest = none_of_any is (first + 1) count (λ k less. let next : first + 1 + k ≡ first + (k + 1) = omega arith in rw next (none (k + 1) (omega (arith, less)))) in
-    grind (arith, here, rest)
 
 -- An action that leaves the numbers of some places, does not write some, and is a turn of other processors: no alternative about these
 -- alone comes to hold in it.
@@ -93,12 +84,12 @@ unmarked_none condition marks back old new old_values fits led covered none =
     (λ p is. absurd is) (λ n is. absurd is) condition covered
 
 -- turns that a plan skips
-pub skipped_turns : (condition : Condition) (plan : Plan) (turns most : ℕ) (s : Machine) (is_each : Bool) → is_each ≡ plan.is_each → IsPlan plan condition → turns ≤ most →
-    (is_each ≡ true → most ≡ 1) →
-    AreUnmarked rules marks_of plan.marks Turn (turns - 1) s → (k : ℕ) → 1 ≤ k → k < turns → comes_in_turn condition s k ≡ false
-skipped_turns condition plan turns most s true each planned within one unmarked k some less =
-    let only : most ≡ 1 = one refl in absurd (omega (arith, only, within, some, less))
-skipped_turns condition plan turns most s false each planned within one unmarked k some less =
+pub skipped_turns : (condition : Condition) (plan : Plan) (turns : ℕ) (s : Machine) (is_each : Bool) → is_each ≡ plan.is_each → IsPlan plan condition →
+    (is_each ≡ true → turns ≡ 1) → AreUnmarked rules marks_of plan.marks Turn (turns - 1) s →
+    (k : ℕ) → 1 ≤ k → k < turns → comes_in_turn condition s k ≡ false
+skipped_turns condition plan turns s true each planned one unmarked k some less =
+    let only : turns ≡ 1 = one refl in absurd (omega (arith, only, some, less))
+skipped_turns condition plan turns s false each planned one unmarked k some less =
     let here : k - 1 + 1 ≡ suc (k - 1) = omega arith in
     let (back, fits, led, none) = rw here at (unmarked (k - 1) (omega (arith, some, less))) in
     unmarked_none condition plan.marks back (turned (k - 1) s) (turned (suc (k - 1)) s) _ fits led (planned.covered (sym each)) none

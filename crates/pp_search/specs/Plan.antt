@@ -1,5 +1,6 @@
 -- Which turns a search must judge, and by which alternatives: for inner contracts.
-use Rattle.std.specs.Prelude.{◌≡◌, ◌≢◌, ◌⊎◌, ℕ, ◌+◌, ◌<◌, false, true, List, All, Contains, length, get_or}
+use Rattle.std.specs.Prelude.{◌≡◌, ◌≢◌, ◌==◌, ◌&&◌, ◌||◌, ◌⊎◌, ℕ, ◌+◌, ◌%◌, ◌<◌, Bool, not}
+use Rattle.std.specs.Prelude.{false, true, List, All, Contains, IfSome, None, Option, Some, length, get_or}
 use Rattle.pp_history.specs.Marks.{covers}
 use Rattle.pp_history.specs.declared.marks.Marks.{Marks}
 use Rattle.pp_machine.specs.Numbering.{place_at}
@@ -60,10 +61,35 @@ IsOwn n = OfPlaces (IsOwnPlace n) (IsOwnPlace n) (λ m. m ≡ n)
 abbrev pub IsOfAnother : ℕ → Alternative → Type 0
 IsOfAnother n alternative = (m : ℕ) × (m ≢ n) × All (IsOwn m) alternative.tests.items
 
+-- The address has a flag.
+abbrev pub has_flag : Candidates → ℕ → Bool
+has_flag candidates address = get_or candidates.flags (address % 256) false
+
+-- An address has a flag, or if there is none, any may do.
+abbrev pub IsAwaited : Candidates → Option ℕ → Type 0
+IsAwaited candidates None = candidates.is_anywhere ≡ true
+IsAwaited candidates (Some address) = has_flag candidates address ≡ true
+
+-- One of them can come to hold at this address.
+abbrev pub can_hold_at : Candidates → ℕ → Bool
+can_hold_at candidates address =
+    not (length candidates.alternatives.items == 0) && (candidates.is_anywhere || has_flag candidates address)
+
+-- What is awaited stays so.
+abbrev pub KeepsFlags : Candidates → Candidates → Type 0
+KeepsFlags old new = (address : Option ℕ) → IsAwaited old address → IsAwaited new address
+
+-- The number of an alternative is among the candidates of this processor. It has a test that the processor performs at an address, and
+-- this has a flag; or any address may do.
+abbrev pub IsCandidate : ℕ → Candidates → ℕ → Alternative → Type 0
+IsCandidate n candidates i alternative = Contains candidates.alternatives.items i × (address : Option ℕ)
+    × IfSome address (λ a. Contains alternative.tests.items (Performs n a)) × IsAwaited candidates address
+
 -- The numbers of alternatives, among them each that a turn of this processor can bring to hold.
 pub record AreCandidates (n : ℕ) (alternatives : List Alternative) (candidates : Candidates) : Type 0 where
   pub within : All (λ i. i < length alternatives) candidates.alternatives.items
-  pub others : (i : ℕ) (d : Alternative) → i < length alternatives → Contains candidates.alternatives.items i ⊎ IsOfAnother n (get_or alternatives i d)
+  pub others : (i : ℕ) (d : Alternative) → i < length alternatives →
+      IsCandidate n candidates i (get_or alternatives i d) ⊎ IsOfAnother n (get_or alternatives i d)
 
 -- Unless each turn is to be judged, the marks cover all places of the condition. Each processor has its candidates.
 pub record IsPlan (plan : Plan) (condition : Condition) : Type 0 where

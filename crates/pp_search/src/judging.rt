@@ -2,7 +2,8 @@
 ghost use Rattle.pp_history.specs.UndoRecord.{whole_record};
 ghost use Rattle.pp_machine.specs.Machine.{Machine};
 ghost use Rattle.pp_machine.specs.Numbering.{fixed_places};
-ghost use Rattle.pp_machine.specs.Prelude.{Has, number};
+ghost use Rattle.pp_machine.specs.Olds.{numbered};
+ghost use Rattle.pp_machine.specs.Prelude.{Has, list_room, number};
 ghost use Rattle.pp_machine.specs.Ranges.{processor_count};
 ghost use Rattle.pp_rig.specs.Inner.ActionRecords.{FitsRecord, before, record_pairs};
 ghost use Rattle.pp_rig.specs.Inner.Short.{unpacked, whole};
@@ -11,13 +12,16 @@ ghost use Rattle.pp_search.specs.Condition as spec;
 ghost use Rattle.pp_search.specs.Condition.{HasAllPlaces, HasPlaces};
 ghost use Rattle.pp_search.specs.Plan.{AreCandidates};
 ghost use Rattle.pp_search.specs.declared.condition.Test.TheVariants.{Waits};
-ghost use Rattle.std.specs.Prelude.{◌≡◌, ◌+◌, ◌<◌, ◌≤◌, All};
+ghost use Rattle.std.specs.Prelude.{◌≡◌, ◌+◌, ◌<◌, ◌≤◌, All, length, take};
 
 use crate::condition::{Alternative, Condition, Test};
 use crate::plan::Candidates;
 use pp_history::{Reversible, UndoRecord};
 use pp_machine::{Place, place_at};
-use pp_rig::{Rig, RigRecord, ShortTurn, old_value};
+use pp_rig::{MOST_OLDS, Old, Rig, RigRecord, ShortTurn, old_value};
+
+/// The most places of a range that are tested one by one.
+const FEW: u32 = 8;
 
 /// Returns whether a number is from `first` to `last`.
 #[inline(always)]
@@ -41,6 +45,56 @@ fn number_before(machine: &Rig, back: &UndoRecord<ShortTurn, RigRecord>, place: 
     }
 }
 
+/// Returns whether the action changed the number at a place.
+#[inline(always)]
+fn is_changed(machine: &Rig, back: &UndoRecord<ShortTurn, RigRecord>, place: &Place) -> bool
+    requires fits { FitsRecord (whole_record unpacked back.now) machine.now }
+    requires has { Has machine.now.setup.central_words place.now }
+    ensures { result ≡ spec.is_changed (before (whole_record unpacked back.now) machine.now) machine.now place.now }
+{
+    number_before(machine, back, place) != machine.value(place)
+}
+
+/// Lists the places of an undo record by their numbers, and returns how many these are.
+fn list_places(back: &UndoRecord<ShortTurn, RigRecord>, olds: &mut [Old]) -> usize
+    requires fits { (s : Machine) × FitsRecord (whole_record unpacked back.now) s }
+    requires room { list_room ≤ length olds.old }
+    ensures lists { take result olds.new ≡ numbered (record_pairs (whole_record unpacked back.now)) }
+    ensures within { result ≤ list_room }
+{
+    match back {
+        UndoRecord::Head(turn) => turn.put_old_values(olds, 0),
+        UndoRecord::Tail(record) => record.put_old_values(olds, 0),
+    }
+}
+
+/// Does what `has_changed` does. Here the places of the undo record are tested, and not those of the range.
+#[inline(never)]
+fn has_changed_of_many(
+    machine: &Rig,
+    back: &UndoRecord<ShortTurn, RigRecord>,
+    first: u32,
+    count: u32,
+) -> bool
+    requires fits { FitsRecord (whole_record unpacked back.now) machine.now }
+    requires has { first + count ≤ fixed_places + machine.now.setup.central_words }
+    ensures { result ≡ spec.is_of_any (spec.is_changed (before (whole_record unpacked back.now) machine.now) machine.now) first count }
+{
+    let _count = pp_rig::place_count(machine);
+    let end = u64::from(first) + u64::from(count);
+    let mut olds = [Old::default(); MOST_OLDS];
+    for k in 0..list_places(back, &mut olds) {
+        let number = olds[k].place;
+        if u64::from(first) <= number
+            && number < end
+            && is_changed(machine, back, &place_at(number as u32))
+        {
+            return true;
+        }
+    }
+    false
+}
+
 /// Returns whether the action changed one of `count` numbers, from the place with number `first` on.
 #[tactic(auto, using(crate::proofs::AnyPlace::any_place))]
 fn has_changed(
@@ -53,10 +107,12 @@ fn has_changed(
     requires has { first + count ≤ fixed_places + machine.now.setup.central_words }
     ensures { result ≡ spec.is_of_any (spec.is_changed (before (whole_record unpacked back.now) machine.now) machine.now) first count }
 {
+    if count > FEW {
+        return has_changed_of_many(machine, back, first, count);
+    }
     let _count = pp_rig::place_count(machine);
     for k in 0..count {
-        let place = place_at(first + k);
-        if number_before(machine, back, &place) != machine.value(&place) {
+        if is_changed(machine, back, &place_at(first + k)) {
             return true;
         }
     }

@@ -1,12 +1,17 @@
 //! Which turns a search must judge: by the marks of the places of a condition it skips most.
 ghost use Rattle.pp_search.specs.Condition.{HasAllPlaces, HasPlaces};
-ghost use Rattle.pp_search.specs.Plan.{AreCandidates, Grows, IsListed, IsOfAnother, IsOwn, IsOwnPlace, IsPlan, IsTestListed};
+ghost use Rattle.pp_search.specs.Plan.{AreCandidates, Grows, IsAwaited, IsCandidate, IsListed, IsOfAnother, IsOwn};
+ghost use Rattle.pp_search.specs.Plan.{IsOwnPlace, IsPlan, IsTestListed, KeepsFlags, can_hold_at};
+ghost use Rattle.pp_search.specs.declared.condition.Test.TheVariants.{Performs};
+ghost use Rattle.pp_machine.specs.Machine.{number};
 ghost use Rattle.pp_machine.specs.Numbering.{fixed_places, place_at};
-ghost use Rattle.std.specs.Prelude.{◌≡◌, ◌+◌, ◌<◌, ◌≤◌, ◌⊎◌, All, Contains, IfSome, get_or, length, true, ℕ};
+ghost use Rattle.pp_machine.specs.Ranges.{processor_count};
+ghost use Rattle.pp_machine.specs.declared.place.Place.TheVariants.{RegP};
+ghost use Rattle.std.specs.Prelude.{◌≡◌, [], ◌+◌, ◌<◌, ◌≤◌, ◌⊎◌, All, Contains, IfSome, get_or, length, true, ℕ};
 
 use crate::condition::{Alternative, Condition, MOST_ALTERNATIVES, Test};
 use arrayvec::ArrayVec;
-use pp_history::Marks;
+use pp_history::{Marks, Reversible};
 use pp_machine::{Place, place_at};
 use pp_rig::Rig;
 
@@ -19,12 +24,18 @@ pub struct Looked {
     places: ArrayVec<Place, MOST_MARKED>,
     /// Whether each turn must be judged, whatever it writes.
     is_each: bool,
+    /// Whether one of the places is written so often that turns are performed one by one, which is faster then.
+    is_stepped: bool,
 }
 
 /// The numbers of the alternatives that a turn of one processor can bring to hold.
-#[derive(Default, Drop)]
+#[derive(Drop)]
 pub struct Candidates {
     pub alternatives: ArrayVec<u8, MOST_ALTERNATIVES>,
+    /// Whether one of them can come to hold at any address of the processor.
+    pub is_anywhere: bool,
+    /// Flags of the addresses at which one of the others can come to hold, modulo 256 (decimal).
+    pub flags: [bool; 256],
 }
 
 /// Which turns a search judges, and by which alternatives.
@@ -32,21 +43,47 @@ pub struct Candidates {
 pub(crate) struct Plan {
     /// Marks of the places of the condition. A turn that writes none of them is not judged.
     pub marks: Marks,
-    /// Whether each turn is judged.
+    /// Whether each turn is judged, whatever it writes.
     pub is_each: bool,
+    /// Whether turns are performed one by one.
+    pub is_stepped: bool,
     /// Of each of the ten processors (decimal) its candidates.
     pub candidates: ArrayVec<Candidates, 10>,
 }
 
-impl Plan {
-    /// Returns how many of n turns may be performed before one is judged.
-    #[inline(always)]
-    pub(crate) fn most_unjudged(&self, n: u32) -> u32
-        requires { 1 ≤ n }
-        ensures some { (1 ≤ result) × (result ≤ n) }
-        ensures each { self.now.is_each ≡ true → result ≡ 1 }
+impl Default for Candidates {
+    fn default() -> Candidates
+        ensures { result.alternatives.items ≡ [] }
     {
-        if self.is_each { 1 } else { n }
+        Candidates {
+            alternatives: ArrayVec::new(),
+            is_anywhere: false,
+            flags: [false; 256],
+        }
+    }
+}
+
+impl Candidates {
+    /// Sets the flag of the only address at which an alternative can come to hold, or notes that there is no such address.
+    fn set_flag(&mut self, address: Option<u16>)
+        ensures sets { IsAwaited self.new address }
+        ensures keeps { KeepsFlags self.old self.new }
+        ensures alternatives { self.new.alternatives.items ≡ self.old.alternatives.items }
+    {
+        match address {
+            Some(address) => self.flags[usize::from(address % 256)] = true,
+            None => self.is_anywhere = true,
+        }
+    }
+
+    /// Returns `false` only if none of them can come to hold at the address where the processor is.
+    #[inline(always)]
+    pub(crate) fn can_hold(&self, machine: &Rig, pp: u8) -> bool
+        requires { pp < processor_count }
+        ensures { result ≡ can_hold_at self.now (number machine.now (RegP pp)) }
+    {
+        !self.alternatives.is_empty()
+            && (self.is_anywhere || self.flags[(machine.value(&Place::RegP { pp }) % 256) as usize])
     }
 }
 
@@ -57,6 +94,11 @@ impl Looked {
         ensures added { IsListed self.new place }
         ensures grows { Grows self.old self.new }
     {
+        let is_rare = matches!(
+            place,
+            Place::Cell { .. } | Place::Central { .. } | Place::ChannelWord { .. }
+        );
+        self.is_stepped = self.is_stepped || !is_rare;
         if self.places.is_full() {
             self.is_each = true;
         } else {
@@ -196,12 +238,26 @@ fn is_of_another(alternative: &Alternative, pp: u8) -> bool
     }
 }
 
+/// Returns the address at which one of some tests has a processor perform, or `None` if none of them does.
+fn address_of(tests: &[Test], pp: u8) -> Option<u16>
+    ensures { IfSome result (λ address. Contains tests.now (Performs pp address)) }
+{
+    for test in tests {
+        match *test {
+            Test::Performs { pp: n, address } if n == pp => return Some(address),
+            _ => {}
+        }
+    }
+    None
+}
+
 /// Adds the number of an alternative to the candidates of a processor, if a turn of it can bring it to hold.
 #[tactic(auto, using(crate::proofs::Chosen::chosen))]
 fn add_candidate(candidates: &mut Candidates, alternative: &Alternative, i: u8, pp: u8)
     requires room { length candidates.old.alternatives.items < MOST_ALTERNATIVES }
-    ensures added { Contains candidates.new.alternatives.items i ⊎ IsOfAnother pp alternative.now }
-    ensures keeps { (j : ℕ) → Contains candidates.old.alternatives.items j → Contains candidates.new.alternatives.items j }
+    ensures added { IsCandidate pp candidates.new i alternative.now ⊎ IsOfAnother pp alternative.now }
+    ensures keeps { KeepsFlags candidates.old candidates.new }
+    ensures keeps_numbers { (j : ℕ) → Contains candidates.old.alternatives.items j → Contains candidates.new.alternatives.items j }
     ensures few { length candidates.new.alternatives.items ≤ length candidates.old.alternatives.items + 1 }
     ensures within { (n : ℕ) → i < n → All (λ j. j < n) candidates.old.alternatives.items →
         All (λ j. j < n) candidates.new.alternatives.items }
@@ -210,6 +266,7 @@ fn add_candidate(candidates: &mut Candidates, alternative: &Alternative, i: u8, 
         return;
     }
     candidates.alternatives.push(i);
+    candidates.set_flag(address_of(alternative.tests.as_slice(), pp));
 }
 
 /// Returns the candidates of a processor.
@@ -217,9 +274,7 @@ fn candidates_of(alternatives: &[Alternative], pp: u8) -> Candidates
     requires { length alternatives.now ≤ MOST_ALTERNATIVES }
     ensures { AreCandidates pp alternatives.now result }
 {
-    let mut found = Candidates {
-        alternatives: ArrayVec::new(),
-    };
+    let mut found = Candidates::default();
     for i in 0..alternatives.len() {
         add_candidate(&mut found, &alternatives[i], i as u8, pp);
     }
@@ -247,11 +302,13 @@ pub(crate) fn plan_for(machine: &Rig, condition: &Condition) -> Plan
     let mut looked = Looked {
         places: ArrayVec::new(),
         is_each: false,
+        is_stepped: false,
     };
     looked.add_all(machine, condition.alternatives.as_slice());
     Plan {
         marks: Marks::of::<Rig>(looked.places.as_slice()),
         is_each: looked.is_each,
+        is_stepped: looked.is_stepped,
         candidates: all_candidates(condition.alternatives.as_slice()),
     }
 }

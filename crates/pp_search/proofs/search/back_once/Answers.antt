@@ -3,8 +3,8 @@ use Rattle.pp_history.specs.SessionValue.{after_back}
 use Rattle.pp_search.proofs.Steps.{size_at}
 use Rattle.pp_search.proofs.search.back_once.Goals as goal
 
-pub came_newest-requires-clause-has : goal.came_newest-requires-clause-has
-came_newest-requires-clause-has c =
+pub comes_newest-requires-clause-has : goal.comes_newest-requires-clause-has
+comes_newest-requires-clause-has c =
     let (v, at) = c.has_session_value.ensures in
     rw (size_at c.args.session.now c.back.new.self v (after_back v 1) at (c.in-Ok.ensures.moves v at) refl) c.requires.has
 
@@ -14,4 +14,4 @@ returns-clause-has c =
     rw (size_at c.args.session.now c.back.new.self v (after_back v 1) at (c.in-Ok.ensures.moves v at) refl) c.requires.has
 
 pub returns-clause-came : goal.returns-clause-came
-returns-clause-came c = λ v at. c.came_newest.ensures (after_back v 1) (c.in-Ok.ensures.moves v at)
+returns-clause-came c = λ v at. c.comes_newest.ensures (after_back v 1) (c.in-Ok.ensures.moves v at)

@@ -2,7 +2,7 @@ use Rattle.std.proofs.Common.{◌≡◌, ◌∙◌, ap, arith, refl, rules, sym}
 use Rattle.pp_rig.proofs.Runs.{after_turns_add, after_turns_none}
 use Rattle.pp_rig.specs.Stopping.{turned}
 use Rattle.pp_search.proofs.Steps.{found_part, passed_all, passed_more, passed_none, size_kept, turned_add}
-use Rattle.pp_search.proofs.search.until.Goals as goal
+use Rattle.pp_search.proofs.search.find_turn.Goals as goal
 
 pub loop-turns-init : goal.loop-turns-init
 loop-turns-init c = record {

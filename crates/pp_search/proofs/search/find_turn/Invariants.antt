@@ -3,7 +3,7 @@ use Rattle.pp_history.specs.SessionValue.{Moves}
 use Rattle.pp_rig.specs.Rules.{rules}
 use Rattle.pp_rig.specs.Stopping.{after_turns, turned}
 use Rattle.pp_search.proofs.Steps.{Passed}
-use Rattle.pp_search.proofs.search.until.Given as goal
+use Rattle.pp_search.proofs.search.find_turn.Given as goal
 
 abbrev pub invariant-loop-turns : goal.invariant-loop-turns
 invariant-loop-turns l = record {
