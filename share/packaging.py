@@ -12,6 +12,7 @@ import time
 
 TOP = os.path.dirname(os.path.dirname(os.path.realpath(__file__)))
 NO_LICENCE = "No licence has been chosen yet."
+MADE_HERE = re.compile(r"share/pp6600/docs/(definitions\.html|films/(?!overwritten-loader\.))")  # by make; no commit has them
 
 from pp6600.failure import Failure  # noqa: E402
 from pp6600.shell import installation  # noqa: E402
@@ -82,6 +83,12 @@ def programs(machine):
     except Failure as failure:
         fail(str(failure))
     return found if machine else {}
+
+
+def of_commit(programs, *made, **how):
+    """Returns what a checkout installs, with these programs, but without pages that were made here, unless they are named."""
+    found = installation.of_this_checkout(programs, **how)
+    return installation.without_lost_links({path: entry for path, entry in found.items() if path in made or not MADE_HERE.match(path)})
 
 
 def has_programs(machine):

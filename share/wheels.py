@@ -14,11 +14,11 @@ import hashlib  # noqa: E402
 import re  # noqa: E402
 import time  # noqa: E402
 
-from packaging import NO_LICENCE, TOP, has_programs, moment, read, version  # noqa: E402
+from packaging import NO_LICENCE, TOP, has_programs, moment, of_commit, read, version  # noqa: E402
 
 from pp6600.engine.choice import machine_here  # noqa: E402
 from pp6600.shell.archives import zipped  # noqa: E402
-from pp6600.shell.installation import of_this_checkout, part, programs_for, without_lost_links  # noqa: E402
+from pp6600.shell.installation import part, programs_for, without_lost_links  # noqa: E402
 from pp6600.shell.manifest import File  # noqa: E402
 from pp6600.shell.manifest import read as read_file  # noqa: E402
 
@@ -58,7 +58,7 @@ def package(programs):
 
 def pages():
     """Returns the pages, the examples, the exercises and the manual pages, which pip puts into the folder share of the environment."""
-    found = {path: entry for path, entry in of_this_checkout({}).items()
+    found = {path: entry for path, entry in of_commit({}).items()
              if path.startswith(("share/pp6600/", "share/man/")) and isinstance(entry, File)}
     return {f"pp6600-{version()}.data/data/{path}": entry for path, entry in without_lost_links(found).items()}
 

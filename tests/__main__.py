@@ -10,9 +10,6 @@ One module, class or test alone: python3 -m unittest tests.test_panel -k sizes
 
 import sys
 
-if sys.version_info < (3, 9):
-    sys.stderr.write("tests: Python 3.9 or later is needed, and this is Python {}.{}\n".format(*sys.version_info[:2]))
-    sys.exit(2)
 if not getattr(sys.flags, "safe_path", False):
     del sys.path[0]  # no file of the folder one works in is taken for a module of Python's own
 

@@ -46,7 +46,7 @@ def leads_inside(path, top):
 
 def checkout(folder):
     """Copies this checkout, and commits it at a fixed time."""
-    shutil.copytree(TOP, folder, symlinks=True, ignore=shutil.ignore_patterns("out", ".git", "__pycache__", "tests", "crates"))
+    shutil.copytree(TOP, folder, symlinks=True, ignore=shutil.ignore_patterns("out", ".git", "__pycache__", "tests", "crates", "definitions.html"))
     for name in ("src", "specs", "proofs"):
         shutil.copytree(os.path.join(TOP, "crates", "pp_arith", name), os.path.join(folder, "crates", "pp_arith", name))
     write(os.path.join(folder, HEADER), read(HEADER))

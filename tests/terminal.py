@@ -60,14 +60,15 @@ class Terminal:
 
     def wait_until(self, is_so, seconds=PATIENCE):
         """Waits until something is so of the terminal, or the program has ended. Returns whether it is so."""
-        end = time.monotonic() + seconds
+        end, pause = time.monotonic() + seconds, 0.02
         while time.monotonic() < end:
             has_ended = self.ended_with() is not None
             if is_so(self):
                 return True
             if has_ended:
                 return False
-            time.sleep(0.02)
+            time.sleep(pause)
+            pause = min(2 * pause, 0.5)  # a look starts two programs
         return False
 
     def shows(self, text):

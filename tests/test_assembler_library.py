@@ -23,7 +23,7 @@ from pp6600.language.source.passes import assembled
 from pp6600.language.source.writing import lines_of
 from pp6600.language.sources import complaints, names_of
 
-COUNT = int(os.environ.get("PP6600_SOURCES", "3000"))
+COUNT = int(os.environ.get("PP6600_SOURCES", "2000"))
 FORMS = ("words", "set", "listing")
 LITERAL = "*         LITERAL"  # in the listing
 

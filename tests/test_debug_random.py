@@ -12,7 +12,7 @@ from tests.support import Case, program
 
 from pp6600 import Console
 
-SESSIONS = int(os.environ.get("PP6600_DEBUG_SESSIONS", "20"))  # in the gate; by hand 200
+SESSIONS = int(os.environ.get("PP6600_DEBUG_SESSIONS", "10"))  # in the gate; by hand 200
 FIRST = int(os.environ.get("PP6600_DEBUG_SEED", "0"))
 MOVES = 10  # of a session
 ACTIONS = 2500  # of the script and after it that are searched

@@ -25,7 +25,7 @@ from evaluating.checking import faults_of_cases  # noqa: E402
 from evaluating.examples import faults_of, load  # noqa: E402
 
 EVALUATE = os.path.join(TOP, "docs", "evaluate")
-RANDOM = int(os.environ.get("PP6600_EVALUATED", "100"))  # random sessions
+RANDOM = int(os.environ.get("PP6600_EVALUATED", "50"))  # random sessions
 MOST_TURNS = 1500  # of a random session
 
 

@@ -23,7 +23,7 @@ from pp6600.run.session import Session
 from pp6600.run.turn import AT_END_OF_BLOCK, AT_END_OF_INPUT, NO_WORD, RETURN, ZERO, places_of_setting
 from pp6600.shell.command_line import arguments
 
-SEEDS = "100 60"  # of the random sessions: the first, and how many
+SEEDS = "100 40"  # of the random sessions: the first, and how many
 OPTIONS = ("--central", "32", "--panel", f"{EXAMPLES}/dead-start/panel", "--deck", f"{EXAMPLES}/read-a-deck/deck")
 # An exchange and what moves P of the central processor, at the end of central memory too; a block past its end; a return address of zero.
 EXCHANGE = ["SET C 1 12345670123456701234", "SET M 0 100 1400 2600 2700 2077 7776 2600 2700 300", "SET P 0 100", "STEP 200", "BACK 20",

@@ -17,7 +17,7 @@ IN_FOLDERS = {
     "tools": {**{name: [*words, SCRIPT] for name, words in WITH_SIMULATOR.items()}, **WITHOUT, "debug-adapter": [], "panel": ["--help"]},
     "tools/pp6600/engine/plain": {"__main__.py": [SCRIPT]},
     "exercises": {"check-exercise": ["exchange", SOLUTION], "grade": [os.path.dirname(SOLUTION)], "hand-out": ["--help"], "new": ["--help"]},
-    "share": {"colours": ["--check"], "deb": ["--help"], "install": ["--help"], "manual": ["--print"], "release": ["--help"],
+    "share": {"colours": ["--check"], "deb": ["--help"], "install": ["--help"], "manual": ["--print"], "npm": ["--help"], "release": ["--help"],
               "vsix": ["made"], "wheel": ["--help"]},
     "docs": {"card.py": ["--check"], "definitions.py": ["--help"], "evaluate": ["--help"], "proofs.py": ["--help"]},
     "docs/drawings": {"draw.py": ["--help"], "panel.py": ["--help"]},
@@ -50,7 +50,7 @@ class Hostile(Case):
         cls.performed = os.path.join(cls.top, "performed")
         cls.names = library_names()
         for folder in IN_FOLDERS:
-            cls.infest(os.path.join(cls.top, folder), cls.names)
+            cls.infest(os.path.join(cls.top, folder), [*cls.names, *OWN])
 
     @classmethod
     def infest(cls, folder, names):

@@ -1,7 +1,7 @@
 """Where numbers come from, as the engines answer it: each number is the one that its origin makes, the answer of the simulator in Python is
 that of the library, and what is read is needed.
 
-    PP6600_ORIGINS=SEED:COUNT   compares COUNT random sessions from seed SEED on; the default is 0:300
+    PP6600_ORIGINS=SEED:COUNT   compares COUNT random sessions from seed SEED on; the default is 0:150
 """
 
 import collections
@@ -107,7 +107,7 @@ class Explained(Case):
                 self.assertEqual(number_of(origin, None), plain.numbers(origin.place, 1)[0], (seed, origin))
 
     def test_random_sessions(self):
-        first, count = map(int, os.environ.get("PP6600_ORIGINS", "0:300").split(":"))
+        first, count = map(int, os.environ.get("PP6600_ORIGINS", "0:150").split(":"))
         for seed in range(first, first + count):
             words, lines = self.session(seed)
             engines = self.engines(words)

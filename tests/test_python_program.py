@@ -1,6 +1,6 @@
 """pp6600-python is the proved program's double: the cases of tests/cases.txt and of examples/, the sessions of the pages, and random ones.
 
-    PP6600_PYTHON=SEED:COUNT   compares COUNT random sessions from seed SEED on; the default is 0:40
+    PP6600_PYTHON=SEED:COUNT   compares COUNT random sessions from seed SEED on; the default is 0:15
 
 Here it is a program of its own, with the system's files, streams and statuses. tests/test_random.py compares more sessions in one
 process.
@@ -102,7 +102,7 @@ class Compared(Case):
         os.chdir(self.room())
 
     def test_random(self):
-        seed, count = map(int, os.environ.get("PP6600_PYTHON", "0:40").split(":"))
+        seed, count = map(int, os.environ.get("PP6600_PYTHON", "0:15").split(":"))
         for number in range(seed, seed + count):
             session = Maker(number).session()
             for name, data in session.all_files().items():

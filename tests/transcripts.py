@@ -23,11 +23,12 @@ exec python3 -c 'import pty, sys; sys.exit(pty.spawn(sys.argv[1:]) >> 8)' "$@" <
 """
 COMMAND = re.compile(r"^\$ (.*<<END.*\n(?:.*\n)*?END|.*)\n", re.M)  # with its own lines
 MARK = "====\n"
-# A tool with words that need no shell, on a file, on what some commands write, or on nothing; where its output goes, or which of its lines are
-# shown; and whether its status is. Such a tool runs in the tests' own process.
+OUTPUT = "bin/output"  # of a tool, for what reads it
+# A tool with words that need no shell, on what some commands write, a file, the lines that follow or nothing; where its output goes, or what
+# reads it; and whether its status is shown. Such a tool runs in the tests' own process.
 ALONE = re.compile(r"""(?:(printf\ '[^']*'(?:\ "[^"$`]*")*|echo\ [^|&;<>`$]*|\([^|&<>()]*\))\ \|\ )?
-                       tools/(?!talk|panel|debug)([\w-]+)((?:\ (?:[\w./:=,+@%-]+|'[^']*'))*)(?:\ <([\w./-]+))?
-                       (?:\ >([\w.-]+)|\ \|\ (head|tail)\ -n\ (\d+))?(;\ echo\ \$\?)?""", re.X)
+                       tools/(?!talk|panel|debug)([\w-]+)((?:\ (?:[\w./:=,+@%-]+|'[^']*'))*)(?:\ <([\w./-]+)|\ <<END\n((?:.*\n)*)END)?
+                       (?:\ >([\w.-]+)|\ \|\ ((?!.*tools/|.*PIPESTATUS).*))?(;\ echo\ \$\?)?""", re.X)
 DEFINED = re.compile(r"([a-z]+)\(\) \{ (.*); \}")  # a function of the shell
 GIVEN = re.compile(r"\$(\d)|\$\{(\d):-(\w+)\}")  # what it is given, or what it takes in its place
 OUTSIDE = re.compile(r"\.py|/dev/std")  # code or files of the tests' own process
@@ -59,15 +60,15 @@ class Shell:
         given = ["", *shlex.split(words), *[""] * 9]
         return GIVEN.sub(lambda mark: given[int(mark[1] or mark[2])] or mark[3] or "", self.functions[name])
 
-    def performed_here(self, source, name, words, path, into, end, count, shows_status):
+    def performed_here(self, source, name, words, path, typed, into, reader, shows_status):
         """Returns what a tool writes that runs in this process."""
-        script = part(self.folder, path) if path else self.written(source) if source else b""
-        done = tool_here(name, *shlex.split(words), script=script.decode("latin-1"), folder=self.folder, is_one=not (into or end))
-        lines = done.out.splitlines(keepends=True)
-        if into:
-            write(os.path.join(self.folder, into), done.out)
-        shown = [] if into else lines[:int(count)] if end == "head" else lines[-int(count):] if end else lines
-        return done.err * bool(into or end) + "".join(shown) + (f"{done.status}\n" if shows_status else "")
+        script = typed.encode() if typed else part(self.folder, path) if path else self.written(source) if source else b""
+        done = tool_here(name, *shlex.split(words), script=script.decode("latin-1"), folder=self.folder, is_one=not (into or reader))
+        shown = done.out
+        if into or reader:
+            write(os.path.join(self.folder, into or OUTPUT), done.out)
+            shown = done.err + (self.written(f"{{ {reader}\n}} <{OUTPUT}").decode() if reader else "")
+        return shown + (f"{done.status}\n" if shows_status else "")
 
     def written(self, command):
         """Returns what a command of the shell writes, standard error too."""

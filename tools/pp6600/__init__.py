@@ -30,12 +30,12 @@ if TYPE_CHECKING:
     from .engine.library import LibrarySession as Session
     from .run.attached import Attached
     from .run.device import EMPTY, INACTIVE, NOTHING, Device, full
+    __version__ = ""
 
 __all__ = ["EMPTY", "INACTIVE", "NOTHING", "Attached", "Console", "Device", "Failure", "Place", "Session", "full"]
-__version__: str
 
 
-def __getattr__(name: str) -> Any:
+def __getattr__(name):  # type: (str) -> Any
     """Returns what most tools do not need: the version, a session of the library, and what a session with devices needs."""
     if name == "__version__":
         from .engine.choice import version
@@ -44,6 +44,6 @@ def __getattr__(name: str) -> Any:
         from .engine.library import LibrarySession
         return LibrarySession
     if name not in __all__:
-        raise AttributeError(f"module {__name__} has no attribute {name}")
+        raise AttributeError("module {} has no attribute {}".format(__name__, name))
     from .run import attached, device
     return vars(attached)[name] if name == "Attached" else vars(device)[name]
