@@ -50,7 +50,8 @@ function returnsOf({ n, entries }) {
 // each was a wait.
 function alternativesOf(tests) {
   const returns = tests.filter((one) => one.entries), others = tests.filter(({ kind }) => kind !== undefined && kind !== WAITS);
-  const waits = tests.filter(({ kind }) => kind === WAITS).map(({ place }) => place), allWait = (session) => waits.every((n) => waiting(session).has(n));
+  const waits = tests.filter(({ kind }) => kind === WAITS).map(({ place }) => place);
+  const allWait = (session) => waits.every(Set.prototype.has, waiting(session));
   if (returns.length) {
     const [one] = returns, forms = [writesP(one.n)], isWrong = returnsOf(one);
     return [{ forms, also: (session) => isWrong(session) && comesInLatest(session, [...forms, ...others]) && allWait(session) }];

@@ -1,7 +1,7 @@
 // ---- a session with its numbers: what the page gets of each action is a moment with the places that it changed, and of a turn the links by
 // which its numbers come from others
 
-import { CELLS, HALF, PROCESSORS, isWord, layout, setLayout, upperOf } from "../machine/places.js";
+import { CELLS, HALF, isWord, layout, setLayout, upperOf } from "../machine/places.js";
 import { BLOCK, BUSY, IDLE, LINE, ROWS, WAITING } from "../machine/moments.js";
 import { placesOfSetting } from "../machine/lines.js";
 import { numberOfInstruction } from "../machine/turns.js";
@@ -63,18 +63,19 @@ export class Recorder {
   // The registers of a processor, and its word after P.
   before(n) {
     const { numbers } = this, p = numbers[layout.P + n];
-    return { p, a: numbers[layout.A + n], q: numbers[layout.Q + n], phase: numbers[layout.phase + n], second: numbers[n * CELLS + ((p + 1) % CELLS)] };
+    const second = numbers[n * CELLS + ((p + 1) % CELLS)];
+    return { p, a: numbers[layout.A + n], q: numbers[layout.Q + n], phase: numbers[layout.phase + n], second };
   }
 
   endTurn(made, links, before) {
     const [n, , word, kind] = made, after = this.before(n), isTwo = this.twoWords.has(word >> 6);
     const isUnmoved = after.p === before.p && after.a === before.a && after.q === before.q && after.phase === before.phase;
-    const isOfBlock = before.phase || after.phase, { p, phase, second } = before;
+    const { p, phase, second } = before, jump = { word, isNext: after.p === (p + (isTwo ? 2 : 1)) % CELLS };
     this.position++;
     this.turn++;
-    this.addLinks(links, LINK * made[OWN], n, !phase && isConditional(word >> 6) ? { word, isNext: after.p === (p + (isTwo ? 2 : 1)) % CELLS } : null);
-    this.endMoment(kind === WAITED ? WAITING : isOfBlock ? BLOCK : isUnmoved || kind === PASSED ? IDLE : BUSY, n, p,
-      numberOfInstruction(word, phase, isTwo ? second : null));
+    this.addLinks(links, LINK * made[OWN], n, !phase && isConditional(word >> 6) ? jump : null);
+    const what = kind === WAITED ? WAITING : phase || after.phase ? BLOCK : isUnmoved || kind === PASSED ? IDLE : BUSY;
+    this.endMoment(what, n, p, numberOfInstruction(word, phase, isTwo ? second : null));
   }
 
   // Adds the links of a turn, of which the first so many numbers are its processor's. Those of the clock and of the slot say nothing, and P
@@ -82,8 +83,8 @@ export class Recorder {
   addLinks(links, own, n, jump) {
     for (let at = 0, rest = 0, isAdded = false; at < links.length; at += LINK) {
       const place = links[at], how = links[at + 4], operation = how & 0xff, source = links[at + 3] ? -1 : links[at + 2], isOfDevice = at >= own;
-      if (!rest) isAdded = isOfDevice ? place >= layout.states && place < layout.clock : place !== layout.P + n ? place < layout.phase || place >= layout.words
-        : !goesOn(jump, operation, source === place);
+      if (!rest && isOfDevice) isAdded = place >= layout.states && place < layout.clock;
+      else if (!rest) isAdded = place === layout.P + n ? !goesOn(jump, operation, source === place) : place < layout.phase || place >= layout.words;
       rest = how >>> 16;
       if (isAdded) this.rows.links.push(packed(place, operation, (how >> 8) & 0xff, isOfDevice, rest), source);
     }
