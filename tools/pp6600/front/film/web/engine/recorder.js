@@ -3,12 +3,11 @@
 
 import { CELLS, HALF, isWord, layout, setLayout, upperOf } from "../machine/places.js";
 import { BLOCK, BUSY, IDLE, LINE, ROWS, WAITING } from "../machine/moments.js";
-import { placesOfSetting } from "../machine/lines.js";
 import { numberOfInstruction } from "../machine/turns.js";
 import { AFTER, packed } from "../machine/written.js";
 import { STATUS } from "./library.mjs";
 
-const MOST_RECORDED = 4096;
+const MOST_RECORDED = 4096, MOST_OF_LINE = 76; // turns; places that a line overwrites
 const LINKS = 4, OWN = 5, OLDS = 6, MADE = 8, LINK = 6; // of what the library writes of a turn: which number is which, and how many there are
 const WAITED = 1, PASSED = 2; // kinds of turns
 const OLD = 4, LOW = 2, HIGH = 3; // an old number: its place and the number itself, each of 64 bits as two words
@@ -115,11 +114,11 @@ export class Recorder {
 
   // ---- other actions
 
-  // A line that was performed and is an action: besides what it writes only registers, channels, devices or watches change.
-  addLine(words) {
-    for (const [place] of placesOfSetting(words)) if (place < layout.A || place >= layout.central) this.read(place, 1);
-    this.read(layout.A, layout.paper - layout.A);
-    this.read(layout.slot, layout.central - layout.slot);
+  // A line that was performed and is an action. It is performed again, so that the library says what it overwrote.
+  addLine() {
+    this.session.back(1);
+    const { olds } = this.session.turns(1, 1, MOST_OF_LINE, "again");
+    for (let at = 0; at < olds.length; at += 2) this.read(Number(olds[at]), 1);
     this.position++;
     this.endMoment(LINE, 0, 0, 0);
   }
