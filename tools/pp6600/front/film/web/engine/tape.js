@@ -79,7 +79,7 @@ export class Searcher {
     return session;
   }
 
-  // After how many actions a condition first comes to hold, in a turn of parts from a position on, or null; and how far one has looked.
+  // After how many actions a condition first comes to hold, in a turn of parts from a position on, or null; and up to where one has looked.
   async firstOf(condition, from, parts) {
     const session = await this.sessionAt(from);
     let at = from, found = null;
@@ -90,7 +90,7 @@ export class Searcher {
     };
     await this.replay(session, parts, (left) => condition.next(session, Math.min(left, MOST_AT_ONCE)), isEnough);
     session.close();
-    return { found, at };
+    return { found, end: at };
   }
 
   // After how many actions a condition came to hold last, before the last of those up to a position; or null. The library looks back from the end

@@ -77,10 +77,7 @@ const SERVICES = {
   async find({ given, parts, from, text, isBack, labels }) {
     const condition = parseCondition(text, labels, at.about.condition), tape = new Tape();
     for (const part of parts) tape.add(typeof part === "number" ? part : 1, typeof part === "number" ? null : part);
-    const searcher = new Searcher(at.calls, withFiles(given), control, tape);
-    at.until = performance.now() + 1000 * MOST_SEARCHED;
-    if (isBack) return { found: await searcher.lastOf(condition, from) };
-    return { found: (await searcher.firstOf(condition, from, tape.between(from, tape.length))).found };
+    return searched(new Searcher(at.calls, withFiles(given), control, tape), condition, from, isBack ? null : tape.between(from, tape.length));
   },
 };
 
@@ -114,13 +111,18 @@ async function performLine(session, line) {
   return { said: answer.slice(0, LONGEST_ANSWER).join("\n"), isWrong: /^ERR /.test(answer[0]), isHit };
 }
 
+// After how many actions a condition comes to hold the first time in parts of a tape, or came to hold the last time before: where no parts are.
+async function searched(searcher, condition, from, parts) {
+  at.until = performance.now() + 1000 * MOST_SEARCHED;
+  if (parts) return searcher.firstOf(condition, from, parts);
+  const found = await searcher.lastOf(condition, from);
+  if (control.isStopped()) throw new Error("stopped: the search took too long");
+  return { found };
+}
+
 // Goes on to where a condition comes to hold the first time, or back to the last time.
 async function search(session, condition, isBack) {
-  const begin = session.position;
-  at.until = performance.now() + 1000 * MOST_SEARCHED;
-  const { found, at: end } = isBack ? { found: await session.lastOf(condition, begin) }
-    : await session.firstOf(condition, begin, [{ text: null, count: Infinity }]);
-  if (isBack && control.isStopped()) return { said: "stopped: the search took too long", isWrong: true };
+  const begin = session.position, { found, end } = await searched(session, condition, begin, isBack ? null : [{ text: null, count: Infinity }]);
   if (found === null) return { said: isBack ? "not before this" : `not among the next ${octal(end - begin)} turns`, isWrong: true };
   at.until = Infinity;
   if (isBack) await session.perform(moveBy(found - begin));
