@@ -4,7 +4,7 @@ import { CELLS, CLOCK, KINDS, PROCESSORS, layout, octal, placeIn, register } fro
 import { FORM } from "./library.mjs";
 
 const { INSIDE, OUTSIDE, CHANGES, WRITES, PERFORMS, WAITS, OR } = FORM;
-const MOST_TESTS = 0o10, GREATEST = 2n ** 64n - 1n, FAR = 64; // actions among which is the latest turn of each processor
+const MOST_TESTS = 0o10, MOST_ALTERNATIVES = 0o100, GREATEST = 2n ** 64n - 1n, FAR = 64; // actions among which is the latest turn of each processor
 const RJM = 2, IN_BLOCK = 3; // an instruction, and the kind of a turn
 // Of each comparison the kind of its form, and the ends of the range; null is the number that is compared with.
 const COMPARISONS = { "=": [INSIDE, null, null], "!=": [OUTSIDE, null, null], "<=": [INSIDE, 0n, null], ">=": [INSIDE, null, GREATEST],
@@ -64,6 +64,7 @@ function alternativesOf(tests) {
 export class Condition {
   constructor(lists) {
     this.alternatives = lists.flatMap(alternativesOf);
+    if (this.alternatives.length > MOST_ALTERNATIVES) throw new Error(`at most ${octal(MOST_ALTERNATIVES)} conditions are joined by or`);
     this.forms = joined(this.alternatives.map(({ forms }) => forms));
     this.isOfLibrary = this.alternatives.every(({ also }) => !also);
   }

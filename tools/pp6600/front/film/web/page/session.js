@@ -156,9 +156,9 @@ export class Session extends Part {
       const jump = isBack ? count : breaks.find((moment) => moment > from && kinds[moment] === JUMP) ?? count;
       const parts = film.partsInEffect(isBack ? from : jump - 1);
       const { found, said } = await this.client.ask("find", { given: this.files(), parts, from: position[from], text, isBack, labels });
-      const at = film.nearest(isBack ? -1 : 1, (moment) => position[moment] === found, from);
-      if (said || at >= 0) return { at: said ? null : at, said };
-      if (found !== null && (await this.recordAt(found))) return { at: NOT_RECORDED };
+      if (said) return { at: null, said };
+      const at = found === null ? null : film.nearest(isBack ? -1 : 1, (moment) => position[moment] === found, from);
+      if (at > 0 || (at === NOT_RECORDED && (await this.recordAt(found)))) return { at };
       from = jump;
     }
     return { at: null };
