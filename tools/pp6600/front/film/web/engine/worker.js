@@ -11,7 +11,7 @@ import { Searcher, Tape } from "./tape.js";
 const AT_ONCE = 50; // milliseconds between two deliveries, and after which messages are looked for
 const MOST_SECONDS = 20, MOST_SEARCHED = 10; // seconds of a script that is opened, and of a search
 const ACTED = /^(OK|TURNS|BACK|FORWARD)\b/; // the answers of lines that do something
-const at = { session: null, calls: null, about: null, looker: null, stop: false, until: Infinity, paused: 0, doing: Promise.resolve() };
+const at = { session: null, calls: null, about: null, stop: false, until: Infinity, paused: 0, doing: Promise.resolve() };
 
 const control = {
   isStopped: () => at.stop || performance.now() > at.until,
@@ -33,7 +33,6 @@ function deliver() {
 }
 
 const withFiles = ({ deck = "", panel = "", options = {} }) => ({ ...at.about, ...options, deck: bytesOfText(deck), panel: bytesOfText(panel) });
-const linesOf = (parts) => parts.flatMap((part) => (typeof part === "number" ? stepsOf(part) : [part]));
 
 // ---- requests
 
@@ -66,11 +65,13 @@ const SERVICES = {
     return reply;
   },
 
-  // In a session of its own, which is kept for the next look from the same place.
+  // In a session of its own.
   async look({ given, parts, text }) {
-    const answer = linesIn(lookerAt(given, parts).answer(text).text), acts = answer.some((line) => ACTED.test(line));
-    if (acts) dropLooker();
-    return { answer, acts };
+    const session = new LibrarySession(at.calls, withFiles(given));
+    session.answer(ofLines(parts.flatMap((part) => (typeof part === "number" ? stepsOf(part) : [part]))));
+    const answer = linesIn(session.answer(text).text);
+    session.close();
+    return { answer, acts: answer.some((line) => ACTED.test(line)) };
   },
 
   // The first time after so many actions at which a condition comes to hold among actions that the film has; or the last time before.
@@ -80,21 +81,6 @@ const SERVICES = {
     return searched(new Searcher(at.calls, withFiles(given), control, tape), condition, from, isBack ? null : tape.between(from, tape.length));
   },
 };
-
-function lookerAt(given, parts) {
-  const key = JSON.stringify([given, parts]);
-  if (at.looker && at.looker.key === key) return at.looker.session;
-  dropLooker();
-  const session = new LibrarySession(at.calls, withFiles(given));
-  session.answer(ofLines(linesOf(parts)));
-  at.looker = { key, session };
-  return session;
-}
-
-function dropLooker() {
-  if (at.looker) at.looker.session.close();
-  at.looker = null;
-}
 
 // ---- lines
 
