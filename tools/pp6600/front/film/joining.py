@@ -11,7 +11,8 @@ from typing import Dict, List, Mapping, NamedTuple, Tuple
 
 IMPORT = re.compile(r'^import \{ ([^}]+) \} from "(\.[^"]+)";\n', re.M)
 EXPORT = re.compile(r"^export ((?:async )?function|class|const) (\w+)(.*)$", re.M)
-COMMENT = re.compile(r"^\s*//.*\n", re.M)  # a line that is one, which a joined script does without
+COMMENT = re.compile(r"^\s*//.*\n| +// [^\"'`\n]*$", re.M)  # a line that is one, or behind code and without a quote; a joined script has none
+INDENT = re.compile(r"^( +)\1", re.M)  # of which a joined script has half
 MORE_NAMES = re.compile(r", ([A-Z][A-Z_0-9]*) = ")  # of `const A = 1, B = 2;`
 UNKNOWN = re.compile(r"^(?:import|export)\b.*$", re.M)
 
@@ -49,7 +50,7 @@ def in_order(path: str) -> Dict[str, Module]:
 
 def function_of(path: str, module: Module, root: str) -> str:
     heads = "".join(f"const {{ {', '.join(names)} }} = {name_of(other, root)};\n" for other, names in module.imports.items())
-    body = COMMENT.sub("", EXPORT.sub(r"\1 \2\3", IMPORT.sub("", module.text))).strip("\n") + "\n"
+    body = INDENT.sub(r"\1", COMMENT.sub("", EXPORT.sub(r"\1 \2\3", IMPORT.sub("", module.text)))).strip("\n") + "\n"
     return f"const {name_of(path, root)} = (() => {{\n{heads}{body}return {{ {', '.join(module.exports)} }};\n}})();\n"
 
 

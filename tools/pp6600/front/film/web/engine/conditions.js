@@ -4,11 +4,11 @@ import { CELLS, CLOCK, KINDS, PROCESSORS, layout, octal, placeIn, register } fro
 import { FORM } from "./library.mjs";
 
 const { INSIDE, OUTSIDE, CHANGES, WRITES, PERFORMS, WAITS, OR } = FORM;
-const MOST_TESTS = 0o10, GREATEST = 2n ** 64n - 1n, FAR = 64; // actions among which is the latest turn of each processor
+const MOST_TESTS = 0o10, MOST_ALTERNATIVES = 0o100, GREATEST = 2n ** 64n - 1n, FAR = 64; // actions among which is the latest turn of each processor
 const RJM = 2, IN_BLOCK = 3; // an instruction, and the kind of a turn
-// Of each comparison the kind of its form, and the ends of the range; null is the number that is compared with.
-const COMPARISONS = { "=": [INSIDE, null, null], "!=": [OUTSIDE, null, null], "<=": [INSIDE, 0n, null], ">=": [INSIDE, null, GREATEST],
-  "<": [OUTSIDE, null, GREATEST], ">": [OUTSIDE, 0n, null] };
+// Of each comparison the kind of its form, and the range, of the number or the two numbers that it has.
+const COMPARISONS = { "=": (a) => [INSIDE, a, a], "!=": (a) => [OUTSIDE, a, a], "<=": (a) => [INSIDE, 0n, a], ">=": (a) => [INSIDE, a, GREATEST],
+  "<": (a) => [OUTSIDE, a, GREATEST], ">": (a) => [OUTSIDE, 0n, a], inside: (a, b) => [INSIDE, a, b], outside: (a, b) => [OUTSIDE, a, b] };
 
 const joined = (alternatives) => alternatives.flatMap((forms, at) => (at ? [{ kind: OR }, ...forms] : forms));
 const writesP = (n) => ({ kind: WRITES, place: register(n, 0), first: 1 });
@@ -50,7 +50,8 @@ function returnsOf({ n, entries }) {
 // each was a wait.
 function alternativesOf(tests) {
   const returns = tests.filter((one) => one.entries), others = tests.filter(({ kind }) => kind !== undefined && kind !== WAITS);
-  const waits = tests.filter(({ kind }) => kind === WAITS).map(({ place }) => place), allWait = (session) => waits.every((n) => waiting(session).has(n));
+  const waits = tests.filter(({ kind }) => kind === WAITS).map(({ place }) => place);
+  const allWait = (session) => waits.every(Set.prototype.has, waiting(session));
   if (returns.length) {
     const [one] = returns, forms = [writesP(one.n)], isWrong = returnsOf(one);
     return [{ forms, also: (session) => isWrong(session) && comesInLatest(session, [...forms, ...others]) && allWait(session) }];
@@ -63,6 +64,7 @@ function alternativesOf(tests) {
 export class Condition {
   constructor(lists) {
     this.alternatives = lists.flatMap(alternativesOf);
+    if (this.alternatives.length > MOST_ALTERNATIVES) throw new Error(`at most ${octal(MOST_ALTERNATIVES)} conditions are joined by or`);
     this.forms = joined(this.alternatives.map(({ forms }) => forms));
     this.isOfLibrary = this.alternatives.every(({ also }) => !also);
   }
@@ -93,7 +95,7 @@ const FORMS = [
   ["(PP \\S+) waits", ({ n }) => ({ kind: WAITS, place: n })], ["(PP \\S+) returns wrongly", returnTest],
   ["(PP \\S+) performs (\\S+)", ({ n, number }, word) => ({ kind: PERFORMS, place: n, first: number(word) })],
   ["(PP \\S+) (not )?in a block", ({ n }, not) => ({ kind: not ? INSIDE : OUTSIDE, place: register(n, 3) })],
-  [`${PLACE} (=|!=|<|>|<=|>=) (\\S+)`, compareTest], [`${PLACE} (outside|inside) (\\S+) (\\S+)`, rangeTest],
+  [`${PLACE} (=|!=|<|>|<=|>=) (\\S+)`, compareTest], [`${PLACE} (outside|inside) (\\S+) (\\S+)`, compareTest],
   [`(M \\S+ \\S+) (\\S+) ${DO}`, cellsTest], [`${PLACE} ${DO}`, ({ at }, word) => ({ kind: kindOf(word), place: at, first: 1 })],
   ["(H \\S+) changes state", (channel) => ({ kind: CHANGES, place: stateOfChannel(channel), first: 1 })], ["(H \\S+) is (\\S+)", stateTest],
 ].map(([form, make]) => [new RegExp(`^${form}$`, "i"), make]);
@@ -125,15 +127,10 @@ function numberFor(kind, word, own, name) {
   return number;
 }
 
-function compareTest({ at, number }, sign, word) {
-  const [kind, ...ends] = COMPARISONS[sign], [first, last] = ends.map((end) => end ?? number(word));
-  return { kind, place: at, first, last };
-}
-
-function rangeTest({ at, number }, kind, ...words) {
-  const [first, last] = words.map(number);
+function compareTest({ at, number }, sign, ...words) {
+  const [kind, first, last] = COMPARISONS[sign.toLowerCase()](...words.map(number));
   if (first > last) throw new Error(`${octal(first)} is over ${octal(last)}`);
-  return { kind: /^i/i.test(kind) ? INSIDE : OUTSIDE, place: at, first, last };
+  return { kind, place: at, first, last };
 }
 
 function cellsTest({ at, name, number }, word, how) {

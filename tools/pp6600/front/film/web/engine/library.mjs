@@ -166,13 +166,12 @@ export class LibrarySession extends Rooms {
   // old numbers.
   recorded(most, room = 4096, linkRoom = 8 * room, oldRoom = 8 * room) {
     const [turnsAtMost] = checked("origins", most), made = this.room("made", MADE_BYTES * room);
-    const links = this.room("links", LINK_BYTES * linkRoom), olds = this.room("olds", 16 * oldRoom), rooms = [room, linkRoom, oldRoom].map(counted);
-    const status = this.call("origins", turnsAtMost, made, rooms[0], links, rooms[1], olds, rooms[2], ...this.outs(3));
+    const links = this.room("links", LINK_BYTES * linkRoom), olds = this.room("olds", 16 * oldRoom);
+    const status = this.call("origins", turnsAtMost, made, counted(room), links, counted(linkRoom), olds, counted(oldRoom), ...this.outs(3));
     const [turns, linked, used] = this.results(3);
-    return {
-      status, made: this.view(Uint16Array, made, MADE_BYTES / 2 * turns).slice(), links: this.view(Uint32Array, links, LINK_BYTES / 4 * linked).slice(),
-      olds: this.view(BigUint64Array, olds, 2 * used).slice(),
-    };
+    const written = (Kind, at, bytes) => this.view(Kind, at, bytes / Kind.BYTES_PER_ELEMENT).slice();
+    return { status, made: written(Uint16Array, made, MADE_BYTES * turns), links: written(Uint32Array, links, LINK_BYTES * linked),
+      olds: written(BigUint64Array, olds, 16 * used) };
   }
 
   // Makes turns as `turns` does. Returns the status; for each turn its processor, the address and the word of its instruction, its kind, its
@@ -188,7 +187,8 @@ export class LibrarySession extends Rooms {
     const outs = this.outs(2);
     this.call("next_origins", made, links, BigInt(MOST_LINKS), outs[0], control, BigInt(MOST_CONTROL), outs[1]);
     const [linked, count] = this.results(2), words = this.view(Uint32Array, links, LINK_BYTES / 4 * linked);
-    return { ...turnsIn(this.view(Uint16Array, made, MADE_BYTES / 2), words)[0], control: [...this.view(BigUint64Array, control, count)].map(Number) };
+    const [turn] = turnsIn(this.view(Uint16Array, made, MADE_BYTES / 2), words);
+    return { ...turn, control: [...this.view(BigUint64Array, control, count)].map(Number) };
   }
 
   // Puts a condition into the memory: forms, each with a kind of FORM and the place and the numbers that this kind names. Returns its address

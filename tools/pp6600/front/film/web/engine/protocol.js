@@ -7,7 +7,7 @@ const MESSAGES = {
   look: ["given", "parts", "text"], // the answer to lines elsewhere; the session stays as it is
   find: ["given", "parts", "from", "text", "isBack", "labels"], // after how many actions a condition comes to hold
   // Replies to these, and to a request that failed. A reply carries what has come to the film since, so that one action is one drawing.
-  "open reply": ["said", "isWrong"], "act reply": ["said", "isWrong"], "look reply": ["answer", "acts"], "find reply": ["found"],
+  "open reply": ["said", "isWrong"], "act reply": ["said", "isWrong"], "look reply": ["answer", "acts"], "find reply": ["found", "end"],
   "fault reply": ["said", "isWrong", "isFault"],
   moments: ["rows", "lines"], working: [], // from the worker beside replies: what has come to the film, and that a search goes on
 };

@@ -1,14 +1,13 @@
 // ---- a session with its numbers: what the page gets of each action is a moment with the places that it changed, and of a turn the links by
 // which its numbers come from others
 
-import { CELLS, HALF, PROCESSORS, isWord, layout, setLayout, upperOf } from "../machine/places.js";
+import { CELLS, HALF, isWord, layout, setLayout, upperOf } from "../machine/places.js";
 import { BLOCK, BUSY, IDLE, LINE, ROWS, WAITING } from "../machine/moments.js";
-import { placesOfSetting } from "../machine/lines.js";
 import { numberOfInstruction } from "../machine/turns.js";
 import { AFTER, packed } from "../machine/written.js";
 import { STATUS } from "./library.mjs";
 
-const MOST_RECORDED = 4096;
+const MOST_RECORDED = 4096, MOST_OF_LINE = 76; // turns; places that a line overwrites
 const LINKS = 4, OWN = 5, OLDS = 6, MADE = 8, LINK = 6; // of what the library writes of a turn: which number is which, and how many there are
 const WAITED = 1, PASSED = 2; // kinds of turns
 const OLD = 4, LOW = 2, HIGH = 3; // an old number: its place and the number itself, each of 64 bits as two words
@@ -63,18 +62,19 @@ export class Recorder {
   // The registers of a processor, and its word after P.
   before(n) {
     const { numbers } = this, p = numbers[layout.P + n];
-    return { p, a: numbers[layout.A + n], q: numbers[layout.Q + n], phase: numbers[layout.phase + n], second: numbers[n * CELLS + ((p + 1) % CELLS)] };
+    const second = numbers[n * CELLS + ((p + 1) % CELLS)];
+    return { p, a: numbers[layout.A + n], q: numbers[layout.Q + n], phase: numbers[layout.phase + n], second };
   }
 
   endTurn(made, links, before) {
     const [n, , word, kind] = made, after = this.before(n), isTwo = this.twoWords.has(word >> 6);
     const isUnmoved = after.p === before.p && after.a === before.a && after.q === before.q && after.phase === before.phase;
-    const isOfBlock = before.phase || after.phase, { p, phase, second } = before;
+    const { p, phase, second } = before, jump = { word, isNext: after.p === (p + (isTwo ? 2 : 1)) % CELLS };
     this.position++;
     this.turn++;
-    this.addLinks(links, LINK * made[OWN], n, !phase && isConditional(word >> 6) ? { word, isNext: after.p === (p + (isTwo ? 2 : 1)) % CELLS } : null);
-    this.endMoment(kind === WAITED ? WAITING : isOfBlock ? BLOCK : isUnmoved || kind === PASSED ? IDLE : BUSY, n, p,
-      numberOfInstruction(word, phase, isTwo ? second : null));
+    this.addLinks(links, LINK * made[OWN], n, !phase && isConditional(word >> 6) ? jump : null);
+    const what = kind === WAITED ? WAITING : phase || after.phase ? BLOCK : isUnmoved || kind === PASSED ? IDLE : BUSY;
+    this.endMoment(what, n, p, numberOfInstruction(word, phase, isTwo ? second : null));
   }
 
   // Adds the links of a turn, of which the first so many numbers are its processor's. Those of the clock and of the slot say nothing, and P
@@ -82,8 +82,8 @@ export class Recorder {
   addLinks(links, own, n, jump) {
     for (let at = 0, rest = 0, isAdded = false; at < links.length; at += LINK) {
       const place = links[at], how = links[at + 4], operation = how & 0xff, source = links[at + 3] ? -1 : links[at + 2], isOfDevice = at >= own;
-      if (!rest) isAdded = isOfDevice ? place >= layout.states && place < layout.clock : place !== layout.P + n ? place < layout.phase || place >= layout.words
-        : !goesOn(jump, operation, source === place);
+      if (!rest && isOfDevice) isAdded = place >= layout.states && place < layout.clock;
+      else if (!rest) isAdded = place === layout.P + n ? !goesOn(jump, operation, source === place) : place < layout.phase || place >= layout.words;
       rest = how >>> 16;
       if (isAdded) this.rows.links.push(packed(place, operation, (how >> 8) & 0xff, isOfDevice, rest), source);
     }
@@ -114,11 +114,11 @@ export class Recorder {
 
   // ---- other actions
 
-  // A line that was performed and is an action: besides what it writes only registers, channels, devices or watches change.
-  addLine(words) {
-    for (const [place] of placesOfSetting(words)) if (place < layout.A || place >= layout.central) this.read(place, 1);
-    this.read(layout.A, layout.paper - layout.A);
-    this.read(layout.slot, layout.central - layout.slot);
+  // A line that was performed and is an action. It is performed again, so that the library says what it overwrote.
+  addLine() {
+    this.session.back(1);
+    const { olds } = this.session.turns(1, 1, MOST_OF_LINE, "again");
+    for (let at = 0; at < olds.length; at += 2) this.read(Number(olds[at]), 1);
     this.position++;
     this.endMoment(LINE, 0, 0, 0);
   }

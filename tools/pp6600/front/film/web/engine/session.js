@@ -40,7 +40,7 @@ export class Session extends Searcher {
 
   async performOther(text, words) {
     const count = countOf(words), answer = ask(this.simulator, text), [kind, moved] = (answer[0] || "").split(" ");
-    if (kind === "OK") this.settle(text, words);
+    if (kind === "OK") this.settle(text);
     if (kind in MOVES) this.moved(this.position + MOVES[kind] * parseInt(moved, 8));
     if (/^ERR (07|16)/.test(answer[0]) && count && words[0] in MOVES) return this.goAnew(this.position + MOVES[words[0]] * count, answer);
     if (words[0] === "BACK" && words[1] === "W" && answer[0].startsWith("ERR 10")) return this.backToChange(answer);
@@ -48,10 +48,10 @@ export class Session extends Searcher {
   }
 
   // A SET, WATCH, UNWATCH or DEADSTART that was performed.
-  settle(text, words) {
+  settle(text) {
     this.tape.cut(this.position);
     this.tape.add(1, text);
-    this.recorder.addLine(words);
+    this.recorder.addLine();
   }
 
   // ---- turns

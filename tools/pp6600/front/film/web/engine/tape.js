@@ -5,7 +5,7 @@ import { linesIn } from "../machine/lines.js";
 import { firstNot } from "../machine/moments.js";
 import { LibrarySession } from "./library.mjs";
 
-const MOST_AT_ONCE = 1 << 18, HISTORY = 10000; // turns of one call; actions that a session of a search keeps
+const MOST_AT_ONCE = 1 << 18, MOST_KEPT = 9999; // turns of one call; actions over which one looks back
 
 export const ask = (session, text) => linesIn(session.answer(`${text}\n`).text);
 
@@ -79,7 +79,7 @@ export class Searcher {
     return session;
   }
 
-  // After how many actions a condition first comes to hold, in a turn of parts from a position on, or null; and how far one has looked.
+  // After how many actions a condition first comes to hold, in a turn of parts from a position on, or null; and up to where one has looked.
   async firstOf(condition, from, parts) {
     const session = await this.sessionAt(from);
     let at = from, found = null;
@@ -90,25 +90,26 @@ export class Searcher {
     };
     await this.replay(session, parts, (left) => condition.next(session, Math.min(left, MOST_AT_ONCE)), isEnough);
     session.close();
-    return { found, at };
+    return { found, end: at };
   }
 
   // After how many actions a condition came to hold last, before the last of those up to a position; or null. The library looks back from the end
   // of each part of the tape that it keeps.
   async lastOf(condition, end) {
-    const session = this.opened({ history: HISTORY }), { isOfLibrary, forms } = condition;
+    const session = this.opened({ history: MOST_KEPT + 1 }), { isOfLibrary, forms } = condition;
     let at = 0, looked = 0, found = null;
-    const make = (left) => (isOfLibrary ? stepped(session, Math.min(left, looked + HISTORY - 1 - at)) : condition.next(session, Math.min(left, MOST_AT_ONCE)));
+    const make = (left) => (isOfLibrary ? stepped(session, Math.min(left, looked + MOST_KEPT - at))
+      : condition.next(session, Math.min(left, MOST_AT_ONCE)));
     const look = () => {
       const undone = session.backUntil(forms);
-      if (undone) session.forward(undone);
       if (undone) found = at - undone;
+      if (undone) session.forward(undone);
       looked = at;
     };
     await this.replay(session, this.tape.between(0, end), make, ({ count, isFound }) => {
       at += count;
       if (isFound && at < end) found = at;
-      if (isOfLibrary && (at === end || at - looked === HISTORY - 1)) look();
+      if (isOfLibrary && (at === end || at - looked === MOST_KEPT)) look();
       return this.control.isStopped();
     });
     session.close();

@@ -11,7 +11,7 @@ import { Searcher, Tape } from "./tape.js";
 const AT_ONCE = 50; // milliseconds between two deliveries, and after which messages are looked for
 const MOST_SECONDS = 20, MOST_SEARCHED = 10; // seconds of a script that is opened, and of a search
 const ACTED = /^(OK|TURNS|BACK|FORWARD)\b/; // the answers of lines that do something
-const at = { session: null, calls: null, about: null, looker: null, stop: false, until: Infinity, paused: 0, doing: Promise.resolve() };
+const at = { session: null, calls: null, about: null, stop: false, until: Infinity, paused: 0, doing: Promise.resolve() };
 
 const control = {
   isStopped: () => at.stop || performance.now() > at.until,
@@ -33,7 +33,6 @@ function deliver() {
 }
 
 const withFiles = ({ deck = "", panel = "", options = {} }) => ({ ...at.about, ...options, deck: bytesOfText(deck), panel: bytesOfText(panel) });
-const linesOf = (parts) => parts.flatMap((part) => (typeof part === "number" ? stepsOf(part) : [part]));
 
 // ---- requests
 
@@ -66,38 +65,22 @@ const SERVICES = {
     return reply;
   },
 
-  // In a session of its own, which is kept for the next look from the same place.
+  // In a session of its own.
   async look({ given, parts, text }) {
-    const answer = linesIn(lookerAt(given, parts).answer(text).text), acts = answer.some((line) => ACTED.test(line));
-    if (acts) dropLooker();
-    return { answer, acts };
+    const session = new LibrarySession(at.calls, withFiles(given));
+    session.answer(ofLines(parts.flatMap((part) => (typeof part === "number" ? stepsOf(part) : [part]))));
+    const answer = linesIn(session.answer(text).text);
+    session.close();
+    return { answer, acts: answer.some((line) => ACTED.test(line)) };
   },
 
   // The first time after so many actions at which a condition comes to hold among actions that the film has; or the last time before.
   async find({ given, parts, from, text, isBack, labels }) {
     const condition = parseCondition(text, labels, at.about.condition), tape = new Tape();
     for (const part of parts) tape.add(typeof part === "number" ? part : 1, typeof part === "number" ? null : part);
-    const searcher = new Searcher(at.calls, withFiles(given), control, tape);
-    at.until = performance.now() + 1000 * MOST_SEARCHED;
-    if (isBack) return { found: await searcher.lastOf(condition, from) };
-    return { found: (await searcher.firstOf(condition, from, tape.between(from, tape.length))).found };
+    return searched(new Searcher(at.calls, withFiles(given), control, tape), condition, from, isBack ? null : tape.between(from, tape.length));
   },
 };
-
-function lookerAt(given, parts) {
-  const key = JSON.stringify([given, parts]);
-  if (at.looker && at.looker.key === key) return at.looker.session;
-  dropLooker();
-  const session = new LibrarySession(at.calls, withFiles(given));
-  session.answer(ofLines(linesOf(parts)));
-  at.looker = { key, session };
-  return session;
-}
-
-function dropLooker() {
-  if (at.looker) at.looker.session.close();
-  at.looker = null;
-}
 
 // ---- lines
 
@@ -114,13 +97,18 @@ async function performLine(session, line) {
   return { said: answer.slice(0, LONGEST_ANSWER).join("\n"), isWrong: /^ERR /.test(answer[0]), isHit };
 }
 
+// After how many actions a condition comes to hold the first time in parts of a tape, or came to hold the last time before: where no parts are.
+async function searched(searcher, condition, from, parts) {
+  at.until = performance.now() + 1000 * MOST_SEARCHED;
+  if (parts) return searcher.firstOf(condition, from, parts);
+  const found = await searcher.lastOf(condition, from);
+  if (control.isStopped()) throw new Error("stopped: the search took too long");
+  return { found };
+}
+
 // Goes on to where a condition comes to hold the first time, or back to the last time.
 async function search(session, condition, isBack) {
-  const begin = session.position;
-  at.until = performance.now() + 1000 * MOST_SEARCHED;
-  const { found, at: end } = isBack ? { found: await session.lastOf(condition, begin) }
-    : await session.firstOf(condition, begin, [{ text: null, count: Infinity }]);
-  if (isBack && control.isStopped()) return { said: "stopped: the search took too long", isWrong: true };
+  const begin = session.position, { found, end } = await searched(session, condition, begin, isBack ? null : [{ text: null, count: Infinity }]);
   if (found === null) return { said: isBack ? "not before this" : `not among the next ${octal(end - begin)} turns`, isWrong: true };
   at.until = Infinity;
   if (isBack) await session.perform(moveBy(found - begin));

@@ -21,8 +21,6 @@ export const untabbed = (line) => line.split("\t").reduce((before, part) => befo
 
 // ---- the places that a line writes
 
-export const NO_TURN = 10; // in the place of a processor: an action that is no turn
-
 // The places that a SET or a DEADSTART writes, each with the number of its word in the line; at a dead start that of the panel's word, or
 // 0.
 export function placesOfSetting([command, kind, ...words]) {

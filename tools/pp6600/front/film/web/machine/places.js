@@ -1,7 +1,7 @@
 // ---- the machine's numbers in one row: the library's order of places, as pp6600.h has it, in the page and in its worker
 
 export const PROCESSORS = 10, CHANNELS = 12, CLOCK = 12, CELLS = 4096, FRAME_WORDS = 16, WATCHES = 8, COLUMNS = 80;
-export const CENTRAL_ADDRESSES = 0o1000000, HALF = 30; // a number of 60 bits is kept in halves
+export const HALF = 30; // a number of 60 bits is kept in halves
 
 // The first place of each part; the clock is the last of the words. Behind the library's places come the upper halves of the numbers of 60
 // bits.

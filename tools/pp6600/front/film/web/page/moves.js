@@ -126,7 +126,8 @@ export class Moves extends Part {
   }
 
   async runUntil(condition, isBack) {
-    const { film, session } = this, isInFilm = isBack || film.at < film.last, { at } = isInFilm ? await session.momentOf(condition, isBack) : { at: null };
+    const { film, session } = this, isInFilm = isBack || film.at < film.last;
+    const { at } = isInFilm ? await session.inTurn(() => session.momentOf(condition, isBack)) : { at: null };
     if (at !== null) return at < 0 || this.moveTo(at);
     return isBack ? this.say("P was not there before this", true) : this.until(condition, false);
   }

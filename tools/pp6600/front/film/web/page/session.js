@@ -141,22 +141,24 @@ export class Session extends Part {
     if (text === undefined) return false;
     const { at, said } = await this.momentOf(text, isBack);
     if (at === NOT_RECORDED) return true;
-    if (at === null) return this.addLook(line, [said || (isBack ? "not before this" : "not in the film after this: at its end a search makes turns")]);
+    const vain = isBack ? "not before this" : "not in the film after this: at its end a search makes turns";
+    if (at === null) return this.addLook(line, [said || vain]);
     film.goTo(at);
     const change = changeFound(film, sources, text);
     return this.addLook(line, [`shown: the film has it${change ? change.text : ""}`], change && change.name);
   }
 
-  // The moment of the film at which a condition comes to hold next, or came to hold last, of what is in effect; null if there is none. Turns that were
-  // skipped are recorded for it.
+  // The moment of the film at which a condition comes to hold next, or came to hold last, of what is in effect; null if there is none. Turns
+  // that were skipped are recorded for it, and then shown.
   async momentOf(text, isBack) {
     const { film } = this.state, { position, kinds, count, breaks, labels } = film;
     for (let from = film.at; from < count;) {
-      const jump = isBack ? count : breaks.find((moment) => moment > from && kinds[moment] === JUMP) ?? count, parts = film.partsInEffect(isBack ? from : jump - 1);
+      const jump = isBack ? count : breaks.find((moment) => moment > from && kinds[moment] === JUMP) ?? count;
+      const parts = film.partsInEffect(isBack ? from : jump - 1);
       const { found, said } = await this.client.ask("find", { given: this.files(), parts, from: position[from], text, isBack, labels });
-      const at = film.nearest(isBack ? -1 : 1, (moment) => position[moment] === found, from);
-      if (said || at >= 0) return { at: said ? null : at, said };
-      if (found !== null && (await this.recordAt(found))) return { at: NOT_RECORDED };
+      if (said) return { at: null, said };
+      const at = found === null ? null : film.nearest(isBack ? -1 : 1, (moment) => position[moment] === found, from);
+      if (at > 0 || (at === NOT_RECORDED && (await this.recordAt(found)))) return { at };
       from = jump;
     }
     return { at: null };

@@ -114,8 +114,9 @@ function skipMarks(state, height, unit) {
 
 // Stripes over what was taken back, and is a branch that was left.
 function takenMarks(state, top, bottom) {
-  const stretches = state.film.takenBack().map(([from, to]) => [from, to].map((at) => Math.round(pixelOf(state, Math.max(state.span.from, Math.min(at, state.span.to))))));
-  const stripes = stretches.flatMap(([from, to]) => range(Math.ceil((to - from) / STRIPE)).map((at) => `M${from + STRIPE * at + 1} ${top}V${bottom}`));
+  const { film, span } = state, pixelIn = (moment) => Math.round(pixelOf(state, Math.max(span.from, Math.min(moment, span.to))));
+  const stripes = film.takenBack().map((stretch) => stretch.map(pixelIn))
+    .flatMap(([from, to]) => range(Math.ceil((to - from) / STRIPE)).map((at) => `M${from + STRIPE * at + 1} ${top}V${bottom}`));
   return h("path.taken", { d: stripes.join("") });
 }
 
@@ -171,7 +172,8 @@ export function timeline(state) {
 }
 
 const LEGEND = [["passes, inactive", "M0 10h14v1h-14z", "passes"], ["waits, empty", "M0 5h14v6h-14zM1 6v4h12v-4z", "half"],
-  ["busy, full", "M0 4h14v7h-14z", "half"], ["block, function", "M0 0h14v11h-14z", "tall"], ["taken back", "M0 0h2v11h-2zM4 0h2v11h-2zM8 0h2v11h-2zM12 0h2v11h-2z", "half"]];
+  ["busy, full", "M0 4h14v7h-14z", "half"], ["block, function", "M0 0h14v11h-14z", "tall"],
+  ["taken back", "M0 0h2v11h-2zM4 0h2v11h-2zM8 0h2v11h-2zM12 0h2v11h-2z", "half"]];
 const legend = LEGEND.map(([text, d, kind]) => h("span", h("svg", { viewBox: "0 0 14 11" }, h("path", { d, class: kind })), text));
 
 function foot({ film, zoom, allLanes }, quiet) {
