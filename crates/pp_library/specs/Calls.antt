@@ -1,7 +1,7 @@
 -- What each call on a session does. A call has two definitions here: a record of its out-parameters, with the session of its handle, and a
 -- relation between that record before the call, the record after it, and the status that it returns.
 use Rattle.std.specs.Int.{from_bool}
-use Rattle.std.specs.Prelude.{◌≡◌, ℕ, ◌+◌, ◌*◌, ◌<◌, ◌≤◌, ◌⊎◌, Bool, false, List, ◌++◌, drop, length, map, min, replicate, slice_index, take}
+use Rattle.std.specs.Prelude.{◌≡◌, ℕ, ◌+◌, ◌*◌, ◌<◌, ◌≤◌, ◌⊎◌, All, Bool, false, List, ◌++◌, drop, length, map, min, replicate, slice_index, take}
 use Rattle.std.specs.Prelude.{IsSomeAnd, MatchOption, Option, None, Err}
 use Rattle.pp_actions.specs.declared.action.Action.TheVariants.{Turn}
 use Rattle.pp_console.specs.Answering.{AnswersPart}
@@ -13,7 +13,7 @@ use Rattle.pp_library.specs.Outcomes.{OnlyReturns}
 use Rattle.pp_library.specs.Status.{end_status, run_status}
 use Rattle.pp_library.specs.declared.console.Console.{Console}
 use Rattle.pp_library.specs.declared.status.TheConstants.{CLOSED, DONE, NO_MEMORY, OPEN, REFUSED}
-use Rattle.pp_machine.specs.Machine.{Machine, number}
+use Rattle.pp_machine.specs.Machine.{Has, Machine, number}
 use Rattle.pp_machine.specs.Numbering.{fixed_places, place_at}
 use Rattle.pp_machine.specs.WriteList.{list_room}
 use Rattle.pp_machine.specs.declared.olds.Old.{Old}
@@ -147,9 +147,9 @@ Turns most before after result = MatchOption before.session (OnlyReturns CLOSED 
 -- So many actions ahead were performed again, with what they overwrote. If there are too few, nothing is changed.
 abbrev pub Again : ℕ → RecordingOuts → RecordingOuts → ℕ → Type 0
 Again most before after result = MatchOption before.session (OnlyReturns CLOSED before after result)
-    (λ old. IsSomeAnd after.session (λ new.
+    (λ old. ((most ≤ length old.session.ahead) × IsSomeAnd after.session (λ new.
     IsRedone most old.session new.session after.made after.olds (record { actions = after.actions; olds = after.used })
-    × (result ≡ run_status false after.actions most))
+    × (result ≡ run_status false after.actions most)))
     ⊎ (OnlyReturns REFUSED before after result × (length old.session.ahead < most)))
 
 -- ---- pp6600_looks
@@ -159,8 +159,10 @@ pub record LooksOuts : Type 0 where
   pub into : List ℕ
   pub turns : ℕ
 
--- So many turns were performed, as a STEP performs them, with the numbers at these places after each.
+-- So many turns were performed, as a STEP performs them, with the numbers at these places after each. There are 1 to 16 (decimal) places, and
+-- the machine has each of them.
 pub record LooksAt (most : ℕ) (places : List ℕ) (old new : State) (after : LooksOuts) (result : ℕ) : Type 0 where
+  pub choice : (0 < length places) × (length places ≤ MOST_COLUMNS) × All (Has old.machine.setup.central_words) (map place_at places)
   pub hit : Bool
   pub moves : Moves rules old new (after_turns after.turns)
   pub ends : EndsAsStep after.turns old.machine hit

@@ -223,12 +223,12 @@ pub extern "C" fn pp6600_looks(
         return CLOSED;
     };
     let status = match places_from(console.session.machine(), places) {
-        Some(places) => {
-            let ended = look(&mut console.session, most as usize, places.as_slice(), into);
+        Some(chosen) if !places.is_empty() => {
+            let ended = look(&mut console.session, most as usize, chosen.as_slice(), into);
             *turns = ended.turns;
             run_status(ended.hit, ended.turns, most as usize)
         }
-        None => REFUSED,
+        _ => REFUSED,
     };
     *session = Handle::of_box(console);
     status
