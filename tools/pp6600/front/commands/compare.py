@@ -43,7 +43,7 @@ class Side:
         """Returns in words what the run did in a turn."""
         run = self.at(turn - 1)
         slot, maker = run.next_slot, run.processor(run.next_slot)
-        address = self.symbols.beside(slot, maker.registers["P"])
+        address = self.symbols.beside(slot, maker.p)
         return f"TURN {turn:o} PP {slot:02o} P {address} {maker.text}{self.symbols.line_at_p(slot, maker)}"
 
     def path(self, number):
@@ -58,8 +58,7 @@ class Side:
                 addresses, made = run.engine.looks([P + number], min(end - run.position, run.history.room))
                 run.history.performed(made)
                 for at in range(own, made, PROCESSORS):
-                    digits = f"{addresses[at]:04o}"
-                    yield first + at, self.symbols.name(number, digits) or digits
+                    yield first + at, self.symbols.called(number, addresses[at])
 
 
 class Comparison:

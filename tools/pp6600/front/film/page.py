@@ -18,9 +18,9 @@ from ...language.names import AllSymbols
 from ...language.sources import Source, words_of
 from ...language.source.statements import TAB
 from ...run import conditions, sentences
+from ...run.effects import AT_END_OF_BLOCK, AT_END_OF_INPUT, IN_BLOCK, INSTRUCTIONS, STATE_LETTERS
 from ...run.forms import MODES
-from ...run.turn import (
-    AT_END_OF_BLOCK, AT_END_OF_INPUT, IN_BLOCK, INSTRUCTIONS, NAMES, RELATIVE_JUMPS, STATE_LETTERS, TWO_WORDS, WAITS_FOR)
+from ...run.turn import NAMES, RELATIVE_JUMPS, TWO_WORDS, WAITS_FOR
 from ...shell.options import given_options, in_words
 from ..keys import for_page
 from .joining import joined

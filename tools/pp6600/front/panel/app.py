@@ -327,7 +327,7 @@ class Panel:
         if is_central and len(words) > 1:
             raise Failure("in central memory one word is searched at a time")
         memory = Memory(state.central) if is_central else state.memories[view.processor]
-        found = memory.find(words, 1 + (view.word if is_central else view.cell))
+        found = memory.find([int(word, 8) for word in words], 1 + (view.word if is_central else view.cell))
         if found is None:
             raise Failure(f"{text} is not there")
         view.go_to_place(*(("C", found) if is_central else ("M", view.processor, found)))
