@@ -134,7 +134,7 @@ class ListingSymbols(AddressNames):
         if not self.listing.cells and not len(names):
             for number, line in enumerate(without_mark(lines), 1):
                 add_symbol(names, number, line.partition("*")[0].split())
-        super().__init__(names, self.listing.cells)
+        super().__init__(names, {*self.listing.cells, *self.listing.elsewhere, *(cell for one in self.listing.entries for cell in one.left_out)})
 
     @classmethod
     def of_file(cls, path: Optional[str], columns: Optional[Columns] = None, trust: bool = False) -> "ListingSymbols":

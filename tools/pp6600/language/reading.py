@@ -38,6 +38,7 @@ class Printed(NamedTuple):
     equates: Pairs = ()
     is_passed: bool = False  # over, though it has numbers
     source: str = ""  # the source line in the columns of sources
+    left_out: range = range(0)  # the cells of a BSS
 
 
 class Printout:
@@ -254,7 +255,9 @@ class PrintedReading:
         if name not in LABELLED:
             return entry
         self.check_statement()
-        address = self.counter(parts, numbers[0] if numbers else None)
+        before, address = self.location, self.counter(parts, numbers[0] if numbers else None)
+        if name == "BSS" and before is not None and self.location is not None:
+            entry = entry._replace(left_out=range(before, self.location))
         return self.named(entry, self.labels_at(parts, address)) if address is not None else entry
 
     def values_of(self, parts: Parts) -> List[int]:

@@ -13,7 +13,7 @@ from ..run.tape import SourceLine
 from ..run.turn import TWO_WORDS, places_of_setting
 from ..shell.text_files import named, read_lines
 from .listing import Listing, is_printed, shown_messages, without_mark
-from .names import FARTHEST, AddressNames, Names
+from .names import AddressNames, Names
 from .source.codes import CELLS, CODES
 from .source.passes import Program, Texts, assembled
 from .source.scope import FilledCell, ListingRow
@@ -120,11 +120,11 @@ class Source(AddressNames):
             cell = word.row.origin + word.at
             if program.cells.get(cell) == (word.row.words[word.at], word.row.line.number):  # a source with several units has others too
                 self.at_origin[cell] = word
-        super().__init__(names_of(program), self.at_location)
+        super().__init__(names_of(program), {*self.at_location, *(cell for row in program.rows for cell in row.left_out)})
         self.jumps = {**super().entries(), **jumps_back(program.rows)}
         self.literals = {address: text for address, text in program.literals.items() if address not in self.labels}
 
-    def name(self, address: int, farthest: int = FARTHEST) -> str:
+    def name(self, address: int, farthest: Optional[int] = None) -> str:
         """Returns an address by a label, or as the literal that it is of."""
         return self.literals.get(address) or super().name(address, farthest)
 
@@ -205,7 +205,7 @@ def program_of(listing: Listing) -> Program:
     for entry in listing.entries:
         load, address = (entry.load, entry.address) if entry.words else (origin, origin)
         words = tuple(word for word in entry.words if word is not None)
-        rows.append(ListingRow(Line(entry.number, entry.source), load, address, words, bool(words)))
+        rows.append(ListingRow(Line(entry.number, entry.source), load, address, words, bool(words), left_out=entry.left_out))
         origin = load + len(words)
         symbols.seen.update({name: Symbol(number, entry.number, True) for name, number in entry.labels})
         symbols.seen.update({name: Symbol(number, entry.number, False) for name, number in entry.equates})

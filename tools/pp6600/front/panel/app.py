@@ -268,11 +268,12 @@ class Panel:
                 self.show_log()
 
     def go_to(self, text):
-        address = self.symbols.address(self.view.processor, text)
+        address, words = self.symbols.address(self.view.processor, text), text.split()
         if address is not None:
             self.view.go_to_cell(address)
-        elif text:
-            self.view.go_to(text, self.session.size)
+        elif words:
+            place = self.symbols.place_in_digits([words[0].upper(), *words[1:]])
+            self.view.go_to(text if place[1:] == words[1:] else " ".join(place), self.session.size)
 
     def go_to_turn(self, text):
         """Goes to a turn that was made."""
