@@ -49,7 +49,7 @@ def line_at_p(source, registers, cells):
     """Returns the line where a processor is, and why it is not performed if it isn't; in a block transfer that of the instruction, before
     whose second word the transfer goes on: cell 0000 has this address."""
     at = (cells[0] - 1) % CELLS if int(registers["PHASE"], 8) else int(registers["P"], 8)
-    line = source.line_of(at, *(f"{cells[(at + more) % CELLS]:04o}" for more in (0, 1)))
+    line = source.line_of(at, cells[at], cells[(at + 1) % CELLS])
     return [] if line is None else [line.number, "was" if not line.is_there else f"word {line.at + 1}" if line.at else ""]
 
 
@@ -61,7 +61,7 @@ def mark_of(source, row, cells):
         found = cells[base:base + len(row.words)]
         if found == list(row.words):
             return WHOLE
-        line = source.line_of(base, *(f"{word:04o}" for word in cells[base:base + 2]))
+        line = source.line_of(base, *cells[base:base + 2])
         if line and line.number == row.line.number and line.second is not None:
             mark = Mark("m is", base + 1)
     return mark or Mark("now", next(row.origin + at for at, word in enumerate(row.words) if cells[row.origin + at] != word))

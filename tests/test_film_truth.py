@@ -8,11 +8,12 @@ import re
 import shutil
 import unittest
 
+from tests.effects import AT_END_OF_BLOCK, AT_END_OF_INPUT
 from tests.films import in_node
 from tests.generator import BUSY, LOOPS, WATCHED, Maker
 from tests.support import EXAMPLES, TOP, Case, program, read
 from tests.support import run as run_program
-from tests.turns import Recording, Turn, TurnKind
+from tests.turns import NO_WORD, RETURN, ZERO, Recording, Turn, TurnKind
 
 from pp6600.engine.choose import engine_of
 from pp6600.engine.interface import CARD, CLOCK, PHASE, SLOT, WAITS, A, Form, P, Q, place_number
@@ -20,7 +21,7 @@ from pp6600.front.film import page
 from pp6600.run.conditions import joined, parsed
 from pp6600.run.forms import CELLS, CHANNELS, PROCESSORS, STATES
 from pp6600.run.session import Session
-from pp6600.run.turn import AT_END_OF_BLOCK, AT_END_OF_INPUT, NO_WORD, RETURN, ZERO, places_of_setting
+from pp6600.run.turn import places_of_setting
 from pp6600.shell.command_line import arguments
 
 SEEDS = "100 40"  # of the random sessions: the first, and how many
@@ -61,13 +62,13 @@ def kind_of(turn):
         return WAITING
     if turn.processor.code in BLOCKS:
         return BLOCK
-    is_unmoved = all(turn.processor.registers[name] == turn.after[name] for name in ("P", "A", "Q", "PHASE"))
+    is_unmoved = turn.processor[:4] == turn.after[:4]
     return IDLE if is_unmoved or turn.kind is TurnKind.PASSED else BUSY_TURN
 
 
 def constant_of(turn, name):
-    words, d = turn.processor.words, f"{turn.processor.channel:02o}"
-    text = {"d": d, "m": words[1], "dm": d + words[1]}.get(name)
+    d, m = f"{turn.processor.channel:02o}", f"{turn.processor.words[1]:04o}"
+    text = {"d": d, "m": m, "dm": d + m}.get(name)
     return f"the constant {text}" if text else CONSTANTS[name]
 
 

@@ -103,7 +103,7 @@ class Errors(Case):
         """Returns listings in each style, with their words, which are those of the source."""
         found = []
         for source in sources():
-            wanted = {address: f"{cell.word:04o}" for address, cell in assembled(source).cells.items()}
+            wanted = {address: cell.word for address, cell in assembled(source).cells.items()}
             found += [(style(source), wanted) for style in STYLES]
         return found
 

@@ -20,7 +20,7 @@ def sentence_of(words, p="0100", a="000051", q="0002", phase="0000", states="", 
     """Returns the sentence of a processor; channel 5 has the state, and 4321 in its register, and so have all others."""
     memory = {0o20: 0o1234, 0o1234: 0o17, **(cells or {})}
     channels = [Channel(f"{number:02o}", states or "E", "4321") for number in range(CHANNELS)] + [Channel("14", "F", "0777")]
-    processor = Processor({"P": p, "A": a, "Q": q, "PHASE": phase}, words.split())
+    processor = Processor(*(int(number, 8) for number in (p, a, q, phase)), [int(word, 8) for word in words.split()])
     return sentence(processor, lambda address: memory.get(address, 0), channels)
 
 
@@ -75,10 +75,8 @@ class Sentences(Case):
 
     def compare_turn(self, console, lines, seen):
         before, memory = console.registers(0), console.cells(0, 0, CELLS - 1)
-        p = int(before["P"], 8)
         channels = [Channel(*line.split()[1:]) for line in console.channels()]
-        processor = Processor(before, [memory[p], memory[(p + 1) % CELLS]])
-        text = sentence(processor, lambda address: int(memory[address], 8), channels)
+        text = sentence(console.processor(0), lambda address: int(memory[address], 8), channels)
         console.demand("STEP")
         after = console.registers(0)
         with self.subTest(text, lines=lines):
@@ -106,11 +104,11 @@ add_tests(Sentences, Sentences.check, rows_by_heading())
 
 
 class Rows(Case):
-    MEMORY = {0o100: "7712", 0o101: "0001", 0o102: "7412", 0o103: "1477", 0o104: "7112", 0o105: "0060", 0o106: "7512", 0o107: "0100",
-              0o110: "0060"}
+    MEMORY = {0o100: 0o7712, 0o101: 0o0001, 0o102: 0o7412, 0o103: 0o1477, 0o104: 0o7112, 0o105: 0o0060, 0o106: 0o7512, 0o107: 0o0100,
+              0o110: 0o0060}
 
     def word(self, address):
-        return self.MEMORY.get(address % CELLS, "0000")
+        return self.MEMORY.get(address % CELLS, 0)
 
     def test_rows(self):
         """The loader of README.md."""
@@ -118,5 +116,5 @@ class Rows(Case):
         self.assertEqual([(0o100, "FNC 12 0001"), (0o102, "ACN 12"), (0o103, "LDN 77"), (0o104, "IAM 12 0060"), (0o106, "DCN 12"),
                           (0o107, "LJM 00 0060")], [(row.address, row.text) for row in rows])
         self.assertEqual("LJM 00", row_at(self.word, 0o107, {0o110}).text, "at P another row begins")
-        self.assertEqual("UJN 73 to 0074", row_at(lambda address: "0373", 0o100, ()).text)
-        self.assertEqual(0, row_at(lambda address: "0100", 0o7776, ()).end)
+        self.assertEqual("UJN 73 to 0074", row_at(lambda address: 0o0373, 0o100, ()).text)
+        self.assertEqual(0, row_at(lambda address: 0o0100, 0o7776, ()).end)

@@ -1,5 +1,5 @@
-"""What a turn did by the table of instructions that a film's page has: what it wrote, and from what. tests/test_film_truth.py compares the page
-with it."""
+"""What a turn did by the table of effects of the tests: what it wrote, and from what. tests/test_film_truth.py compares a film's page with
+it."""
 
 import enum
 import functools
@@ -9,13 +9,15 @@ from typing import NamedTuple, Optional, Tuple
 
 from pp6600.engine import interface as flat
 from pp6600.run.forms import CELLS, CENTRAL_ADDRESSES, CLOCK, FRAME_WORDS, PROCESSORS, STATES, Place
-from pp6600.run.turn import (
-    AT_END_OF_BLOCK, AT_END_OF_INPUT, CONDITIONAL_JUMPS, NO_WORD, P_OF_FRAME, RELATIVE_JUMPS, RETURN, STATE_LETTERS, WITHOUT_B_FIELD, WORD, ZERO,
-    Processor, Read)
+from tests.effects import AT_END_OF_BLOCK, AT_END_OF_INPUT, IN_BLOCK, INSTRUCTIONS, STATE_LETTERS
+from pp6600.run.turn import CONDITIONAL_JUMPS, RELATIVE_JUMPS, Processor
+from pp6600.run.written import Read
 
 AT_ONCE = 0o40000  # turns
 WIDTH = 16  # bytes of a place and its number
 BLOCK_INPUT = 0o71
+RETURN, WORD, ZERO, NO_WORD = "return", "word", "zero", "no central word"
+P_OF_FRAME, WITHOUT_B_FIELD = (0, 1), (0, 1, 2, 3)  # parts of word 0 of the frame, and what it gets of a central word
 CONSTANTS = ("d", "m", "dm", RETURN, WORD, ZERO, *STATE_LETTERS)
 
 
@@ -57,21 +59,13 @@ class Recording:
 
     # ---- a turn
 
-    def registers(self, number, at):
-        """Returns the registers of a processor before a turn."""
-        p, a, q, phase = (self.number(first + number, at) for first in (flat.P, flat.A, flat.Q, flat.PHASE))
-        return {"P": f"{p:04o}", "A": f"{a:06o}", "Q": f"{q:04o}", "PHASE": f"{phase:04o}"}
+    def processor_at(self, number, at):
+        """Returns a processor as it was before a turn."""
+        return Processor.read(number, lambda place: self.number(place, at))
 
     def cell(self, number, address, at):
         """Returns the number in a cell of a processor before a turn; after cell 7777 comes cell 0000."""
         return self.number(flat.CELLS + CELLS * number + address % CELLS, at)
-
-    def processor_before(self, at):
-        """Returns the processor of a turn as it was before it."""
-        number = self.processor(at)
-        registers = self.registers(number, at)
-        p = int(registers["P"], 8)
-        return Processor(registers, [f"{self.cell(number, p + more, at):04o}" for more in (0, 1)])
 
 
 def first_of(place, olds, begin=0):
@@ -107,7 +101,7 @@ class Turn:
 
     def __init__(self, recording, at):
         self.recording, self.at, self.number, self.size = recording, at, recording.processor(at), recording.run.central_size
-        self.processor, self.after = recording.processor_before(at), recording.registers(self.number, at + 1)
+        self.processor, self.after = recording.processor_at(self.number, at), recording.processor_at(self.number, at + 1)
 
     def cell(self, address):
         """Returns the number that was in a cell of its processor before it."""
@@ -122,15 +116,19 @@ class Turn:
             return TurnKind.WAITED
         if self.processor.phase:
             return TurnKind.IN_BLOCK
-        return TurnKind.ACTED if self.processor.row.effects else TurnKind.PASSED
+        return TurnKind.ACTED if self.row.effects else TurnKind.PASSED
+
+    @property
+    def row(self):
+        """The row of the table that says what it did; in a block transfer that of a turn that goes on."""
+        return (IN_BLOCK if self.processor.phase else INSTRUCTIONS)[self.processor.code]
 
     def effects(self):
         """Returns the effects that the turn had, of those in the table."""
-        processor, after = self.processor, self.after
-        before = processor.registers
-        if processor.phase and after["PHASE"] == "0000":
-            return AT_END_OF_INPUT if processor.code == BLOCK_INPUT and before["A"] != "000000" else AT_END_OF_BLOCK
-        return () if self.kind is TurnKind.WAITED else processor.row.effects
+        processor = self.processor
+        if processor.phase and not self.after.phase:
+            return AT_END_OF_INPUT if processor.code == BLOCK_INPUT and processor.a else AT_END_OF_BLOCK
+        return () if self.kind is TurnKind.WAITED else self.row.effects
 
     def jumped(self):
         """Returns whether a conditional jump wrote P. One to the instruction after it is as if P had gone on, and a relative
@@ -138,8 +136,7 @@ class Turn:
         processor = self.processor
         if processor.code in RELATIVE_JUMPS and processor.channel in (0o00, 0o77):
             return False
-        following = (processor.p + processor.row.words) % CELLS
-        return int(self.after["P"], 8) != following
+        return self.after.p != processor.following
 
     def writes(self):
         """Returns what it wrote. That P goes on to the next instruction, or a block to its next cell, is no write."""
@@ -151,7 +148,7 @@ class Turn:
 
     def central(self, count=1):
         """The central words from A on; None for each that there is not."""
-        first = int(self.processor.registers["A"], 8)
+        first = self.processor.a
         addresses = [(first + at) % CENTRAL_ADDRESSES for at in range(count)]
         return [Place("C", (address,)) if address < self.size else None for address in addresses]
 
@@ -199,7 +196,7 @@ class Turn:
 
     def has_cleared_its_return(self):
         """Whether the end of an input put its zero into cell 0000, from which P comes in the same turn."""
-        return self.effects() is AT_END_OF_INPUT and self.processor.registers["P"] == "0000"
+        return self.effects() is AT_END_OF_INPUT and self.processor.p == 0
 
     # ---- channels
 

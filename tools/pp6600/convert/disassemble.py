@@ -18,7 +18,7 @@ def main() -> None:
     parser.add_argument("file", nargs="?", metavar="FILE", help="without it, standard input is the file")
     asked = parser.parse()
     listing = Listing.of_file(asked.file, has_gaps=True)
-    cells = {address: int(word, 8) for address, (word, _) in listing.cells.items()}
+    cells = {address: word for address, (word, _) in listing.cells.items()}
     if not cells:
         raise Failure(f"{named(asked.file)} has no cell")
     write_lines(source_of(cells, asked.entry or [min(cells)], listing.names.labels))

@@ -42,7 +42,7 @@ def lines_of(asked: Namespace) -> List[str]:
         raise Failure("give a text, as words HELLO.")
     text = " ".join(asked.text)
     if asked.back:
-        return [text_of([word_of(word) for word in text.split()])]
+        return [text_of([int(word_of(word), 8) for word in text.split()])]
     words = words_of(text)
     if asked.at:
         return set_lines(processor(asked.at[0]), cell(asked.at[1]), words)

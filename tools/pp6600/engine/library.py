@@ -224,7 +224,8 @@ class LibrarySession:
         into = room_for(c_uint64, count)
         if self._call("numbers", place, into, c_size_t(count)) != DONE:
             raise Failure(f"the machine does not have the places {first} to {first + count - 1}")
-        return into[:]
+        numbers: List[int] = into[:]
+        return numbers
 
     def counts(self) -> SessionCounts:
         """Counts the actions that the session keeps."""

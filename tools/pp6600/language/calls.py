@@ -60,18 +60,13 @@ def calls(run: Session, number: int, source: Source, position: Position) -> List
 
 def sentence(run: Session, number: int, call: SubroutineCall, symbols: AllSymbols) -> str:
     """Returns what is said of a call."""
-    text = f"{called(symbols, number, call.call.entry)} called from {called(symbols, number, call.address)}, " \
+    text = f"{symbols.called(number, call.call.entry)} called from {symbols.called(number, call.address)}, " \
            f"turn {run.tape.turn(call.call.position):o}"
     for step, what in ((call.overwritten, "its return word"), (call.lost, "its jump back")):
         if step:
             text += f"; {what} is {step.number} now, overwritten in turn {run.tape.turn(step.position):o} by " \
                     f"{writer(step, number, symbols)}"
     return text
-
-
-def called(symbols: AllSymbols, number: int, address: int) -> str:
-    digits = f"{address % CELLS:04o}"
-    return symbols.name(number, digits) or digits
 
 
 def writer(step: Step, number: int, symbols: AllSymbols) -> str:
@@ -81,4 +76,4 @@ def writer(step: Step, number: int, symbols: AllSymbols) -> str:
     performer = step.processor
     if performer.phase and step.block and step.block.step and step.block.step.cause == TURN:
         performer = step.block.step.processor
-    return f"{performer.name} at {called(symbols, number, performer.p)}"
+    return f"{performer.name} at {symbols.called(number, performer.p)}"

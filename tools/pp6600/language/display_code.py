@@ -22,6 +22,6 @@ def words_of(text: str) -> List[str]:
     return [first + second for first, second in zip(codes[::2], codes[1::2])]
 
 
-def text_of(words: Sequence[str]) -> str:
-    """Returns the text of words, each of four octal digits."""
-    return "".join(SYMBOLS[int(word[:2], 8)] + SYMBOLS[int(word[2:], 8)] for word in words)
+def text_of(words: Sequence[int]) -> str:
+    """Returns the text of words."""
+    return "".join(SYMBOLS[word >> 6] + SYMBOLS[word & 0o77] for word in words)

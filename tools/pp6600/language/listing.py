@@ -60,8 +60,8 @@ class Listing:
     def __init__(self, lines: Sequence[str], columns: Optional[Columns] = None, trust: bool = False, has_gaps: bool = False) -> None:
         """The lines are those of a text. Without columns they are guessed. What is in doubt raises InDoubt, or is kept. Between the rows
         of a dump there may be gaps."""
-        self.cells: Dict[int, Tuple[str, Printed]] = {}  # by address: the word and the line
-        self.elsewhere: Dict[int, Tuple[str, Printed]] = {}  # the same of code for other addresses than it is loaded to, by these
+        self.cells: Dict[int, Tuple[int, Printed]] = {}  # by address: the word and the line
+        self.elsewhere: Dict[int, Tuple[int, Printed]] = {}  # the same of code for other addresses than it is loaded to, by these
         self.names = Names()
         printout = Printout(without_mark(lines), columns, has_gaps)
         self.columns = printout.columns
@@ -79,7 +79,7 @@ class Listing:
 
     def add(self, entry: Printed) -> None:
         """Takes what a line says, but for words that are unreadable. Two lines must not fill one cell."""
-        words = [(at, word) for at, word in enumerate(entry.words) if word]
+        words = [(at, word) for at, word in enumerate(entry.words) if word is not None]
         wrong = next(filter(None, (self.why_not_into(entry.load + at) for at, _ in words)), None)
         if wrong:
             self.doubts.append(Message(entry.number, 1, wrong))
@@ -97,7 +97,7 @@ class Listing:
         return f"cell {address:04o} is filled by line {self.cells[address][1].number} (decimal) too" if address in self.cells else ""
 
     def set_lines(self, processor: int) -> List[str]:
-        runs = runs_of({address: word for address, (word, _) in self.cells.items()})
+        runs = runs_of({address: f"{word:04o}" for address, (word, _) in self.cells.items()})
         return [line for first, words in runs for line in set_lines(processor, first, words)]
 
     def counts(self) -> str:
@@ -134,7 +134,7 @@ class ListingSymbols(AddressNames):
         if not self.listing.cells and not len(names):
             for number, line in enumerate(without_mark(lines), 1):
                 add_symbol(names, number, line.partition("*")[0].split())
-        super().__init__(names, self.listing.cells)
+        super().__init__(names, {*self.listing.cells, *self.listing.elsewhere, *(cell for one in self.listing.entries for cell in one.left_out)})
 
     @classmethod
     def of_file(cls, path: Optional[str], columns: Optional[Columns] = None, trust: bool = False) -> "ListingSymbols":
@@ -145,10 +145,10 @@ class ListingSymbols(AddressNames):
 
     def texts(self) -> Dict[int, Tuple[int, str]]:
         """Returns the texts of the listing by the addresses at which they begin, each with its word."""
-        return {entry.load: (int(word, 8), entry.text) for word, entry in self.listing.cells.values()
+        return {entry.load: (word, entry.text) for word, entry in self.listing.cells.values()
                 if entry.text and self.text(entry.load, word)}
 
-    def text(self, address: int, word: str) -> str:
+    def text(self, address: int, word: int) -> str:
         """Returns the listing's text of the line that begins at a cell, if this word is still there; or nothing."""
         found = (cells.get(address) for cells in (self.listing.cells, self.listing.elsewhere))
         return next((one[1].text for one in found if one and one[0] == word and one[1].load == address), "")

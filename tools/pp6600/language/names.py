@@ -8,8 +8,9 @@ from typing import Any, Dict, Iterable, List, Optional, Sequence, Tuple
 
 from ..failure import Failure
 from ..run.forms import CELLS
+from ..run.turn import Processor
 
-FARTHEST = 0o77  # from a symbol to a cell that the listing does not fill
+FARTHEST = 0o77  # from a symbol of a list to a cell: such a list says nothing of the program's cells
 EQUATES = ("=", "EQU")  # before the number of a name that is no label
 EXIT = "X"  # at the end of the name of a subroutine's jump back
 OF_A_PROCESSOR = ("M", "A", "P", "Q")
@@ -61,17 +62,19 @@ class AddressNames:
 
     is_source = False  # which is loaded
 
-    def __init__(self, names: Names, filled: Iterable[int]) -> None:
-        """The cells that are filled belong to the label before them, however far it is."""
-        self.names, self.filled = names, filled
+    def __init__(self, names: Names, cells: Iterable[int]) -> None:
+        """The cells of the program belong to the label before them, however far it is, and all others to none."""
+        self.names, self.cells = names, frozenset(cells)
         self.labels = names.firsts()
         self.addresses = sorted(self.labels)
 
-    def name(self, address: int, farthest: int = FARTHEST) -> str:
-        """Returns an address by the nearest label before it, as START+3; if none is near, a name of this number, if any."""
+    def name(self, address: int, farthest: Optional[int] = None) -> str:
+        """Returns an address by the nearest label before it, as START+3; if none is near, a name of this number, if any. Outside the program
+        a label may be so far."""
         at = bisect.bisect_right(self.addresses, address) - 1
         distance = address - self.addresses[at] if at >= 0 else CELLS
-        if at < 0 or distance > farthest and address not in self.filled:
+        farthest = (0 if self.cells else FARTHEST) if farthest is None else farthest
+        if at < 0 or distance > farthest and address not in self.cells:
             return self.names.equates.get(address, [""])[0]
         return f"{self.labels[self.addresses[at]]}{f'+{distance:o}' if distance else ''}"
 
@@ -85,11 +88,11 @@ class AddressNames:
         return {address: address + 1 for address, names in self.names.labels.items()
                 if any(name + EXIT in names for name in self.names.labels.get(address + 1, ()))}
 
-    def beside(self, address: int, words: Sequence[str]) -> str:
+    def beside(self, address: int, words: Sequence[int]) -> str:
         """Returns the line of a source whose instruction is in a cell, or was; nothing without a source."""
         return ""
 
-    def is_loaded(self, address: int, word: str) -> bool:
+    def is_loaded(self, address: int, word: int) -> bool:
         """Returns whether a cell may have the word with which it was loaded."""
         return True
 
@@ -104,10 +107,10 @@ class AllSymbols:
     def __init__(self) -> None:
         self.of: Dict[int, Any] = {}  # by processor its symbols, or its source
 
-    def name(self, processor: int, digits: str) -> str:
-        """Returns an address of a processor, of which these are the digits, as START+3; nothing if no label is near."""
+    def name(self, processor: int, address: int) -> str:
+        """Returns an address of a processor as START+3; nothing if no label is near."""
         symbols = self.of.get(processor)
-        return str(symbols.name(int(digits, 8))) if symbols and digits.isdigit() else ""
+        return str(symbols.name(address)) if symbols else ""
 
     def tables(self) -> Dict[int, Dict[str, Any]]:
         """Returns for each processor with symbols the names of its addresses, and the texts of its lines with their words."""
@@ -155,7 +158,7 @@ class AllSymbols:
         """Returns the processors with a source, each with it."""
         return [(number, symbols) for number, symbols in self.of.items() if symbols.is_source]
 
-    def is_loaded(self, processor: int, address: int, word: str) -> bool:
+    def is_loaded(self, processor: int, address: int, word: int) -> bool:
         """Returns whether a cell of a processor has the word that its source loaded there; without a source it may."""
         symbols = self.of.get(processor)
         return symbols is None or symbols.is_loaded(address, word)
@@ -164,21 +167,26 @@ class AllSymbols:
         """Returns the lines of a script, after those that load the sources."""
         return [*(line for number, symbols in self.of.items() for line in symbols.loading(number)), *lines]
 
-    def text(self, processor: int, digits: str, word: str) -> str:
+    def text(self, processor: int, address: int, word: int) -> str:
         """Returns the text of the line beside a cell, if the word is that of the line; or nothing."""
         symbols = self.of.get(processor)
-        return str(symbols.text(int(digits, 8), word)) if symbols else ""
+        return str(symbols.text(address, word)) if symbols else ""
 
-    def line(self, processor: int, digits: str, words: Sequence[str]) -> str:
-        """Returns the line of a source whose instruction is in a cell, with these words, or was there; nothing without one."""
+    def line(self, processor: int, address: int, words: Sequence[int]) -> str:
+        """Returns the line of a source whose instruction is in a cell, with these words, or was there, after two blanks; nothing without
+        one."""
         symbols = self.of.get(processor)
-        return str(symbols.beside(int(digits, 8), words)) if symbols and digits.isdigit() else ""
-
-    def line_at_p(self, number: int, processor: Any) -> str:
-        """Returns the line of a source at P of a processor, after two blanks; nothing in a block transfer."""
-        line = "" if processor.phase else self.line(number, processor.registers["P"], processor.words)
+        line = symbols.beside(address, words) if symbols else ""
         return f"  {line}" if line else ""
 
-    def beside(self, processor: int, digits: str) -> str:
+    def line_at_p(self, number: int, processor: Processor) -> str:
+        """Returns what `line` does at P of a processor; nothing in a block transfer."""
+        return "" if processor.phase else self.line(number, processor.p, processor.words)
+
+    def beside(self, processor: int, address: int) -> str:
         """Returns the digits of an address, with its name after them if there is one."""
-        return f"{digits} {self.name(processor, digits)}".rstrip()
+        return f"{address:04o} {self.name(processor, address)}".rstrip()
+
+    def called(self, processor: int, address: int) -> str:
+        """Returns the name of an address, or else its digits."""
+        return self.name(processor, address) or f"{address:04o}"

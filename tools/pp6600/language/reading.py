@@ -26,18 +26,19 @@ WITH_ZEROS = re.compile(f">?0[0-7]{{{FULL - 1}}}[bB]?")
 
 class Printed(NamedTuple):
     """What a line of a listing says: its number, decimal from 1; the source line; the address, which is that of its label, and the one
-    to which its words are loaded; the words, of four digits, or None if one is unreadable; and the names that it defines, with the
+    to which its words are loaded; the words, or None if one is unreadable; and the names that it defines, with the
     numbers of these."""
 
     number: int
     text: str
     address: int = 0
     load: int = 0
-    words: Tuple[Optional[str], ...] = ()
+    words: Tuple[Optional[int], ...] = ()
     labels: Pairs = ()
     equates: Pairs = ()
     is_passed: bool = False  # over, though it has numbers
     source: str = ""  # the source line in the columns of sources
+    left_out: range = range(0)  # the cells of a BSS
 
 
 class Printout:
@@ -153,9 +154,9 @@ class PrintedReading:
         self.bits = (before + sum(map(int, BITS.findall(parts.expression)))) % WORD_BITS if is_vfd else 0
         return not is_vfd or not before and not self.bits
 
-    def word(self, token: Token) -> Optional[str]:
+    def word(self, token: Token) -> Optional[int]:
         if WORD.fullmatch(token.text):
-            return token.text[:4]
+            return int(token.text[:4], 8)
         few = SHORT.fullmatch(token.text)
         self.doubt(token, f"{token.text} has fewer than four digits" if few else f"{token.text} is no word of four octal digits")
         return None
@@ -254,7 +255,9 @@ class PrintedReading:
         if name not in LABELLED:
             return entry
         self.check_statement()
-        address = self.counter(parts, numbers[0] if numbers else None)
+        before, address = self.location, self.counter(parts, numbers[0] if numbers else None)
+        if name == "BSS" and before is not None and self.location is not None:
+            entry = entry._replace(left_out=range(before, self.location))
         return self.named(entry, self.labels_at(parts, address)) if address is not None else entry
 
     def values_of(self, parts: Parts) -> List[int]:
@@ -300,7 +303,7 @@ class PrintedReading:
         elif name == "BSSZ":
             count = max(0, min(value, CELLS))
             if count:
-                self.entries.append(Printed(self.number, "", self.location or 0, self.origin, ("0000",) * count))
+                self.entries.append(Printed(self.number, "", self.location or 0, self.origin, (0,) * count))
             self.origin += count
         else:
             self.origin += value
@@ -367,7 +370,7 @@ class PrintedReading:
     def check_statement(self) -> None:
         """Compares the words of a statement with what the assembler makes of it."""
         statement, self.statement = self.statement, []
-        words = [int(word, 8) for entry in statement for word in entry.words if word]
+        words = [word for entry in statement for word in entry.words if word is not None]
         if not statement or not self.known or any(None in entry.words for entry in statement):
             return
         first, parts = statement[0], self.printout.parts[statement[0].number - 1]

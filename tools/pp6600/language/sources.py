@@ -13,7 +13,7 @@ from ..run.tape import SourceLine
 from ..run.turn import TWO_WORDS, places_of_setting
 from ..shell.text_files import named, read_lines
 from .listing import Listing, is_printed, shown_messages, without_mark
-from .names import FARTHEST, AddressNames, Names
+from .names import AddressNames, Names
 from .source.codes import CELLS, CODES
 from .source.passes import Program, Texts, assembled
 from .source.scope import FilledCell, ListingRow
@@ -73,14 +73,19 @@ class Word(NamedTuple):
     number: int
 
     @property
-    def digits(self) -> str:
-        return f"{self.row.words[self.at]:04o}"
+    def word(self) -> int:
+        return self.row.words[self.at]
+
+    @property
+    def m(self) -> Optional[int]:
+        """The second word, if this is the first one of an instruction of two."""
+        has_two = self.at == 0 and len(self.row.words) == 2 and self.row.words[0] >> 6 in TWO_WORDS
+        return self.row.words[1] if has_two else None
 
     @property
     def second(self) -> Optional[str]:
-        """The second word, if this is the first one of an instruction of two."""
-        has_two = self.at == 0 and len(self.row.words) == 2 and self.row.words[0] >> 6 in TWO_WORDS
-        return f"{self.row.words[1]:04o}" if has_two else None
+        """Its digits, for a film's page."""
+        return None if self.m is None else f"{self.m:04o}"
 
 
 class CellLine(NamedTuple):
@@ -91,14 +96,14 @@ class CellLine(NamedTuple):
     text: str
     at: int  # which of the words of its row it is, from 0
     is_there: bool
-    second: Optional[str]
+    second: Optional[int]
     row: ListingRow
 
     @property
     def note(self) -> str:
         """What is to be said after the text: which word it is, if not the first, and a second word that has changed."""
         at = f"  word {self.at + 1}" if self.at else ""
-        return at if self.second is None else f"{at}  m is {self.second}"
+        return at if self.second is None else f"{at}  m is {self.second:04o}"
 
 
 class Source(AddressNames):
@@ -115,11 +120,11 @@ class Source(AddressNames):
             cell = word.row.origin + word.at
             if program.cells.get(cell) == (word.row.words[word.at], word.row.line.number):  # a source with several units has others too
                 self.at_origin[cell] = word
-        super().__init__(names_of(program), self.at_location)
+        super().__init__(names_of(program), {*self.at_location, *(cell for row in program.rows for cell in row.left_out)})
         self.jumps = {**super().entries(), **jumps_back(program.rows)}
         self.literals = {address: text for address, text in program.literals.items() if address not in self.labels}
 
-    def name(self, address: int, farthest: int = FARTHEST) -> str:
+    def name(self, address: int, farthest: Optional[int] = None) -> str:
         """Returns an address by a label, or as the literal that it is of."""
         return self.literals.get(address) or super().name(address, farthest)
 
@@ -153,9 +158,9 @@ class Source(AddressNames):
         word = self.at_origin[place.numbers[1]]
         return f"{self.path}:{word.row.line.number} WORD {word.number}"
 
-    def is_loaded(self, address: int, word: str) -> bool:
+    def is_loaded(self, address: int, word: int) -> bool:
         """Returns whether a cell has the word with which the source filled it."""
-        return address in self.at_origin and self.at_origin[address].digits == word
+        return address in self.at_origin and self.at_origin[address].word == word
 
     def entries(self) -> Dict[int, int]:
         """Returns the cells of return addresses by the addresses of the jumps back: of NAME and NAMEX, and of the second word of an
@@ -164,22 +169,22 @@ class Source(AddressNames):
 
     # ---- whose line a cell is
 
-    def line_of(self, address: int, word: str, second: Optional[str] = None) -> Optional[CellLine]:
+    def line_of(self, address: int, word: int, second: Optional[int] = None) -> Optional[CellLine]:
         """Returns the line that a cell is of, which has this word, with the cell after it; or else the one that it was of, if the
         source has filled it."""
         origin = self.at_origin.get(address)
-        found = [one for one in (*self.at_location.get(address, ()), origin) if one and one.digits == word]
+        found = [one for one in (*self.at_location.get(address, ()), origin) if one and one.word == word]
         if not found:
             return cell_line(origin, False) if origin else None
-        whole = next((one for one in found if second is None or one.second in (None, second)), None)
+        whole = next((one for one in found if second is None or one.m in (None, second)), None)
         return cell_line(whole, True) if whole else cell_line(found[0], True, second)
 
-    def text(self, address: int, word: str, second: Optional[str] = None) -> str:
+    def text(self, address: int, word: int, second: Optional[int] = None) -> str:
         """Returns the text of the line that begins at a cell, if this word is still there; or nothing."""
         line = self.line_of(address, word, second)
         return line.text if line and line.is_there and line.at == 0 else ""
 
-    def beside(self, address: int, words: Sequence[str]) -> str:
+    def beside(self, address: int, words: Sequence[int]) -> str:
         """Returns the line whose instruction is in a cell, with its words, or was; with the second word if that has changed."""
         line = self.line_of(address, *words[:2])
         if line and line.is_there:
@@ -199,12 +204,12 @@ def program_of(listing: Listing) -> Program:
     rows, origin, symbols = [], 0, Symbols()
     for entry in listing.entries:
         load, address = (entry.load, entry.address) if entry.words else (origin, origin)
-        words = tuple(int(word, 8) for word in entry.words if word is not None)
-        rows.append(ListingRow(Line(entry.number, entry.source), load, address, words, bool(words)))
+        words = tuple(word for word in entry.words if word is not None)
+        rows.append(ListingRow(Line(entry.number, entry.source), load, address, words, bool(words), left_out=entry.left_out))
         origin = load + len(words)
         symbols.seen.update({name: Symbol(number, entry.number, True) for name, number in entry.labels})
         symbols.seen.update({name: Symbol(number, entry.number, False) for name, number in entry.equates})
-    cells = {address: FilledCell(int(word, 8), line.number) for address, (word, line) in listing.cells.items()}
+    cells = {address: FilledCell(word, line.number) for address, (word, line) in listing.cells.items()}
     return Program(cells, listing.start, symbols, rows, [])
 
 
@@ -235,5 +240,5 @@ def text_of(row: ListingRow) -> str:
     return row.line.text.expandtabs(TAB).strip()
 
 
-def cell_line(word: Word, is_there: bool, second: Optional[str] = None) -> CellLine:
+def cell_line(word: Word, is_there: bool, second: Optional[int] = None) -> CellLine:
     return CellLine(word.row.line.number, text_of(word.row), word.at, is_there, second, word.row)

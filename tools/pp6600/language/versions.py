@@ -24,26 +24,25 @@ class Versions:
         self.cells = [(first + at, second + at) for first, second in pairs  # the addresses of each that both have
                       for at in range(min(cells_of_label(one, first), cells_of_label(other, second)))]
 
-    def is_same(self, digits: Sequence[str]) -> bool:
+    def is_same(self, numbers: Sequence[int]) -> bool:
         """Returns whether two numbers are the same one."""
-        if digits[0] == digits[1]:
+        if numbers[0] == numbers[1]:
             return True
-        numbers = [int(one, 8) for one in digits]
         one, other = (address_name(names, number) for names, number in zip(self.names, numbers)) if max(numbers) < CELLS else ("", "")
         return one == other != ""
 
     def replaces(self, difference: Difference) -> bool:
         """Returns whether a difference of two states is none here, or is found by the labels."""
         kind, number, *_ = difference[0].split()
-        return number == f"{self.number:02o}" and (kind == "M" or kind in ADDRESSES and self.is_same(difference[1:]))
+        return number == f"{self.number:02o}" and (kind == "M" or kind in ADDRESSES and self.is_same([int(one, 8) for one in difference[1:]]))
 
     def differences(self, states: Sequence[State]) -> Iterator[Difference]:
         """Yields the cells that differ, by the address and the label of the first run."""
         one, other = (state.memories[self.number] for state in states)
         for first, second in self.cells:
-            words = one.word(first), other.word(second)
+            words = one.number(first), other.number(second)
             if not self.is_same(words):
-                yield (f"M {self.number:02o} {first:04o} {self.names[0].name(first)}", *words)
+                yield f"M {self.number:02o} {first:04o} {self.names[0].name(first)}", f"{words[0]:04o}", f"{words[1]:04o}"
 
 
 def address_name(names: AddressNames, number: int) -> str:

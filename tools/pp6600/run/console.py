@@ -11,14 +11,14 @@ from ..engine.choose import default_engine, engine_of
 from ..engine.interface import Rejection
 from ..failure import Failure
 from .forms import CELLS, CLOCK, PROCESSORS, Place, Registers, fields, is_refusal
-from .turn import Processor
+from .turn import Cell, Processor
 
 LONGEST_LINE = 255
 Self = TypeVar("Self", bound="Console")
 NO_ANSWER = re.compile("[ \t]*([*][\t -~]*)?")  # a note, or a line without words
 
 
-def number_of(what: str, number: int) -> int:
+def checked_number(what: str, number: int) -> int:
     """Returns a number that a caller gives; what is no int, or is negative, is a failure."""
     if not isinstance(number, int) or number < 0:
         raise Failure(f"{what} is a number from 0 on, such as 0o12, and not {number!r:.40}")
@@ -94,7 +94,7 @@ class Console:
 
     def registers(self, processor: int) -> Registers:
         """Returns P, A, Q, PHASE and SLOT of a processor, 0 to 0o11, by their names, each as its octal digits."""
-        registers = fields(self.demand(f"DUMP PP {number_of('a processor', processor):o}")[0])
+        registers = fields(self.demand(f"DUMP PP {checked_number('a processor', processor):o}")[0])
         del registers["PP"]
         return registers
 
@@ -103,19 +103,21 @@ class Console:
 
     def cells(self, processor: int, first: int, last: int) -> List[str]:
         """Returns the words of the cells from first to last, at most 0o7777, each as its four octal digits."""
-        number_of("a processor", processor)
-        rows = self.demand(f"DUMP M {processor:o} {number_of('a cell', first):o} {number_of('a cell', last):o}")
+        checked_number("a processor", processor)
+        rows = self.demand(f"DUMP M {processor:o} {checked_number('a cell', first):o} {checked_number('a cell', last):o}")
         return [word for row in rows for word in row.split()[1:]]
 
-    def words_at(self, processor: int, address: int) -> List[str]:
-        """Returns the words of two cells; after cell 7777 comes cell 0000."""
-        memory = flat.CELLS + CELLS * processor
-        return [f"{self.engine.numbers(memory + (address + at) % CELLS, 1)[0]:04o}" for at in (0, 1)]
+    def number_of(self, place: int) -> int:
+        """Returns the number at a place of the flat order."""
+        return self.engine.numbers(place, 1)[0]
+
+    def cell_of(self, processor: int) -> Cell:
+        """Returns the function that reads the cells of a processor; after cell 7777 comes cell 0000."""
+        return lambda address: self.number_of(flat.CELLS + CELLS * processor + address % CELLS)
 
     def processor(self, number: int) -> Processor:
         """Returns a processor as it is now."""
-        registers = self.registers(number)
-        return Processor(registers, self.words_at(number, int(registers["P"], 8)))
+        return Processor.read(number, self.number_of)
 
     def channels(self) -> List[str]:
         """Returns a line of DUMP H for each channel and the clock, as H 03 E 0017."""
@@ -123,13 +125,13 @@ class Console:
 
     def channel(self, number: int) -> str:
         """Returns the state and the register of a channel, 0 to 0o13, or of the clock, 0o14, as E 0017."""
-        if number_of("a channel", number) > CLOCK:
+        if checked_number("a channel", number) > CLOCK:
             raise Failure(f"a channel is 0 to 13, or 14 for the clock (octal), and not {number:o}")
         return self.channels()[number][5:]
 
     def central(self, first: int, last: int) -> List[str]:
         """Returns a line of DUMP C for each central word from first to last."""
-        return self.demand(f"DUMP C {number_of('a central address', first):o} {number_of('a central address', last):o}")
+        return self.demand(f"DUMP C {checked_number('a central address', first):o} {checked_number('a central address', last):o}")
 
     @property
     def central_size(self) -> int:
@@ -168,14 +170,14 @@ class Console:
         if not place.exists:  # which is refused
             look = {"M": lambda: self.cells(numbers[0], numbers[1], numbers[1]), "H": lambda: self.channel(numbers[0])}
             look.get(kind, lambda: self.registers(numbers[0]))()
-        return f"{self.engine.numbers(place.number, 1)[0]:0{place.digits}o}"
+        return f"{self.number_of(place.number):0{place.digits}o}"
 
     def _repr_html_(self) -> str:
         """Returns the machine as a small table, which a notebook shows."""
         if self.is_ended:
             return "<p>This simulator has ended.</p>"
         from .notebook import table_of  # no tool needs it
-        return table_of([self.processor(number) for number in range(PROCESSORS)], self.channels(), [self.reader(), self.printer()[0]])
+        return table_of(self.slot(), [self.processor(number) for number in range(PROCESSORS)], self.channels(), [self.reader(), self.printer()[0]])
 
 
 def file_of(words: Sequence[str], text: str) -> str:

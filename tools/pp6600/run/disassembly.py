@@ -5,7 +5,7 @@ from typing import Callable, Container, List, NamedTuple, Optional, Tuple
 from .forms import CELLS
 from .turn import NAMES, RELATIVE_JUMPS, TWO_WORDS, target_of
 
-Word = Callable[[int], str]  # the digits of a cell, by its address
+Word = Callable[[int], int]  # the number in a cell, by its address
 
 FROM_BEFORE = 8  # more cells before a window, so that its rows begin where the instructions do
 HIGH = 20  # rows of a window from which on the present one stands in its middle
@@ -13,10 +13,10 @@ LEAST_ABOVE = 2  # rows in a window above the one that it must show, if it has r
 
 
 class Row(NamedTuple):
-    """An instruction: its address and its one or two words, each of four digits."""
+    """An instruction: its address and its one or two words."""
 
     address: int
-    words: Tuple[str, ...]
+    words: Tuple[int, ...]
 
     @property
     def end(self) -> int:
@@ -29,20 +29,20 @@ class Row(NamedTuple):
     @property
     def text(self) -> str:
         """The name and d, with the second word; with the address to which a relative jump leads."""
-        code, d = int(self.words[0], 8) >> 6, self.words[0][2:]
-        target = f"to {target_of(self.address, int(d, 8)):04o}" if code in RELATIVE_JUMPS else ""
-        return " ".join(filter(None, (NAMES[code], d, *self.words[1:], target)))
+        code, d = divmod(self.words[0], 0o100)
+        target = [f"to {target_of(self.address, d):04o}"] if code in RELATIVE_JUMPS else []
+        return " ".join([f"{NAMES[code]} {d:02o}", *(f"{word:04o}" for word in self.words[1:]), *target])
 
 
 def row_at(word: Word, address: int, heads: Container[int]) -> Row:
     """Returns the row that begins at an address. At a head another row begins, so that no second word is taken from there."""
     address, second = address % CELLS, (address + 1) % CELLS
-    has_two = int(word(address), 8) >> 6 in TWO_WORDS and second not in heads
+    has_two = word(address) >> 6 in TWO_WORDS and second not in heads
     return Row(address, (word(address), word(second)) if has_two else (word(address),))
 
 
 def rows_from(word: Word, address: int, count: int, heads: Container[int]) -> List[Row]:
-    """Returns so many rows from an address on. The function `word` returns the digits of a cell."""
+    """Returns so many rows from an address on. The function `word` returns the number in a cell."""
     found: List[Row] = []
     while len(found) < count:
         found.append(row_at(word, found[-1].end if found else address, heads))

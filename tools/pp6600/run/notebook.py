@@ -16,11 +16,10 @@ def row(cells: Iterable[str], kind: str = "td") -> str:
     return f"<tr>{''.join(f'<{kind}>{escape(cell)}</{kind}>' for cell in cells)}</tr>"
 
 
-def table_of(processors: Sequence[Processor], channels: Sequence[str], devices: Sequence[str]) -> str:
-    """Returns the table of the ten processors, the lines of DUMP H, and the lines of the devices."""
+def table_of(slot: int, processors: Sequence[Processor], channels: Sequence[str], devices: Sequence[str]) -> str:
+    """Returns the table of the ten processors, of which one is next, the lines of DUMP H, and the lines of the devices."""
     states = states_of(channels)
-    slot = int(processors[0].registers["SLOT"], 8)
-    rows = [row((MARK if number == slot else "", f"{number:02o}", *(processor.registers[name] for name in REGISTERS),
+    rows = [row((MARK if number == slot else "", f"{number:02o}", *processor.registers.values(),
                  processor.text, processor.waits_for(states))) for number, processor in enumerate(processors)]
     beside = [row(("H", *(line[2:4] for line in channels)), "th"), row(("", *(line[5:] for line in channels)))]
     return (f"<table>{row(HEADS, 'th')}{''.join(rows)}</table><table>{''.join(beside)}</table>"

@@ -12,14 +12,13 @@ from .forms import CELLS, CLOCK, Place
 from .search import conditions_of, last_turn, ranges_of
 from .session import Session
 from .tape import STEP, Position
-from .turn import Processor, Read, places_of_setting
-from .written import Write, addresses_of, made_turn, reasons_of, writes_of
+from .turn import Processor, places_of_setting
+from .written import Read, Write, addresses_of, made_turn, reasons_of, writes_of
 
 CLOCK_PLACE = Place("H", (CLOCK,))
 CARD_COLUMN = CARD + 1
 
 LINE_END = "LINE END"
-WORDS_OF_CONSTANT = {"d": (0,), "m": (1,), "dm": (0, 1)}  # of an instruction
 
 # What wrote a number.
 TURN, SET, DEADSTART, READER, PRINTER, PAPER, TICK, START = range(8)
@@ -52,10 +51,8 @@ class Step:
         self.block: Optional[Link] = None  # the link to the write of the phase, of a turn of a block transfer
         self.number = ""
         self.reasons: List[Tuple[Place, int]] = []  # what decided beside P and the instruction, with its number before the turn
-        self.constants: Tuple[str, ...] = ()
         if cause == TURN:
             self.turn, self.processor, self.write = detail
-            self.constants = self.write.constants
 
 
 class OriginSearch:
@@ -63,7 +60,7 @@ class OriginSearch:
 
     def __init__(self, run: Session, most_steps: Optional[int] = None, with_addresses: bool = False,
                  progress: Optional[Callable[[Position], object]] = None,
-                 is_loaded: Callable[[int, int, str], bool] = lambda number, address, word: True) -> None:
+                 is_loaded: Callable[[int, int, int], bool] = lambda number, address, word: True) -> None:
         """After so many steps by processors the sources of a step are searched no more; None: there is no limit. The function
         `progress` is called with each position that is reached. The function `is_loaded` returns whether a word of an instruction may
         be as it was loaded into a processor; if not, a constant in it is followed to who wrote the word."""
@@ -124,9 +121,8 @@ class OriginSearch:
     def _written_words(self, step: Step) -> List[Place]:
         """Returns the cells that have the constants of a step and a word that was not loaded."""
         number, processor = step.turn.processor, step.processor
-        distances = sorted({at for name in step.constants for at in WORDS_OF_CONSTANT.get(name, ())})
-        cells = [((processor.p + at) % CELLS, processor.words[at]) for at in distances]
-        return [Place("M", (number, address)) for address, word in cells if not self.is_loaded(number, address, word)]
+        cells = [(place, place.numbers[1]) for place in step.write.code]
+        return [place for place, at in cells if not self.is_loaded(number, at, processor.words[(at - processor.p) % CELLS])]
 
     # ---- backwards
 
@@ -163,14 +159,14 @@ class OriginSearch:
 
     def _look_at_turn(self, position: Position) -> None:
         """Looks at the turn before a position: of all that it wrote and is asked for, the sources were read before."""
-        run, numbers = self.run, self.run.engine.numbers
+        run, number = self.run, self.run.number_of
         run.goto(Position(position - 1))
         processor, control = run.processor(run.next_slot), run.engine.next_origins().control
-        reasons = [(place, *numbers(place.number, 1)) for place in reasons_of(control)]
-        card, column, length = (numbers(place, 1)[0] for place in (CARD, CARD_COLUMN, PAPER_LENGTH))
+        reasons = [(place, number(place.number)) for place in reasons_of(control)]
+        card, column, length = map(number, (CARD, CARD_COLUMN, PAPER_LENGTH))
         turn = made_turn(run)
         self._look_at_devices(turn, position, (card, column), length)
-        writes = [write for write in writes_of(turn, *numbers(P + turn.processor, 1)) if write.place in self.asked]
+        writes = [write for write in writes_of(turn, number(P + turn.processor)) if write.place in self.asked]
         steps = [Step(write.place, TURN, position, (turn, processor, write)) for write in writes]
         followed = []
         for step in steps:
@@ -218,14 +214,14 @@ class OriginSearch:
     def _instruction(step: Step) -> Tuple[int, Any]:
         """The processor and its instruction, with the address; in a block transfer P is none."""
         processor = step.processor
-        return step.turn.processor, processor.phase or (processor.registers["P"], processor.words)
+        return step.turn.processor, processor.phase or (processor.p, processor.words)
 
     # ---- the paper, and the numbers
 
     def _check_symbol(self, index: int, position: Position) -> None:
         """Sees that the paper has a symbol."""
         self.run.goto(position)
-        count, = self.run.engine.numbers(PAPER_LENGTH, 1)
+        count = self.run.number_of(PAPER_LENGTH)
         if index >= count:
             raise Failure(f"the paper has {count:o} symbols (octal), from LP 0 on" if count else "nothing is on the paper")
 

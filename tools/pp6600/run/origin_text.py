@@ -12,10 +12,11 @@ from .forms import Place
 from .origin_search import DEADSTART, LINE_END, PAPER, PRINTER, READER, SET, START, TICK, TURN, Link, OriginSearch, Step
 from .session import Session
 from .tape import Position, ReplyLine, SourceLine, Tape
-from .turn import IN_BLOCK, NO_WORD, RETURN, STATE_LETTERS, TWO_WORDS, ZERO, Processor
+from .turn import BLOCKS, Processor
 
 MOST_STEPS = 0o40  # by processors, without --all
 INDENT = "  "
+STATE_WORDS = ("INACTIVE", "EMPTY", "FULL", "FUNCTION")
 NOTE = re.compile(r"[ \t]*([*].*)?\r?")
 Parts = Tuple[int, ...]
 Task = Tuple[Optional[Step], Place, int, Optional[Parts]]  # a step that is to be shown, its place, how deep, and the parts that are wanted
@@ -146,14 +147,10 @@ class Writer:
 
     def instruction(self, step: Step) -> str:
         """Returns the processor, and the address and the text of its instruction."""
-        processor, at = step.processor, ""
-        code, second, performer = processor.code, "", self.performer(step)
-        if performer:
-            at = self.symbols.beside(step.turn.processor, performer.registers["P"])
-        if not processor.phase:
-            second = f" {processor.words[1]}" if code in TWO_WORDS and code not in IN_BLOCK else ""
-        begun = "" if at else " BEGUN BY DEADSTART"
-        return f"PP {step.turn.processor:02o}{at and ' AT ' + at} {processor.name} {processor.channel:02o}{second}{begun}"
+        processor, performer = step.processor, self.performer(step)
+        at = f" AT {self.symbols.beside(step.turn.processor, performer.p)}" if performer else ""
+        text = f"{processor.name} {processor.channel:02o}" if processor.code in BLOCKS else processor.text
+        return f"PP {step.turn.processor:02o}{at} {text}{'' if at else ' BEGUN BY DEADSTART'}"
 
     def times(self, step: Step) -> List[str]:
         first = self.tape.turn(step.first_position)
@@ -161,7 +158,7 @@ class Writer:
 
     def sources(self, step: Step, links: Sequence[Link]) -> List[str]:
         """Returns from what an instruction wrote a number, and how it computed one."""
-        names = [self.name(link) for link in links] + [self.constant(step, name) for name in step.constants]
+        names = [*map(self.name, links), *step.write.constants(step.processor)]
         verb = f"{step.write.words} " if not step.write.is_moved else "FROM " if links else ""
         code = "".join(f" IN {link.place.text}" for link in step.code)
         addresses = "".join(f", ADDRESS IN {link.place.text}" for link in step.addresses)
@@ -177,14 +174,6 @@ class Writer:
         parts = f" PART{'S' * (len(link.parts) > 1)} {' '.join(map(str, link.parts))}" if link.parts else ""
         return f"{link.place.text}{parts} {link.number}".rstrip()
 
-    @staticmethod
-    def constant(step: Step, name: str) -> str:
-        processor = step.processor
-        numbers = {"d": f"{processor.channel:02o}", "m": processor.words[1], "dm": f"{processor.channel:02o}{processor.words[1]}"}
-        if name in numbers:
-            return f"CONSTANT {numbers[name]}"
-        return {RETURN: "RETURN ADDRESS", ZERO: "ZERO", NO_WORD: "ZERO PAST THE LAST WORD"}[name]
-
 
 def reason_name(place: Place) -> str:
     """Returns the name of a place that decided; that of a channel's state is its channel's."""
@@ -192,4 +181,4 @@ def reason_name(place: Place) -> str:
 
 
 def reason_number(place: Place, number: int) -> str:
-    return list(STATE_LETTERS)[number].upper() if place.kind == "S" else f"{number:0{place.digits}o}"
+    return STATE_WORDS[number] if place.kind == "S" else f"{number:0{place.digits}o}"

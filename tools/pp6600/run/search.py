@@ -16,7 +16,7 @@ from ..engine import interface as flat
 from ..engine import plain_conditions
 from ..engine.interface import CHANGES, INSIDE, MOST_ALTERNATIVES, PERFORMS, WAITS, Form
 from .conditions import Alternative, Column, Numbers, is_written, joined
-from .forms import PROCESSORS, Registers
+from .forms import PROCESSORS
 from .session import Session
 from .tape import STEP, Position
 from .turn import Processor
@@ -40,7 +40,7 @@ def first_turn(run: Session, condition: Forms, most: int) -> bool:
 
 def is_met(run: Session, forms: Iterable[Form]) -> bool:
     """Returns whether tests of the machine hold as it is. One of a turn does not."""
-    return all(plain_conditions.is_met(form, lambda place: run.engine.numbers(place, 1)[0]) for form in forms)
+    return all(plain_conditions.is_met(form, run.number_of) for form in forms)
 
 
 def ranges_of(numbers: Iterable[int]) -> List[Tuple[int, int]]:
@@ -52,6 +52,15 @@ def ranges_of(numbers: Iterable[int]) -> List[Tuple[int, int]]:
         else:
             found.append((number, 1))
     return found
+
+
+def merged(ranges: Iterable[Tuple[int, int]], most: int) -> List[Tuple[int, int]]:
+    """Returns so many ranges at most that have all the numbers of some, each by its first and last one, and as few others as possible."""
+    found = sorted(ranges)
+    ends: List[int] = list(itertools.accumulate((last for _, last in found), max))
+    gaps = sorted((first - end, at) for at, ((first, _), end) in enumerate(zip(found[1:], ends), 1))
+    begins = [0, *sorted(at for gap, at in gaps[max(len(gaps) + 1 - most, 0):] if gap > 1)] if found else []
+    return [(found[at][0], ends[after - 1]) for at, after in zip(begins, [*begins[1:], len(found)])]
 
 
 def arrivals(number: int, addresses: Iterable[int]) -> List[Forms]:
@@ -200,12 +209,12 @@ def waits(run: Session, number: int) -> bool:
 
 
 class Made(NamedTuple):
-    """A turn that was made: the position before it, its processor as it was then, and the registers after it."""
+    """A turn that was made: the position before it, its processor as it was then, and after it."""
 
     position: Position
     slot: int
     processor: Processor
-    after: Registers
+    after: Processor
 
 
 class FoundTurn(NamedTuple):
@@ -221,7 +230,7 @@ class FoundTurn(NamedTuple):
         source."""
         parts = [f" {f'{name} ' if self.is_named else ''}WAS {was} NOW {now}" for name, was, now in self.numbers]
         slot, processor = self.made.slot, self.made.processor
-        address, line = symbols.beside(slot, processor.registers["P"]), symbols.line_at_p(slot, processor)
+        address, line = symbols.beside(slot, processor.p), symbols.line_at_p(slot, processor)
         return f"TURN {self.turn:o} PP {slot:02o} P {address} {processor.name}{''.join(parts)}{line}"
 
 
@@ -288,15 +297,12 @@ class Search:
 def around(run: Session, position: Position, columns: Sequence[Column] = ()) -> Tuple[Numbers, Made, Numbers]:
     """Goes over the turn after a position. Returns it, with the numbers that are shown of columns before and after it."""
     slot, end = run.tape.slot(position), Position(position + 1)
-    numbers: Dict[Position, Numbers] = {}
+    found: Dict[Position, Tuple[Numbers, Processor]] = {}
     for at in (end, position) if run.position >= end else (position, end):
         run.goto(at)
-        numbers[at] = [number for column in columns for number in column.shown(run)]
-        if at == position:
-            before = run.processor(slot)
-        else:
-            after = run.registers(slot)
-    return numbers[position], Made(position, slot, before, after), numbers[end]
+        found[at] = [number for column in columns for number in column.shown(run)], run.processor(slot)
+    (was, before), (now, after) = found[position], found[end]
+    return was, Made(position, slot, before, after), now
 
 
 def spans(end: int, first: int = 0, span: int = FIRST_SPAN) -> Iterator[Tuple[int, int]]:

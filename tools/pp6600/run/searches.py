@@ -9,7 +9,7 @@ from __future__ import annotations
 
 import itertools
 from contextlib import closing
-from typing import Any, List, Optional, Sequence
+from typing import Any, List, Optional
 
 from ..engine import interface as flat
 from ..engine.interface import CHANGES, INSIDE, Form
@@ -88,15 +88,15 @@ class LineFinder:
         self.turn = 0  # how many turns it has seen
         self.has_moved = True  # since its latest turn began
 
-    def line_of(self, address: int, words: Sequence[str]) -> Optional[int]:
-        line = self.source.line_of(address, *words)
+    def line_of(self, run: Session, address: int) -> Optional[int]:
+        cell = run.cell_of(self.number)
+        line = self.source.line_of(address, cell(address), cell(address + 1))
         return line.number if line and line.is_there else None
 
     def see(self, run: Session) -> None:
         """Sees which line the processor is in; in a block transfer that of its instruction, if this is still there."""
-        number = self.number
-        address = run.processor(number).address(lambda cell: int(run.cells(number, cell, cell)[0], 8))
-        self.line = None if address is None else self.line_of(address, run.words_at(number, address))
+        address = run.processor(self.number).address(run.cell_of(self.number))
+        self.line = None if address is None else self.line_of(run, address)
         self.turn = run.turn
 
     def begin(self, run: Session) -> None:
@@ -121,9 +121,9 @@ class LineFinder:
 
     def begins(self, run: Session) -> bool:
         """Sees which line the processor is in before its turn. Returns whether it begins it."""
-        (p,), (phase,), old = run.engine.numbers(flat.P + self.number, 1), run.engine.numbers(flat.PHASE + self.number, 1), self.line
-        if not phase:
-            self.line = self.line_of(p, run.words_at(self.number, p))
+        old = self.line
+        if not run.number_of(flat.PHASE + self.number):
+            self.line = self.line_of(run, run.number_of(flat.P + self.number))
             if self.line is None and old is not None:
                 self.left = run.turn
         return self.line not in (None, old)

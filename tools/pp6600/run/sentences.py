@@ -108,14 +108,9 @@ def rows() -> Dict[str, List[Tuple[str, str]]]:
 ROWS = rows()
 
 
-def count_of(digits: str) -> str:
-    return digits.lstrip("0") or "0"
-
-
-def counted(digits: str) -> str:
+def counted(count: int) -> str:
     """Returns a number of words with a verb."""
-    count = count_of(digits)
-    return f"{count} {'word is' if count == '1' else 'words are'}"
+    return f"{count:o} {'word is' if count == 1 else 'words are'}"
 
 
 def four(number: int) -> str:
@@ -130,20 +125,19 @@ def five_cells(first: int) -> str:
 # Of each condition but `state` whether it holds, and what each name in braces means.
 CONDITIONS: Dict[str, Callable[[Any], Any]] = {
     "": lambda one: True, "A=0": lambda one: one.a == 0, "A/0": lambda one: one.a != 0, "A+": lambda one: one.a < 0o400000,
-    "A-": lambda one: one.a >= 0o400000, "Q=0": lambda one: one.registers["Q"] == "0000", "d<40": lambda one: one.d < 0o40,
+    "A-": lambda one: one.a >= 0o400000, "Q=0": lambda one: one.processor.q == 0, "d<40": lambda one: one.d < 0o40,
     "=P": lambda one: target_of(one.p, one.d) == one.p, "clock": lambda one: one.d == CLOCK,
     "lost": lambda one: one.state == "I" and one.p == 0,
 }
 NUMBERS: Dict[str, Callable[[Any], Any]] = {
-    "A": lambda one: one.registers["A"], "P": lambda one: one.registers["P"], "Q": lambda one: one.registers["Q"],
-    "a": lambda one: one.registers["A"][2:], "A#": lambda one: count_of(one.registers["A"]),
-    "A,": lambda one: counted(one.registers["A"]), "Q,": lambda one: counted(one.registers["Q"]),
-    "d": lambda one: f"{one.d:02o}", "m": lambda one: one.processor.words[1],
-    "dm": lambda one: f"{one.d:02o}{one.processor.words[1]}",
+    "A": lambda one: f"{one.a:06o}", "P": lambda one: four(one.p), "Q": lambda one: four(one.processor.q), "a": lambda one: four(one.a),
+    "A#": lambda one: f"{one.a:o}", "A,": lambda one: counted(one.a), "Q,": lambda one: counted(one.processor.q),
+    "d": lambda one: f"{one.d:02o}", "m": lambda one: four(one.processor.words[1]),
+    "dm": lambda one: f"{one.d:02o}{four(one.processor.words[1])}",
     "n": lambda one: f"{one.d if one.d < 0o40 else 0o77 - one.d:o}", "x": lambda one: four(one.operand),
     "x+1": lambda one: four(one.operand + 1), "X": lambda one: four(one.cell(one.operand)), "D": lambda one: four(one.cell(one.d)),
     "D..": lambda one: five_cells(one.d), "P..": lambda one: five_cells(one.p), "near": lambda one: four(target_of(one.p, one.d)),
-    "on": lambda one: four(one.p + one.processor.row.words), "back": lambda one: four(one.cell(0) + 1),
+    "on": lambda one: four(one.processor.following), "back": lambda one: four(one.cell(0) + 1),
     "H": lambda one: one.words[one.d], "state": lambda one: STATE_NAMES[one.state],
     "wanted": lambda one: WAITS_FOR[one.processor.code],
 }
@@ -157,8 +151,8 @@ class Reading:
 
     def __init__(self, processor: Processor, cell: Cell, states: Sequence[str], words: Sequence[str] = ()) -> None:
         """The function `cell` returns the number in a cell of the processor; the channels, and the clock, have states and words."""
-        self.processor, self.registers, self.cell, self.states, self.words = processor, processor.registers, cell, states, words
-        self.a, self.p, self.d = int(self.registers["A"], 8), int(self.registers["P"], 8), processor.channel
+        self.processor, self.cell, self.states, self.words = processor, cell, states, words
+        self.a, self.p, self.d = processor.a, processor.p, processor.channel
         self.state = states[self.d] if self.d < len(states) else NOT_THERE_IN_BLOCK
 
     @property

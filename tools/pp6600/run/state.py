@@ -71,9 +71,9 @@ class Memory:
         """The lines of a DUMP M of all cells."""
         return list(map(self.row, range(0, CELLS, ROW)))
 
-    def find(self, words: Sequence[str], first: int) -> Optional[int]:
-        """Returns the first address, from `first` on and round to it, at which the words are; or None."""
-        wanted, cells, size = [int(word, 8) for word in words], [*self.numbers, *self.numbers], len(self.numbers)
+    def find(self, wanted: Sequence[int], first: int) -> Optional[int]:
+        """Returns the first address, from `first` on and round to it, at which words are; or None."""
+        cells, size = [*self.numbers, *self.numbers], len(self.numbers)
         return next((at % size for at in range(first % size, first % size + size) if cells[at:at + len(wanted)] == wanted), None)
 
 
@@ -85,7 +85,7 @@ class State:
         self.numbers = numbers = console.engine.numbers(0, flat.PAPER)
         self.slot = console.slot()
         self.memories = [Memory(numbers[CELLS * number:CELLS * (number + 1)]) for number in range(PROCESSORS)]
-        self.processors = [self._processor(number) for number in range(PROCESSORS)]
+        self.processors = [Processor.read(number, numbers.__getitem__) for number in range(PROCESSORS)]
         registers = [f"{numbers[flat.REGISTERS + number]:04o}" for number in range(CLOCK + 1)]
         self.channels = [Channel(f"{number:02o}", state, register) for number, (state, register) in enumerate(zip(self.states(), registers))]
         self.watched = [Place.parse(line[2:]) for line in console.demand("DUMP W") if line != "W NONE"]
@@ -94,11 +94,6 @@ class State:
         self.printer = Printer(channel, symbols, column, mode, paper)
         self.reader = Reader(*fields(console.reader()).values())
         self.central = central_of(console) if with_central else ()
-
-    def _processor(self, number: int) -> Processor:
-        registers = {kind: named(Place(kind, (number,)).number, self.numbers)[1] for kind in OF_PROCESSOR[:-1]}
-        memory, address = self.memories[number], int(registers["P"], 8)
-        return Processor(registers, [memory.word(address), memory.word(address + 1)])
 
     def watched_cells(self, processor: int) -> List[int]:
         """Returns the addresses of the watched cells of a processor."""

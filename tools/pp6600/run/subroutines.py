@@ -11,7 +11,7 @@ from ..engine import interface as flat
 from ..engine.interface import INSIDE, MOST_ALTERNATIVES, Form
 from .conditions import Alternative, is_written, joined
 from .forms import CELLS
-from .search import first_turn, hold, waits
+from .search import first_turn, hold, merged, waits
 from .session import Session
 from .tape import Position
 
@@ -54,7 +54,7 @@ class Stack:
 
     def begin(self, run: Session) -> None:
         """Sees where P is, which a setting may have changed."""
-        (p,), (phase,) = (run.engine.numbers(first + self.number, 1) for first in (flat.P, flat.PHASE))
+        p, phase = (run.number_of(first + self.number) for first in (flat.P, flat.PHASE))
         self.is_at_jump = not phase and (p + 1) % CELLS in self.entries
 
     def next(self, run: Session, most: int) -> Optional[Return]:
@@ -66,11 +66,11 @@ class Stack:
         run.goto(Position(here - 1))
         processor, entry = run.processor(self.number), None
         if processor.name == RJM and not processor.phase:
-            entry = processor.operand(lambda address: run.engine.numbers(flat.CELLS + CELLS * self.number + address, 1)[0])
+            entry = processor.operand(run.cell_of(self.number))
         run.goto(here)
         self.begin(run)
         if entry in self.entries:
-            self.calls += (Call(entry, here, processor.p, (processor.p + processor.row.words) % CELLS),)
+            self.calls += (Call(entry, here, processor.p, processor.following),)
         return self.left(run, (processor.p + 1) % CELLS, processor.name == LJM) if was_at_jump else None
 
     def left(self, run: Session, entry: int, is_back: bool) -> Optional[Return]:
@@ -84,22 +84,13 @@ class Stack:
             self.calls = self.calls[:at]
         else:
             self.astray += (call,)
-        return Return(call, run.engine.numbers(flat.P + self.number, 1)[0])
+        return Return(call, run.number_of(flat.P + self.number))
 
 
 def around(entry: int) -> List[Tuple[int, int]]:
     """Returns the ranges of the cells at which P is before a jump by a return word, and after an RJM that stored it."""
     first, last = (entry - 1) % CELLS, (entry + 1) % CELLS
     return [(first, last)] if first < last else [(first, first), (last, last)]
-
-
-def merged(ranges: Iterable[Tuple[int, int]], most: int) -> List[Tuple[int, int]]:
-    """Returns so many ranges at most that have all the numbers of some, and as few others as possible."""
-    found = sorted(ranges)
-    while len(found) > most:
-        at = min(range(len(found) - 1), key=lambda at: found[at + 1][0] - found[at][1])
-        found[at:at + 2] = [(found[at][0], max(found[at][1], found[at + 1][1]))]
-    return found
 
 
 def calls_at(run: Session, number: int, entries: Iterable[int], position: Position) -> List[Call]:

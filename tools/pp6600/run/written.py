@@ -2,22 +2,19 @@
 
 from __future__ import annotations
 
-from typing import List, NamedTuple, Sequence, Tuple
+from typing import List, NamedTuple, Optional, Sequence, Tuple
 
 from ..engine import origins as of
-from ..engine.interface import CELLS_OF_PROCESSOR, place_at
+from ..engine.interface import CELLS_OF_PROCESSOR
 from ..engine.origins import Origin, Origins
 from .forms import Place
 from .session import Session
-from .turn import (
-    A_IS_AN_ADDRESS, BLOCKS_OF_CENTRAL, CONDITIONAL_JUMPS, INDEXED, INDIRECT, NO_WORD, P_OF_FRAME, RELATIVE_JUMPS, RETURN, STATE_LETTERS,
-    TWO_WORDS, WITHOUT_B_FIELD, WORD, ZERO, Read)
+from .turn import CONDITIONAL_JUMPS, INDEXED, INDIRECT, RELATIVE_JUMPS, TWO_WORDS, Processor
 
-# The parts of a word, of twelve bits each from the left, that a field has; and the constants of an instruction.
-PARTS = {**{of.FIRST + part: (part,) for part in range(5)}, of.WITHOUT_B0: WITHOUT_B_FIELD, of.PROGRAM_ADDRESS: P_OF_FRAME}
-CONSTANTS = {of.D: "d", of.M: "m", of.WORD: WORD}
+# The parts of a word, of twelve bits each from the left, that a field has.
+PARTS = {**{of.FIRST + part: (part,) for part in range(5)}, of.WITHOUT_B0: (0, 1, 2, 3), of.PROGRAM_ADDRESS: (0, 1)}
 ADVANCES = (of.AFTER1, of.AFTER2, of.AFTER5)
-STATE_NAMES = list(STATE_LETTERS)
+A_IS_AN_ADDRESS, BLOCKS_OF_CENTRAL = (0o26, 0o60, 0o62), (0o61, 0o63)
 MOVES = (of.MOVED, of.JOINED, of.NO_WORD, of.ZERO, of.ONE, of.TWO, of.THREE)
 # How a number that is computed is made, before what it is made from.
 WORDS = {of.SUM: "SUM OF", of.LOW_SUM: "SUM OF", of.DIFFERENCE: "DIFFERENCE OF", of.LOGICAL_DIFFERENCE: "LOGICAL DIFFERENCE OF",
@@ -28,31 +25,60 @@ WORDS = {of.SUM: "SUM OF", of.LOW_SUM: "SUM OF", of.DIFFERENCE: "DIFFERENCE OF",
 END_OF_BLOCK = "END OF BLOCK OF"
 
 
+class Read(NamedTuple):
+    """A place that is read; of a word of sixty bits the parts alone that are read, of which part 0 is the leftmost."""
+
+    place: Place
+    parts: Optional[Tuple[int, ...]] = None
+
+
 class Write(NamedTuple):
     """A place that is written, and from what. A number that is moved is that of its source, or a part of it. A central word that is
     moved from several cells has a part of each, in their order."""
 
     place: Place
-    operation: int
-    sources: Tuple[Read, ...] = ()
-    constants: Tuple[str, ...] = ()
+    origin: Origin
+
+    @property
+    def sources(self) -> List[Read]:
+        """What it is made from, beside P and the constants of the instruction."""
+        read = [Read(Place.at(number), PARTS.get(field)) for number, field in self.origin.reads if field not in (of.D, of.M, of.WORD)]
+        return [one for one in read if one.place.kind != "P"]
+
+    @property
+    def code(self) -> List[Place]:
+        """The cells that have the constants of the instruction which it is made from."""
+        return [Place.at(number) for number, field in self.origin.reads if field in (of.D, of.M)]
+
+    @property
+    def is_return(self) -> bool:
+        """Whether it is a return address."""
+        return self.place.kind != "P" and any(Place.at(number).kind == "P" for number, _ in self.origin.reads)
+
+    def constants(self, processor: Processor) -> List[str]:
+        """Returns what it is made from beside the sources, if the processor was so before."""
+        digits = {of.D: f"{processor.channel:02o}", of.M: f"{processor.words[1]:04o}"}
+        given = "".join(digits.get(field, "") for _, field in self.origin.reads)
+        is_zero = "" if self.origin.reads else "ZERO PAST THE LAST WORD" if self.origin.operation == of.NO_WORD else "ZERO"
+        return [text for text in (f"CONSTANT {given}" if given else "", "RETURN ADDRESS" if self.is_return else "", is_zero) if text]
 
     @property
     def ends_block(self) -> bool:
-        return self.place.kind == "P" and (self.operation == of.ONE or self.operation == of.AFTER1 and bool(self.sources))
+        operation = self.origin.operation
+        return self.place.kind == "P" and (operation == of.ONE or operation == of.AFTER1 and bool(self.sources))
 
     @property
     def is_moved(self) -> bool:
-        return self.operation in MOVES and not self.ends_block
+        return (self.origin.operation in MOVES or self.is_return) and not self.ends_block
 
     @property
     def is_joined(self) -> bool:
-        return self.operation == of.JOINED
+        return self.origin.operation == of.JOINED
 
     @property
     def words(self) -> str:
         """How it is made, if it is computed."""
-        return END_OF_BLOCK if self.ends_block else WORDS[self.operation]
+        return END_OF_BLOCK if self.ends_block else WORDS[self.origin.operation]
 
 
 def made_turn(run: Session) -> Origins:
@@ -72,45 +98,21 @@ def addresses_of(turn: Origins) -> List[Place]:
 
 def reasons_of(control: Sequence[int]) -> List[Place]:
     """Returns which of the control places of a turn decided beside P and the instruction: A, Q or the state of a channel."""
-    return [place for place in (Place(*place_at(number)) for number in control) if place.kind in ("A", "Q", "S")]
+    return [place for place in map(Place.at, control) if place.kind in ("A", "Q", "S")]
 
 
 def writes_of(turn: Origins, p: int) -> List[Write]:
     """Returns what the processor of a turn wrote, with P after it. That P goes on to the next instruction, or a block to its next cell, is
     no write."""
-    return [write_of(origin) for origin in turn.own if not goes_on(turn, origin, p)]
+    return [Write(Place.at(origin.place), origin) for origin in turn.own if not goes_on(turn, origin, p)]
 
 
 def goes_on(turn: Origins, origin: Origin, p: int) -> bool:
     """Returns whether P goes on. A jump to the instruction after it is as if P had gone on, and a relative one by no cells is a stop."""
-    if place_at(origin.place)[0] != "P":
+    if Place.at(origin.place).kind != "P":
         return False
     code, d = divmod(turn.word, 0o100)
     if turn.kind != of.IN_BLOCK and code in CONDITIONAL_JUMPS:
         following = (turn.address + 1 + (code in TWO_WORDS)) % CELLS_OF_PROCESSOR
         return p == following or code in RELATIVE_JUMPS and d in (0o00, 0o77)
     return origin.operation in ADVANCES and origin.reads[0].place == origin.place
-
-
-def write_of(origin: Origin) -> Write:
-    """Returns a write."""
-    place, constants, sources = Place(*place_at(origin.place)), [], []
-    for number, field in origin.reads:
-        one = Place(*place_at(number))
-        if field in CONSTANTS:
-            constants.append(CONSTANTS[field])
-        elif one.kind != "P":
-            sources.append(Read(one, PARTS.get(field)))
-        elif place.kind != "P":
-            constants.append(RETURN)
-    if origin.operation == of.NO_WORD:
-        constants.append(NO_WORD)
-    elif not origin.reads:
-        constants.append(STATE_NAMES[origin.operation - of.ZERO] if place.kind == "S" else ZERO)
-    return Write(place, of.MOVED if RETURN in constants else origin.operation, tuple(sources), tuple(dm(constants)))
-
-
-def dm(constants: Sequence[str]) -> Sequence[str]:
-    """Returns the constants of a write: d and m together are one."""
-    return ["dm"] if constants == ["d", "m"] else constants
-

@@ -80,8 +80,8 @@ def made(named: str, channel: int) -> Device:
     else:
         kind = class_of_package(name)
     try:
-        named = named_words(kind, words)
-        device = kind(*(word for word in words.split(",") if words and word.partition("=")[0] not in named), **named)
+        by_name = named_words(kind, words)
+        device = kind(*(word for word in words.split(",") if words and word.partition("=")[0] not in by_name), **by_name)
         device.channel = channel
     except Failure:
         raise

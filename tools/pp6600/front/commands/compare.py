@@ -3,7 +3,7 @@
 from ...engine.interface import P
 from ...language.names import AllSymbols
 from ...language.symbol_options import add_files, add_symbols, symbols_from, symbols_of
-from ...language.versions import Versions
+from ...language.versions import Versions, address_name
 from ...run.forms import PROCESSORS
 from ...run.search import halve
 from ...run.session import Session
@@ -43,12 +43,12 @@ class Side:
         """Returns in words what the run did in a turn."""
         run = self.at(turn - 1)
         slot, maker = run.next_slot, run.processor(run.next_slot)
-        address = self.symbols.beside(slot, maker.registers["P"])
+        address = self.symbols.beside(slot, maker.p)
         return f"TURN {turn:o} PP {slot:02o} P {address} {maker.text}{self.symbols.line_at_p(slot, maker)}"
 
     def path(self, number):
-        """Yields the turns of a processor, each with the address to which it led, by its label if one is near."""
-        run, tape = self.run, self.run.tape
+        """Yields the turns of a processor, each with the address to which it led, by its label if it has labels."""
+        run, tape, names = self.run, self.run.tape, self.symbols.of.get(number)
         for start, end, action in zip(tape.starts, tape.starts[1:], tape.runs):
             if action.line != STEP:
                 continue
@@ -58,8 +58,7 @@ class Side:
                 addresses, made = run.engine.looks([P + number], min(end - run.position, run.history.room))
                 run.history.performed(made)
                 for at in range(own, made, PROCESSORS):
-                    digits = f"{addresses[at]:04o}"
-                    yield first + at, self.symbols.name(number, digits) or digits
+                    yield first + at, names and address_name(names, addresses[at]) or addresses[at]
 
 
 class Comparison:

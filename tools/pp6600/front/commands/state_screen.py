@@ -2,7 +2,7 @@
 
 from ...language.calls import calls, sentence
 from ...language.symbol_options import add_symbols, symbols_of
-from ...run.forms import PROCESSORS, REGISTERS
+from ...run.forms import PROCESSORS
 from ...run.session import Session
 from ...run.tape import counted
 from ...run.turn import states_of
@@ -23,11 +23,10 @@ LEFT = 68  # columns, to the left of the channels
 def processor_line(console, number, states, symbols):
     """Returns the line of a processor; a > marks the one whose turn comes next."""
     processor = console.processor(number)
-    registers = processor.registers
-    mark = ">" if int(registers["SLOT"], 8) == number else " "
-    fields = " ".join(f"{name} {registers[name]}" for name in REGISTERS)
+    mark = ">" if console.slot() == number else " "
+    fields = " ".join(f"{name} {digits}" for name, digits in processor.registers.items())
     waits = " WAITS" if processor.would_wait(states) else ""
-    at = symbols.name(number, registers["P"]) or f"P {' '.join(processor.words)}"
+    at = symbols.name(number, processor.p) or "P {:04o} {:04o}".format(*processor.words)
     return f"{mark}PP {number:02o} {fields}  AT {at:{WIDTH}.{WIDTH}} {processor.name}{waits}"
 
 

@@ -11,7 +11,7 @@ from ...run.conditions import is_written
 from ...run.forms import CELLS, CLOCK, PROCESSORS
 from ...run.search import TurnFinder, around, ranges_of, spans
 from ...run.tape import REJECT, STEP, Position, ReplyLine
-from ...run.turn import CHANNEL_CODES, CHANNEL_JUMPS, TWO_WORDS
+from ...run.turn import CHANNEL_CODES, CHANNEL_JUMPS
 from ...shell.command_line import add_script, arguments, channel, count, processor, write_lines
 from ...shell.device_options import add_devices
 from ...shell.script import replayed
@@ -44,7 +44,7 @@ class Tracer:
         wait, listed = " WAITS" if waited else "", self.listed(made.slot, before)
         wait += reject_after(self.run.tape, position + 1)
         if self.channel is None:
-            return f"{text} Q {before.registers['Q']} PHASE {before.registers['PHASE']}{wait}{listed}"
+            return f"{text} Q {before.q:04o} PHASE {before.phase:04o}{wait}{listed}"
         now = self.shown_at(position + 1)
         touched = before.uses(self.channel) and not waited or was != now
         step = f"H {self.channel:02o} {was if was == now else f'{was} -> {now}'}"
@@ -60,16 +60,13 @@ class Tracer:
 
     def instruction(self, slot, processor):
         """Returns the fields of a processor before its turn that say what it is about to do."""
-        shown = processor.registers
-        has_second = processor.code in TWO_WORDS and not processor.phase
-        second = processor.words[1] if has_second else "    "
-        address = self.symbols.beside(slot, shown["P"])
-        return f"P {address} {processor.words[0]} {second} {processor.name} A {shown['A']}"
+        second = "    " if processor.second is None else f"{processor.second:04o}"
+        return f"P {self.symbols.beside(slot, processor.p)} {processor.words[0]:04o} {second} {processor.name} A {processor.a:06o}"
 
     def listed(self, slot, processor):
         """Returns the text of the listing beside the instruction, or the line of the source."""
         line = self.symbols.line_at_p(slot, processor)
-        text = "" if line or processor.phase else self.symbols.text(slot, processor.registers["P"], processor.words[0])
+        text = "" if line or processor.phase else self.symbols.text(slot, processor.p, processor.words[0])
         return f"  {text}" if text else line
 
 
@@ -84,7 +81,7 @@ def fate_of_word(processor, after, was, now):
     """Returns what a turn on a channel did to a word there that nobody has read: DCN loses it, the end of an input leaves it."""
     if processor.name == "DCN" and was[0] == "F" and now[0] == "I":
         return " WORD LOST"
-    has_ended = processor.phase and int(after["PHASE"], 8) == 0
+    has_ended = processor.phase and not after.phase
     is_left = has_ended and processor.name == "IAM" and now[0] == "F" and processor.channel != CLOCK
     return " WORD LEFT" if is_left else ""
 

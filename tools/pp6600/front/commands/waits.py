@@ -129,7 +129,7 @@ def maker(run, channel, found, symbols):
     run.goto(made.position)
     if {flat.STATES + channel, flat.REGISTERS + channel}.isdisjoint(origin.place for origin in made_turn(run).others):
         line = symbols.line_at_p(made.slot, made.processor)
-        return f"PP {made.slot:02o} P {symbols.beside(made.slot, made.processor.registers['P'])} {made.processor.name}{line}"
+        return f"PP {made.slot:02o} P {symbols.beside(made.slot, made.processor.p)} {made.processor.name}{line}"
     return {run.reader_channel: "THE READER", run.printer_channel: "THE PRINTER"}.get(channel, "A DEVICE")
 
 
@@ -137,7 +137,7 @@ def maker(run, channel, found, symbols):
 
 def goes_round_at_itself(processor, states):
     """Returns whether an instruction tests a channel and jumps to itself, as EJM *,5 does while channel 05 is not full."""
-    return not processor.phase and processor.code in JUMPS_IN and int(processor.words[1], 8) == processor.p and \
+    return not processor.phase and processor.code in JUMPS_IN and processor.words[1] == processor.p and \
         processor.state(states) in JUMPS_IN[processor.code]
 
 
@@ -149,8 +149,7 @@ def at_end(run, symbols):
         goes_round = goes_round_at_itself(processor, state.states())
         if goes_round or processor.would_wait(state.states()):
             address = processor.address(state.memories[number].number)
-            digits = "NONE" if address is None else f"{address:04o}"
-            at, p = (symbols.beside(number, one) for one in (digits, processor.registers["P"]))
+            at, p = ("NONE" if one is None else symbols.beside(number, one) for one in (address, processor.p))
             name = f"{processor.name} GOES ROUND" if goes_round else processor.name
             line = f"PP {number:02o} AT {at} {name} P {p} {channel_line(state, processor.channel)}"
             found.append(Waiting(number, processor, line, source_line(state, number, address, symbols)))
@@ -159,10 +158,8 @@ def at_end(run, symbols):
 
 def source_line(state, number, address, symbols):
     """Returns the line of the source whose instruction is at an address of a processor, after two blanks; nothing if there is none."""
-    memory = state.memories[number]
-    words = [] if address is None else [memory.word(address), memory.word((address + 1) % CELLS)]
-    line = symbols.line(number, f"{address:04o}", words) if words else ""
-    return f"  {line}" if line else ""
+    cell = state.memories[number].number
+    return "" if address is None else symbols.line(number, address, [cell(address), cell(address + 1)])
 
 
 def channel_line(state, number):

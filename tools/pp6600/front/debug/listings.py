@@ -16,13 +16,13 @@ from ...run.turn import NAMES, TWO_WORDS
 @functools.lru_cache(maxsize=1 << 16)
 def decoded(word, second):
     """Returns a word with the instruction that it is; `second` is the word after it."""
-    code = int(word[:2], 8)
-    return f"{word}  {NAMES[code]} {word[2:]}{f' {second}' if code in TWO_WORDS else ''}"
+    code, d = divmod(word, 0o100)
+    return f"{word:04o}  {NAMES[code]} {d:02o}{f' {second:04o}' if code in TWO_WORDS else ''}"
 
 
 def instruction(memory, cell):
     """Returns the address of a cell, its word and the instruction that this is."""
-    return f"{cell:04o}  {decoded(memory.word(cell), memory.word(cell + 1))}"
+    return f"{cell:04o}  {decoded(memory.number(cell), memory.number(cell + 1))}"
 
 
 WIDTH = len("0000  0000  LJM 00 0000")
@@ -80,7 +80,7 @@ class Listings:
 
     def line(self, number, memory, cell):
         """Returns the line of a cell of a processor, as long as any other."""
-        return f"{instruction(memory, cell):{WIDTH}}".encode("ascii") + self.beside[number].at(cell, memory.word(cell)) + b"\n"
+        return f"{instruction(memory, cell):{WIDTH}}".encode("ascii") + self.beside[number].at(cell, memory.number(cell)) + b"\n"
 
     def text(self, number, memory):
         return b"".join(self.line(number, memory, cell) for cell in range(CELLS)).decode()

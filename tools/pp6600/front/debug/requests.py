@@ -35,7 +35,7 @@ class Requests:
         number, state = self.number(threadId), self.machine.state
         processor, memory = state.processors[number], state.memories[number]
         waits = processor.waits_for(state.states())
-        name = f"P {processor.registers['P']} {'in ' if processor.phase else ''}{processor.text}{f' waits for {waits}' if waits else ''}"
+        name = f"P {processor.p:04o} {'in ' if processor.phase else ''}{processor.text}{f' waits for {waits}' if waits else ''}"
         frames = [self.one_frame(threadId, name, ProcessorCell(number, processor.p), not processor.phase)]
         begun = processor.address(memory.number) if processor.phase else None
         if begun is not None:
@@ -48,7 +48,7 @@ class Requests:
     def where(self, cell, is_code=True):
         """Returns where a cell is shown: in the user's own source if it has the instruction of a line, or in the listing."""
         memory, (number, address) = self.machine.state.memories[cell.number], cell
-        line = self.own.line(number, address, [memory.word(address), memory.word(address + 1)]) if is_code else None
+        line = self.own.line(number, address, [memory.number(address), memory.number(address + 1)]) if is_code else None
         if line:
             self.notice(line.file)
             return {"line": line.number - 1 + self.base, "source": line.file.source}

@@ -64,7 +64,7 @@ class Stepper:
         at = self.latest_turn(self.machine.position)
         processor = None if at is None else self.processor_at(at)
         is_call = processor and processor.name == RJM and not processor.phase
-        return processor.operand(lambda address: int(self.scout.cells(self.number, address, address)[0], 8)) if is_call else None
+        return processor.operand(self.scout.cell_of(self.number)) if is_call else None
 
     def out(self):
         """Runs out of a block transfer, or else out of a subroutine, or else makes a turn."""

@@ -122,7 +122,7 @@ class StopSearch:
 
     def number(self, place):
         """Returns the number at a place, as it is for the scout."""
-        return self.scout.engine.numbers(place, 1)[0]
+        return self.scout.number_of(place)
 
     def where(self, number):
         """Returns P and phase of a processor, as they are for the scout."""
@@ -179,7 +179,8 @@ class StopSearch:
         if lines is None:
             return True
         self.scout.goto(stop.position)
-        found = point.file.of[stop.number].source.line_of(stop.address, *self.scout.words_at(*cell))
+        read = self.scout.cell_of(stop.number)
+        found = point.file.of[stop.number].source.line_of(stop.address, read(stop.address), read(stop.address + 1))
         return found is not None and found.number in lines
 
     def holds(self, point, position):

@@ -18,8 +18,8 @@ from ...language.names import AllSymbols
 from ...language.sources import Source, words_of
 from ...language.source.statements import TAB
 from ...run import conditions, sentences
-from ...run.forms import MODES
-from ...run.turn import BLOCK_GOES_ON, COMPLETES, NAMES, RELATIVE_JUMPS, STATE_LETTERS, TWO_WORDS, WAITS_FOR
+from ...run.forms import MODES, STATES
+from ...run.turn import BLOCK_GOES_ON, COMPLETES, NAMES, RELATIVE_JUMPS, TWO_WORDS, WAITS_FOR
 from ...shell.options import given_options, in_words
 from ..keys import for_page
 from .joining import joined
@@ -68,7 +68,7 @@ def tables() -> Dict[str, Any]:
     """Returns what it has to know of every machine: the one table of instructions, and the sentences about turns."""
     return {"names": NAMES, "two_words": TWO_WORDS, "relative_jumps": list(RELATIVE_JUMPS), "symbols": SYMBOLS,
             "modes": {"reader": MODES["CR MODE"], "printer": MODES["LP MODE"]},
-            "states": [(letter, name) for name, letter in STATE_LETTERS.items()], "waits_for": WAITS_FOR,
+            "states": list(zip(STATES, ("inactive", "empty", "full", "function"))), "waits_for": WAITS_FOR,
             "goes_on_in": {"instruction": COMPLETES, "block": BLOCK_GOES_ON},
             "meanings": meanings(), "keys": for_page(), "condition": conditions.FORM,
             "sentences": {"of": {code.rjust(2, "0") if code[0] != "b" else f"b{code[1:]:>02}": rows

@@ -268,11 +268,12 @@ class Panel:
                 self.show_log()
 
     def go_to(self, text):
-        address = self.symbols.address(self.view.processor, text)
+        address, words = self.symbols.address(self.view.processor, text), text.split()
         if address is not None:
             self.view.go_to_cell(address)
-        elif text:
-            self.view.go_to(text, self.session.size)
+        elif words:
+            place = self.symbols.place_in_digits([words[0].upper(), *words[1:]])
+            self.view.go_to(text if place[1:] == words[1:] else " ".join(place), self.session.size)
 
     def go_to_turn(self, text):
         """Goes to a turn that was made."""
@@ -327,7 +328,7 @@ class Panel:
         if is_central and len(words) > 1:
             raise Failure("in central memory one word is searched at a time")
         memory = Memory(state.central) if is_central else state.memories[view.processor]
-        found = memory.find(words, 1 + (view.word if is_central else view.cell))
+        found = memory.find([int(word, 8) for word in words], 1 + (view.word if is_central else view.cell))
         if found is None:
             raise Failure(f"{text} is not there")
         view.go_to_place(*(("C", found) if is_central else ("M", view.processor, found)))

@@ -55,7 +55,7 @@ def next_change(session, places, symbols):
 def line_of(memory, address, source):
     """Returns the file and the line that an instruction is of, or was, in a list; an empty one without a source."""
     is_known = source and source.is_source and address is not None
-    line = source.line_of(address, memory.word(address), memory.word(address + 1)) if is_known else None
+    line = source.line_of(address, memory.number(address), memory.number(address + 1)) if is_known else None
     return [f"{os.path.basename(source.path)}:{line.number}"] if line else []
 
 

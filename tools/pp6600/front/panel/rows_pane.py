@@ -66,7 +66,7 @@ class Cells:
 
     def __init__(self, state, number, source=None):
         self.processor, memory, self.source = state.processors[number], state.memories[number], source
-        self.word, p = memory.word, self.processor.p
+        self.word, p = memory.number, self.processor.p
         self.back = (memory.number(0) + 1) % CELLS if self.processor.phase else None  # where a block transfer goes on
         self.here = self.processor.address(memory.number)  # its instruction, or that which began a block transfer, if it is there
         self.present = p if self.here is None else self.here
@@ -120,7 +120,7 @@ def cells_line(shown, row):
 
 def instruction_line(shown, entry):
     """Returns the line of a row as an instruction, and beside it the source line that it was of, or a text, or else its label."""
-    row, symbols, number, address = entry.row, shown.symbols, shown.view.processor, f"{entry.row.address:04o}"
+    row, symbols, number, address = entry.row, shown.symbols, shown.view.processor, entry.row.address
     was = f"was {os.path.basename(shown.view.source.path)}:{entry.line.number}" if entry.line else ""
     line = cells_line(shown, row).add(text_of(row.words).ljust(DISPLAY_WIDTH) if shown.view.has_display_code else "").add(row.text)
     named = was or symbols.text(number, address, row.words[0]) or symbols.name(number, address)
@@ -143,7 +143,7 @@ def source_line(shown, entry, width):
 def head_line(shown):
     """Returns the line above the rows: what they are, and where the processor is."""
     number, cells, source = shown.view.processor, shown.view.rows, shown.view.source
-    at = shown.symbols.name(number, cells.processor.registers["P"])
+    at = shown.symbols.name(number, cells.processor.p)
     where = f"in a block; returns to {cells.back:04o}" if cells.back is not None else f"P is {at}" if at else ""
     name = f"SOURCE {os.path.basename(source.path)}" if source else "INSTRUCTIONS"
     return MarkedLine(f"PP {number:02o}  {name}", HEAD).add(f"   {where}" if where else "")

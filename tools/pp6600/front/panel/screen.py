@@ -80,7 +80,7 @@ def is_idle(now, was, number):
     it and the slot say how many turns the processor had."""
     first, last = was.processors[number], now.processors[number]
     turns = (int(now.clock, 8) - int(was.clock, 8) + (now.slot > number) - (was.slot > number)) % CELLS
-    if (last.p - first.p - turns) % CELLS or first.phase or {**first.registers, "P": ""} != {**last.registers, "P": ""}:
+    if (last.p - first.p - turns) % CELLS or first.phase or first[1:4] != last[1:4]:
         return False
     begin, count = (first.p, turns + 1) if turns <= CELLS // 2 else (last.p, CELLS - turns + 1)  # on, or back
     return not any(any((state.memories[number].numbers * 2)[begin:begin + count]) for state in (was, now))

@@ -146,7 +146,7 @@ def long_form(state: Scope, statement: Statement) -> Statement:
 
 def bss(state: Scope, statement: Statement) -> None:
     count = state.count(the_only(statement), -CELLS)
-    state.row(has_address=True)
+    state.row(has_address=True, left_out=count)
     state.move(state.origin + count, state.location + count)
     if count < 0:
         state.warn("backwards", statement.operand.column, f"BSS goes back by {-count:o} (octal) cells")

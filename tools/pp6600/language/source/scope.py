@@ -38,6 +38,7 @@ class ListingRow(NamedTuple):
     has_address: bool
     value: Optional[int] = None
     is_set: bool = False  # the value, which may change
+    left_out: range = range(0)  # the cells of a BSS
 
 
 class Unit(NamedTuple):
@@ -258,9 +259,10 @@ class Scope:
         return [self.field(item, WORD_BITS)]
 
     # -- words
-    def row(self, words: Words = (), has_address: bool = False, value: Optional[int] = None, is_set: bool = False) -> None:
+    def row(self, words: Words = (), has_address: bool = False, value: Optional[int] = None, is_set: bool = False, left_out: int = 0) -> None:
         """Adds the present line to the listing."""
-        self.rows.append(ListingRow(self.line, self.origin, self.location, words, has_address, value, is_set))
+        cells = range(self.location, self.location + left_out)
+        self.rows.append(ListingRow(self.line, self.origin, self.location, words, has_address, value, is_set, cells))
 
     def put(self, words: Sequence[int]) -> None:
         """Puts words into the cells from here on. Of lines that follow one another only the first is reported if they can't be."""
