@@ -8,12 +8,11 @@ import re
 import shutil
 import unittest
 
-from tests.effects import AT_END_OF_BLOCK, AT_END_OF_INPUT
 from tests.films import in_node
 from tests.generator import BUSY, LOOPS, WATCHED, Maker
 from tests.support import EXAMPLES, TOP, Case, program, read
 from tests.support import run as run_program
-from tests.turns import NO_WORD, RETURN, ZERO, Recording, Turn, TurnKind
+from tests.turns import AT_END_OF_BLOCK, AT_END_OF_INPUT, NO_WORD, RETURN, ZERO, Recording, Turn, TurnKind
 
 from pp6600.engine.choose import engine_of
 from pp6600.engine.interface import CARD, CLOCK, PHASE, SLOT, WAITS, A, Form, P, Q, place_number
