@@ -2,7 +2,7 @@
 use Rattle.std.proofs.Common.{◌≡◌, ◌∙◌, ◌++◌, ◌∷◌, ◌+◌, ◌<◌, ◌≤◌, ◌==◌, [], ℕ, zero, suc, All, Bool, List, ap, arith, drop, false, get_or, length, length-append, refl, sym, true, if◌then◌else◌}
 use Rattle.std.proofs.lemmas.Bool.Decides.{nat_tests}
 use Rattle.std.proofs.lemmas.List.Elements.{All-contains, Contains-append_left, Contains-get_or, Contains-push}
-use Rattle.pp_search.specs.Forms.{HasRoom, alternative, alternatives_of, condition_of, test_of}
+use Rattle.pp_search.specs.Forms.{HasRoom, IsSmall, alternative, alternatives_of, condition_of, test_of}
 use Rattle.pp_search.specs.declared.condition.Alternative.{Alternative}
 use Rattle.pp_search.specs.declared.condition.Condition.{Condition}
 use Rattle.pp_search.specs.declared.condition.TheConstants.{MOST_ALTERNATIVES, MOST_TESTS}
@@ -26,9 +26,6 @@ drop_next : (forms : List Form) (i : ℕ) (d : Form) → i < length forms → dr
 drop_next [] i d less = absurd (omega (arith, less))
 drop_next (form ∷ forms) zero d less = refl
 drop_next (form ∷ forms) (suc i) d less = let next : suc i + 1 ≡ suc (i + 1) = omega arith in rw next (drop_next forms i d (omega (arith, less)))
-
-abbrev IsSmall : Alternative → Type 0
-IsSmall one = length one.tests.items ≤ MOST_TESTS
 
 -- an alternative behind some others
 last_small : (done : List Alternative) (tests : List Test) → All IsSmall (done ++ (alternative tests ∷ [])) → length tests ≤ MOST_TESTS

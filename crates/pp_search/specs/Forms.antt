@@ -34,11 +34,15 @@ alternatives_of done tests (form ∷ forms) =
 unfoldable pub condition_of : List Form → Condition
 condition_of forms = record { alternatives = record { items = alternatives_of [] [] forms } }
 
+-- An alternative has as few tests as there is room for.
+abbrev pub IsSmall : Alternative → Type 0
+IsSmall alternative = length alternative.tests.items ≤ MOST_TESTS
+
 -- The condition has as few alternatives, and each of them as few tests, as there is room for.
 abbrev pub HasRoom : Condition → Type 0
 HasRoom condition =
     (length condition.alternatives.items ≤ MOST_ALTERNATIVES)
-    × All (λ alternative. length alternative.tests.items ≤ MOST_TESTS) condition.alternatives.items
+    × All IsSmall condition.alternatives.items
 
 -- The form is `OR`, or that of a test that a machine with so many words of central memory has the places of.
 abbrev pub IsForm : ℕ → Form → Type 0

@@ -46,7 +46,8 @@ pub struct Form {
 
 /// Returns how many of the places from one on a form is about, or `None` if the machine does not have so many.
 fn count_of(machine: &Rig, form: &Form) -> Option<u32>
-    ensures count { IfSome result (λ count. (count ≡ form.now.first) × (form.now.place + count ≤ fixed_places + machine.now.setup.central_words)) }
+    ensures count { IfSome result (λ count. count ≡ form.now.first) }
+    ensures within { IfSome result (λ count. form.now.place + count ≤ fixed_places + machine.now.setup.central_words) }
     ensures some { form.now.place + form.now.first ≤ fixed_places + machine.now.setup.central_words → IsSome result }
 {
     let count = place_count(machine);
@@ -68,51 +69,49 @@ fn processor_of(form: &Form) -> Option<u8>
     }
 }
 
+/// Returns the test of a number, or `None` if the machine does not have its place.
+fn number_test(machine: &Rig, form: &Form) -> Option<Test>
+    requires { form.now.kind ≤ OUTSIDE }
+    ensures test { IfSome result (λ test. test ≡ spec.test_of form.now) }
+    ensures has { IfSome result (HasPlaces machine.now.setup.central_words) }
+    ensures is_form { IfSome result (λ _. IsForm machine.now.setup.central_words form.now) }
+    ensures some { IsForm machine.now.setup.central_words form.now → IsSome result }
+{
+    if form.place >= place_count(machine) {
+        return None;
+    }
+    let place = place_at(form.place);
+    let Form { first, last, .. } = *form;
+    Some(if form.kind == INSIDE {
+        Test::Inside { place, first, last }
+    } else {
+        Test::Outside { place, first, last }
+    })
+}
+
 /// Returns the test of a form, or `None` if there is no such kind, or if the machine does not have the places.
 fn test_of(machine: &Rig, form: &Form) -> Option<Test>
     requires { form.now.kind ≢ OR }
     ensures test { IfSome result (λ test. test ≡ spec.test_of form.now) }
     ensures has { IfSome result (HasPlaces machine.now.setup.central_words) }
+    ensures is_form { IfSome result (λ _. IsForm machine.now.setup.central_words form.now) }
     ensures some { IsForm machine.now.setup.central_words form.now → IsSome result }
 {
-    let Form {
-        kind,
-        place,
-        first,
-        last,
-    } = *form;
-    match kind {
-        INSIDE | OUTSIDE if place >= place_count(machine) => None,
-        INSIDE => Some(Test::Inside {
-            place: place_at(place),
-            first,
-            last,
-        }),
-        OUTSIDE => Some(Test::Outside {
-            place: place_at(place),
-            first,
-            last,
-        }),
+    let first = form.place;
+    match form.kind {
+        INSIDE | OUTSIDE => number_test(machine, form),
         CHANGES => {
             let count = count_of(machine, form)?;
-            Some(Test::Changes {
-                first: place,
-                count,
-            })
+            Some(Test::Changes { first, count })
         }
         WRITES => {
             let count = count_of(machine, form)?;
-            Some(Test::WritesTo {
-                first: place,
-                count,
-            })
+            Some(Test::WritesTo { first, count })
         }
-        PERFORMS if first <= 0o7777 => {
+        PERFORMS if form.first <= 0o7777 => {
             let pp = processor_of(form)?;
-            Some(Test::Performs {
-                pp,
-                address: first as u16,
-            })
+            let address = form.first as u16;
+            Some(Test::Performs { pp, address })
         }
         WAITS => {
             let pp = processor_of(form)?;
@@ -127,6 +126,7 @@ fn test_of(machine: &Rig, form: &Form) -> Option<Test>
 pub fn condition_of(machine: &Rig, forms: &[Form]) -> Option<Condition>
     ensures is { IfSome result (λ condition. condition ≡ spec.condition_of forms.now) }
     ensures has { IfSome result (HasAllPlaces machine.now.setup.central_words) }
+    ensures are_forms { IfSome result (λ _. AreForms machine.now.setup.central_words forms.now) }
     ensures some { AreForms machine.now.setup.central_words forms.now → IsSome result }
 {
     let mut alternatives = ArrayVec::new();
