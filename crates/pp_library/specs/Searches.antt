@@ -31,7 +31,7 @@ SearchesOn forms most old new turns result =
 -- The turns are searched, or the forms are refused and nothing is changed.
 abbrev pub Until : List Form → ℕ → UntilOuts → UntilOuts → ℕ → Type 0
 Until forms most before after result = MatchOption before.session (OnlyReturns CLOSED before after result)
-    (λ old. IsSomeAnd after.session (λ new. SearchesOn forms most old.session new.session after.turns result)
+    (λ old. (AreFormsOf old.session forms × IsSomeAnd after.session (λ new. SearchesOn forms most old.session new.session after.turns result))
     ⊎ ((AreFormsOf old.session forms → ⊥) × OnlyReturns REFUSED before after result))
 
 -- ---- pp6600_back_until
@@ -51,5 +51,5 @@ SearchesBack forms old new unwritten undone result =
 -- The actions are searched, or the forms are refused and nothing is changed.
 abbrev pub BackUntil : List Form → BackUntilOuts → BackUntilOuts → ℕ → Type 0
 BackUntil forms before after result = MatchOption before.session (OnlyReturns CLOSED before after result)
-    (λ old. IsSomeAnd after.session (λ new. SearchesBack forms old.session new.session before.undone after.undone result)
+    (λ old. (AreFormsOf old.session forms × IsSomeAnd after.session (λ new. SearchesBack forms old.session new.session before.undone after.undone result))
     ⊎ ((AreFormsOf old.session forms → ⊥) × OnlyReturns REFUSED before after result))
