@@ -5,8 +5,8 @@ import re
 from typing import Dict, List, NamedTuple, Optional, Sequence, Tuple
 
 from ..run.forms import CELLS
+from ..run.names import EQUATES, octal_number
 from .listed_words import Told, told_by
-from .names import EQUATES, octal_number
 from .printed import (
     ADDRESS, SHORT, SUBR, TAB, WITH_WORDS, WORD, Columns, Parts, Token, guessed, is_note, is_operation, operation_columns, parts_of,
     with_fields)

@@ -14,12 +14,12 @@ import zlib
 from typing import Any, Dict, Mapping, NamedTuple, Optional
 
 from ...language.display_code import SYMBOLS
-from ...language.names import AllSymbols
-from ...language.sources import Source, words_of
 from ...language.source.statements import TAB
+from ...language.sources import Source, words_of
 from ...run import conditions, sentences
 from ...run.effects import AT_END_OF_BLOCK, AT_END_OF_INPUT, IN_BLOCK, INSTRUCTIONS, STATE_LETTERS
 from ...run.forms import MODES
+from ...run.names import AllSymbols
 from ...run.turn import NAMES, RELATIVE_JUMPS, TWO_WORDS, WAITS_FOR
 from ...shell.options import given_options, in_words
 from ..keys import for_page

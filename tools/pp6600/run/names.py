@@ -7,8 +7,8 @@ import re
 from typing import Any, Dict, Iterable, List, Optional, Sequence, Tuple
 
 from ..failure import Failure
-from ..run.forms import CELLS
-from ..run.turn import Processor
+from .forms import CELLS
+from .turn import Processor
 
 FARTHEST = 0o77  # from a symbol of a list to a cell: such a list says nothing of the program's cells
 EQUATES = ("=", "EQU")  # before the number of a name that is no label
