@@ -6,7 +6,7 @@ import random
 from tests.support import program
 
 from pp6600 import EMPTY, INACTIVE, NOTHING, Attached, Console, Device, full
-from pp6600.convert.cells import set_lines
+from pp6600.language.cells import set_lines
 from pp6600.devices.card_reader import CardReader
 from pp6600.devices.controller import Controller
 from pp6600.devices.line_printer import LinePrinter

@@ -26,7 +26,7 @@ from tests.support import EXAMPLES, TOP, Case, program, write
 from pp6600.front.panel.app import Panel
 from pp6600.front.panel.logged_session import LoggedSession
 from pp6600.language.symbol_options import symbols_from
-from pp6600.shell.device_options import device_of
+from pp6600.devices.options import device_of
 
 PROGRAM = program()
 LINE = re.compile(r"([a-z.]+\| ?|\$ panel ?|> |: |again: |= |\||~|ends|\.\.)(.*)")

@@ -11,7 +11,7 @@ from tests.device_law import DUMPS, PANEL, Definition, FewStates, RandomDevice, 
 from tests.support import Case, program
 
 from pp6600 import INACTIVE, NOTHING, Attached, Device, Failure, full
-from pp6600.convert.cells import set_lines
+from pp6600.language.cells import set_lines
 from pp6600.front.debug.debugged import MachineWithDevices
 from pp6600.front.debug.running import Runner
 from pp6600.run.device import Chain, Reply, chain_of, is_value

@@ -9,7 +9,7 @@ from tests.support import EXAMPLES, PYTHON, Case, add_tests, program, read, run,
 
 from pp6600 import Attached, Console, Failure
 from pp6600.run.device import Event
-from pp6600.shell.device_options import NAMES, device_of, script_with
+from pp6600.devices.options import NAMES, device_of, script_with
 from pp6600.devices.card_reader import CardReader
 from pp6600.devices.console_display import ConsoleDisplay
 from pp6600.devices.line_printer import LinePrinter

@@ -10,7 +10,7 @@ from .films import in_node
 from .support import TOP, Case, read
 
 from pp6600.front.film import page
-from pp6600.language.names import AllSymbols
+from pp6600.run.names import AllSymbols
 from pp6600.language.source.writing import set_lines
 from pp6600.language.sources import Source
 

@@ -12,7 +12,7 @@ from tests.support import add_tests, program, read, tool
 from pp6600.devices.pictures import svg
 from pp6600.run.attached import Attached
 from pp6600.run.device import drawn
-from pp6600.shell.device_options import device_of
+from pp6600.devices.options import device_of
 
 # In the page: of each line of the origin of a place at the end of the film the place and number, and the turn.
 PAGE_LINES = """(([name]) => { const { film, sources } = page.store.state, rows = m_machine_origins.originLines(film, sources, film.placeNamed(name));

@@ -3,6 +3,7 @@
     PP6600_ERRORS=SEED:COUNT   makes COUNT errors of each kind from seed SEED on (decimal)
 """
 
+import contextlib
 import glob
 import os
 import random
@@ -143,3 +144,42 @@ class Errors(Case):
                 changed = f"{line[:at]}{int(line[at]) ^ 1}{line[at + 1:]}"
                 with self.subTest(changed):
                     self.assertRaises(Failure, Listing, [*lines[:number], changed, *lines[number + 1:]])
+
+    def check_each_digit(self, source, first, last):
+        """Checks that each other digit in some columns of the listing of a source is found, or makes no difference."""
+        lines = own(source)
+        wanted = self.words(lines)
+        for number, line in enumerate(lines):
+            for at in [at for at in range(first, min(last, len(line))) if line[at] in "01234567"]:
+                for digit in set("01234567") - {line[at]}:
+                    changed = f"{line[:at]}{digit}{line[at + 1:]}"
+                    with contextlib.suppress(Failure):
+                        self.assertEqual(wanted, self.words([*lines[:number], changed, *lines[number + 1:]]), changed)
+
+    def test_digits_of_literals(self):
+        """Another digit in the words of a literal, in its address, or beside a name on a macro's call is found."""
+        self.check_each_digit(["          BASE   OCTAL", "          ORG    100", " STORE    MACRO  A,B", "          LDN    A", "          STD    B",
+                               "          ENDM", " START    LDN    2", " LAB      STORE  5,20", "          LJM    LAB", "          LDM    =5",
+                               "          LDC    =H*ABCD*", "          CON    =7", "          END    START"], 0, 20)
+
+    def test_name_without_a_table(self):
+        """A name that the listing does not have, as one of the system's, is one number in all lines."""
+        lines = ["0100  5000 7501   START LDM  PPFW", "0102  5400 7501   STM  PPFW", "0104  7013        IAN  CH", "0105  7213        OAN  CH"]
+        self.assertEqual(6, len(self.words(lines)))
+        for number, wrong in ((1, "0102  5400 7502   STM  PPFW"), (3, "0105  7212        OAN  CH")):
+            with self.assertRaisesRegex(Failure, "in this line, and"):
+                self.words([*lines[:number], wrong, *lines[number + 1:]])
+
+
+class Own(Case):
+    def test_micro(self):
+        """What stands for a micro is not printed, so the words say nothing else."""
+        lines = own(["          BASE   OCTAL", "          ORG    100", " HI       MICRO  1,,/OK/", "          DIS    ,*\"HI\"*", "          CON    2R\"HI\""])
+        self.assertEqual([0o1713, 0, 0o1713], list(Errors.words(lines).values()))
+
+    def test_two_programs(self):
+        """Of the programs of a source the first is loaded, as by --words."""
+        for origin in ("100", "200"):
+            lines = own(["          IDENT  A", "          BASE   OCTAL", "          ORG    100", " START    LDN    1", "          LDC    =5", "          IDENT  B",
+                         f"          ORG    {origin}", " BEGIN    LDN    2", "          UJN    BEGIN", "          END    BEGIN"])
+            self.assertEqual({0o100: 0o1401, 0o101: 0o2000, 0o102: 0o103, 0o103: 5}, Errors.words(lines))

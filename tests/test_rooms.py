@@ -18,8 +18,8 @@ def upward(found, order):
 
 class Rooms(Case):
     def test_imports_go_down(self):
-        """If an import goes up, move what it needs down. If one of UPWARD goes up no longer, take it out of UPWARD."""
-        self.assertEqual(sorted(USES["UPWARD"]), upward(IMPORTS, USES["order_of_rooms"]()))
+        """If an import goes up, move what it needs down."""
+        self.assertEqual([], upward(IMPORTS, USES["order_of_rooms"]()))
 
     def test_every_room_is_in_the_table(self):
         folders = [entry.name for entry in os.scandir(USES["PACKAGE"]) if entry.is_dir() and entry.name[0] != "_"]

@@ -1,7 +1,6 @@
 """What uses what: the crates, by crates.txt, and the rooms of the tools, by their imports.
 
-A room of tools/pp6600 imports the rooms below it alone. They are in the order of the table of docs/ARCHITECTURE.md, the uppermost first.
-UPWARD has the imports that still go up, from a module to another one. It may only become shorter."""
+A room of tools/pp6600 imports the rooms below it alone. They are in the order of the table of docs/ARCHITECTURE.md, the uppermost first."""
 
 import ast
 import glob
@@ -11,17 +10,6 @@ import re
 TOP = os.path.dirname(os.path.dirname(os.path.dirname(os.path.abspath(__file__))))
 PACKAGE = os.path.join(TOP, "tools", "pp6600")
 FOR_TESTS = re.compile("test_|pp_worked$|pp_mnemonics$")
-UPWARD = [
-    ("run.conditions", "language.names"),
-    ("run.conditions", "shell.options"),
-    ("run.device", "devices.pictures"),
-    ("run.origin_text", "language.names"),
-    ("run.origin_text", "shell.text_files"),
-    ("shell.device_options", "devices.__init__"),
-    ("shell.device_options", "devices.controller"),
-    ("shell.device_options", "devices.converter"),
-    ("language.listing", "convert.cells"),
-]
 
 
 def crates():
@@ -76,7 +64,7 @@ def room_of(module):
 
 
 def rooms():
-    """Returns the rooms that each room imports, but by the imports of UPWARD."""
-    allowed = {(room_of(user), room_of(used)) for user, used in imports() - set(UPWARD)}
+    """Returns the rooms that each room imports."""
+    allowed = {(room_of(user), room_of(used)) for user, used in imports()}
     order = order_of_rooms()
     return {room: [used for used in order if (room, used) in allowed] for room in order}

@@ -4,11 +4,11 @@ from argparse import Namespace
 from typing import List, Sequence, Tuple
 
 from ..failure import naming_line
+from ..language.cells import set_lines, word_of
 from ..language.listing import Listing, complain_of, is_listing, without_mark
 from ..language.printed import Columns
 from ..shell.command_line import Failure, Parser, bytes_of, cell, processor, read_lines, words_after, write_lines
 from ..shell.ending import complain, flush
-from .cells import set_lines, word_of
 
 DESCRIPTION = """Writes the SET lines that load the words of a file into the cells of processor N from cell A on; after
 cell 7777 comes cell 0000. Without an option the file is text: octal numbers to 7777, one or many a line; what follows a *

@@ -2,11 +2,11 @@
 
 from typing import Callable, Dict, Iterable, List, Optional, Sequence
 
+from ..devices.options import replayed
+from ..language.cells import in_rows, set_lines
 from ..language.symbol_options import add_sources, symbols_of
 from ..run.forms import COLUMNS_OF_CARD, ROW
 from ..shell.command_line import Failure, arguments, cell, processor, words_after, write_bytes, write_lines
-from ..shell.script import replayed
-from .cells import in_rows, set_lines
 
 PANEL_WORDS = 12  # decimal
 DESCRIPTION = """Writes cells A to B of processor N at the end of a script, for load: without an option rows of octal words;

@@ -4,10 +4,10 @@ import re
 from argparse import Namespace
 from typing import List, Optional, Sequence
 
+from ..language.cells import in_rows, set_lines, word_of
 from ..language.display_code import text_of, words_of
 from ..run.forms import CELLS, ROW
 from ..shell.command_line import Failure, Parser, cell, processor, read_lines, words_after, write_lines
-from .cells import in_rows, set_lines, word_of
 
 DESCRIPTION = """Turns text into words of display code, two symbols a word, eight words a line. Small letters become
 capitals, and an odd text ends in a blank. With --at N A it writes them as SET M lines, for processor N from cell A on.

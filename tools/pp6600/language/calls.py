@@ -6,11 +6,11 @@ from __future__ import annotations
 from typing import TYPE_CHECKING, List, NamedTuple, Optional
 
 from ..run.forms import CELLS, Place
+from ..run.names import AllSymbols
 from ..run.origin_search import SET, TURN, OriginSearch, Step
 from ..run.session import Session
 from ..run.subroutines import Call, calls_at
 from ..run.tape import Position
-from .names import AllSymbols
 
 if TYPE_CHECKING:
     from .sources import Source

@@ -1,13 +1,15 @@
-"""What the assembler makes of a line of a listing, as far as its operands are numbers or names of the listing itself."""
+"""What the assembler makes of a line of a listing, as far as its operands are numbers or names of the listing itself; and what a line says of
+a literal, or of a name that the listing does not have."""
 
-from typing import Dict, List, Optional, Sequence
+import contextlib
+from typing import Dict, List, Optional, Sequence, Set, Tuple
 
 from .printed import SUBR
-from .source.codes import CODES, form_of
+from .source.codes import CODES, Form, form_of
 from .source.directives import MAKERS
 from .source.encoding import operands_of, words_of
 from .source.messages import Fault, Follows
-from .source.scope import Scope
+from .source.scope import WORD_BITS, Scope
 from .source.statements import Field, Line, Statement, statement_or_none
 from .source.symbols import Symbol
 
@@ -24,10 +26,13 @@ class Told(Scope):
         self.is_placed = origin is not None and location is not None
         self.origin, self.location = origin or 0, location or 0
         self.instead: Optional[int] = None  # of a field of an instruction that is not known
+        self.met: Dict[str, Tuple[int, ...]] = {}  # the words of literals by their texts
+        self.unknown: Set[str] = set()  # names that were met
 
     def look_up(self, name: str, column: int, from_above: bool) -> Symbol:
         value = self.known.get(name)
         if value is None:
+            self.unknown.add(name)
             raise Follows
         return Symbol(value, 0, True)
 
@@ -43,7 +48,23 @@ class Told(Scope):
             return self.instead & (1 << bits) - 1
 
     def literal(self, operand: Field) -> int:
+        instead, self.instead = self.instead, None
+        with contextlib.suppress(Fault, Follows):
+            self.met[operand.text] = tuple(self.data(Field(operand.text[1:], operand.column + 1)))
+        self.instead = instead
         raise Follows
+
+    def fields(self, operation: str, operand: str, words: Sequence[int]) -> Dict[str, Tuple[str, int]]:
+        """Returns the number that words of an instruction or of CON have for an operand that is one literal or one name, and the field of
+        it. The address of a relative jump is in none."""
+        parts, form = operand.split(","), form_of(CODES[operation]) if operation in CODES else None
+        if operation == "CON" and len(parts) == len(words) == 1:
+            return {parts[0]: ("m", words[0])}
+        if form in (Form.INDEXED, Form.BOTH) and len(words) == 2:
+            return {**{part: ("d", words[0] & D) for part in parts[1:]}, parts[0]: ("m", words[1])}
+        if form is Form.CONSTANT and len(parts) == 1 and len(words) == 2:
+            return {parts[0]: ("dm", (words[0] & D) << WORD_BITS | words[1])}
+        return {parts[0]: ("d", words[0] & D)} if form is Form.D and len(parts) == len(words) == 1 else {}
 
     def number(self, text: str) -> Optional[int]:
         """Returns the number of the operand of a statement; None if it is not known."""

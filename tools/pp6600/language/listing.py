@@ -3,12 +3,12 @@
 import sys
 from typing import Callable, Dict, List, Optional, Sequence, Tuple, TypeVar
 
-from ..convert.cells import set_lines
 from ..failure import Failure, Faults
 from ..run.forms import CELLS
+from ..run.names import EQUATES, AddressNames, Names, octal_number
 from ..shell.ending import shown_text
 from ..shell.text_files import named, read_lines
-from .names import EQUATES, AddressNames, Names, octal_number
+from .cells import set_lines
 from .printed import NAME, TAB, Columns, continuity, first_runs, guessed, is_note, tokens_of, with_words
 from .reading import Printed, Printout
 from .source.messages import Message

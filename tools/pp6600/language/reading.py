@@ -5,17 +5,18 @@ import re
 from typing import Dict, List, NamedTuple, Optional, Sequence, Tuple
 
 from ..run.forms import CELLS
+from ..run.names import EQUATES, octal_number
 from .listed_words import Told, told_by
-from .names import EQUATES, octal_number
 from .printed import (
     ADDRESS, SHORT, SUBR, TAB, WITH_WORDS, WORD, Columns, Parts, Token, guessed, is_note, is_operation, operation_columns, parts_of,
     with_fields)
 from .source.codes import CODES, MNEMONICS, size_of
-from .source.directives import BASES
+from .source.directives import BASES, SYMBOLS_OF_MICRO
 from .source.messages import Message
 from .source.scope import LITERAL, LITERALS, NOMINAL, WORD_BITS
 
 HERE = re.compile(r"\*[LO]?([-+][0-9]+[BDO]?)?")  # an operand that is an address near that of its line
+MICRO, DEFINE_MICROS = re.compile('"([^"]+)"'), ("MICRO", "DECMIC", "OCTMIC")
 DUPLICATED = re.compile(r"\bDUPLICATED? LINES?\b", re.I)
 LABELLED = ("BSS", "ORG", "LOC", "END", "USE", "BSSZ")  # of the operations without words those whose label is an address
 BITS = re.compile("(?:^|,)([0-9]{1,2})/")  # of the fields of a VFD
@@ -52,6 +53,7 @@ class Printout:
         all_parts = [parts_of(line, self.columns) for line in texts]
         operations = operation_columns(all_parts)
         self.parts = [with_fields(parts, operations) for parts in all_parts]  # of each line
+        self.labels = {parts.label.upper() for parts in self.parts}
         self.has_zeros = any(parts.address and parts.words and WITH_ZEROS.fullmatch(parts.address.text) for parts in all_parts)
 
     def read(self) -> "PrintedReading":
@@ -78,13 +80,22 @@ class PrintedReading:
         self.end = 0  # the highest address of the nominal block, after which come the literals
         self.start: Optional[int] = None  # that END names
         self.bits = 0  # of the last word that a VFD has filled
+        self.is_other = False  # the program: a second one of the source, which is not loaded
+        self.micros = set(SYMBOLS_OF_MICRO)
+        self.literals: List[Tuple[Message, int, Tuple[int, ...]]] = []  # the address of each that a line names, its words, and what is to be said
+        self.fields: Dict[Tuple[str, str], Tuple[int, int]] = {}  # of names that the listing does not have: the number, and the line
         for self.number, parts in enumerate(printout.parts, 1):
             if not is_note(parts.line):
-                self.entries.append(self.entry(parts))
+                self.entries.append(self.of_program(self.entry(parts)))
                 self.end = max(self.end, self.origin or 0) if self.used[-1] == NOMINAL else self.end
         self.check_statement()
+        self.check_literals()
         if self.is_repeated:
             self.doubt(None, "no line says where the duplicated lines end")
+
+    def of_program(self, entry: Printed) -> Printed:
+        """Returns what a line says of the first program of the source, which alone is loaded."""
+        return entry._replace(words=(), left_out=range(0), is_passed=entry.is_passed or bool(entry.words)) if self.is_other else entry
 
     def doubt(self, token: Optional[Token], text: str) -> None:
         self.doubts.append(Message(self.number, token.start + 1 if token else 1, text))
@@ -251,7 +262,11 @@ class PrintedReading:
         if name == "BASE":
             self.base = next((base for word, base in BASES.items() if parts.operand and word.startswith(parts.expression)), self.base)
         elif name == "IDENT":
+            self.check_statement()
             self.origin, self.moved, self.has_ended = None, 0, False
+            self.is_other = self.is_other or any(one.words for one in self.entries)
+        elif name in DEFINE_MICROS:
+            self.micros.add(parts.label.upper())
         if name not in LABELLED:
             return entry
         self.check_statement()
@@ -297,13 +312,13 @@ class PrintedReading:
             _, load = self.places(parts, None)
             self.origin = load if self.origin is None else self.origin
         if name == "END":
-            self.has_ended, self.start = True, value
+            self.has_ended, self.start = True, self.start if self.is_other else value
         elif value is None or self.origin is None:
             self.origin = None
         elif name == "BSSZ":
             count = max(0, min(value, CELLS))
             if count:
-                self.entries.append(Printed(self.number, "", self.location or 0, self.origin, (0,) * count))
+                self.entries.append(self.of_program(Printed(self.number, "", self.location or 0, self.origin, (0,) * count)))
             self.origin += count
         else:
             self.origin += value
@@ -374,9 +389,33 @@ class PrintedReading:
         if not statement or not self.known or any(None in entry.words for entry in statement):
             return
         first, parts = statement[0], self.printout.parts[statement[0].number - 1]
-        wanted = told_by(Told(self.known, self.base, first.load, first.address), parts.operation, parts.statement, words)
+        if self.micros.intersection(MICRO.findall(parts.text.upper())):  # what stands for it is not printed
+            return
+        told = Told(self.known, self.base, first.load, first.address)
+        wanted = told_by(told, parts.operation, parts.statement, words)
+        column = parts.words[0].start + 1 if parts.words else parts.column + 1
         if wanted is not None and wanted != words:
-            shown = [" ".join(f"{word:04o}" for word in some) for some in (words, wanted)]
             said = f"{parts.operation} {parts.expression}".rstrip()
-            column = parts.words[0].start + 1 if parts.words else parts.column + 1
-            self.doubts.append(Message(first.number, column, f"the line has {shown[0]}, and {said} makes {shown[1]}"))
+            self.doubts.append(Message(first.number, column, f"the line has {digits_of(words)}, and {said} makes {digits_of(wanted)}"))
+        for text, (field, number) in told.fields(parts.operation, parts.expression, words).items():
+            if text in told.met:
+                made = told.met[text]
+                said = f"{text} is at {number:04o} by this line, and makes {digits_of(made)}"
+                self.literals += [] if self.is_other else [(Message(first.number, column, said), number, made)]
+            if text in told.unknown and text.upper() not in self.printout.labels and not self.is_other:
+                was, line = self.fields.setdefault((text, field), (number, first.number))
+                if was != number:
+                    self.doubts.append(Message(first.number, column, f"{text} is {number:o} in this line, and {was:o} in line {line} (decimal)"))
+
+    def check_literals(self) -> None:
+        """Compares the words of literals with what is printed at their addresses, if literals are printed."""
+        cells = {one.address + at: word for one in self.entries for at, word in enumerate(one.words)}
+        is_printed = any(one.text == LITERAL for one in self.entries)
+        for message, address, made in self.literals if is_printed else ():
+            found = [cells[at] for at in range(address, address + len(made)) if at in cells]
+            if found != [*made] and None not in found:
+                self.doubts.append(message._replace(text=f"{message.text}, and there is {digits_of(found) or 'nothing'}"))
+
+
+def digits_of(words: Sequence[Optional[int]]) -> str:
+    return " ".join(f"{word:04o}" for word in words if word is not None)

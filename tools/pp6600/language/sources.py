@@ -9,11 +9,11 @@ from typing import Dict, Iterator, List, NamedTuple, Optional, Sequence, Tuple
 
 from ..failure import Failure, Faults
 from ..run.forms import Place
+from ..run.names import AddressNames, Names
 from ..run.tape import SourceLine
 from ..run.turn import TWO_WORDS, places_of_setting
 from ..shell.text_files import named, read_lines
 from .listing import Listing, is_printed, shown_messages, without_mark
-from .names import AddressNames, Names
 from .source.codes import CELLS, CODES
 from .source.passes import Program, Texts, assembled
 from .source.scope import FilledCell, ListingRow

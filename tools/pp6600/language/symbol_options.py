@@ -6,8 +6,8 @@ from argparse import Namespace
 from typing import Iterable, Optional, Sequence
 
 from ..failure import Failure
+from ..run.names import AllSymbols
 from ..shell.options import Parser, processor
-from .names import AllSymbols
 
 
 def add_files(parser: Parser, option: str, text: str) -> None:

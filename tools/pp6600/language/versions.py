@@ -6,8 +6,8 @@ the same in both if its digits are, or if it is the address of the same label.""
 from typing import Iterator, Sequence
 
 from ..run.forms import CELLS
+from ..run.names import AddressNames
 from ..run.state import Difference, State
-from .names import AddressNames
 
 ADDRESSES = ("P", "A", "Q")  # registers that may hold an address
 LONGEST_BUFFER = 0o777  # cells behind the last label that may be its own

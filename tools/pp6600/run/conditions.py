@@ -13,9 +13,8 @@ from typing import Any, Iterable, List, NamedTuple, Optional, Sequence, Tuple, U
 from ..engine import interface as flat
 from ..engine.interface import CHANGES, INSIDE, MOST_TESTS, OR, OUTSIDE, PERFORMS, WRITES, Form
 from ..failure import Failure
-from ..language.names import AllSymbols
-from ..shell.options import octal
-from .forms import CLOCK, PROCESSORS, REGISTERS, STATES, Place
+from .forms import CLOCK, PROCESSORS, REGISTERS, STATES, Place, octal
+from .names import AllSymbols
 from .session import Session
 
 FORM = ("a condition is PLACE = 105 (also != < > <= >=), PLACE outside 100 117, PLACE inside 100 117, PLACE changes or is written, "

@@ -11,7 +11,6 @@ import enum
 import functools
 from typing import Any, Callable, Iterable, List, NamedTuple, Optional, Tuple
 
-from ..devices.pictures import Picture
 from ..failure import Failure
 from .forms import STATES
 
@@ -105,8 +104,8 @@ class Device:
         """Returns all that the device has printed."""
         return ""
 
-    def picture(self, state: Any) -> Optional[Picture]:
-        """Returns what the device shows in a state; None if it shows nothing."""
+    def picture(self, state: Any) -> Any:
+        """Returns what the device shows in a state, a `Picture`; None if it shows nothing."""
         return None
 
 
@@ -169,7 +168,7 @@ def is_value(state: Any) -> bool:
     return isinstance(state, enum.Enum)
 
 
-def drawn(device: Device, state: Any, draw: Callable[[Picture], Any]) -> Any:
+def drawn(device: Device, state: Any, draw: Callable[[Any], Any]) -> Any:
     """Returns what a function makes of the picture of a device in a state; None if it shows nothing."""
     try:
         picture = device.picture(state)

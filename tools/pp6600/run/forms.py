@@ -79,10 +79,7 @@ class Place(NamedTuple):
         if not 0 < end <= len(words):
             more = f"; also {' or '.join(also)} with a number" if also else ""
             raise Failure(f"a place is M n a, A n, P n, Q n, C a or H c, as on a console line{more}")
-        for number in words[1:end]:
-            if not re.fullmatch("[0-7]+", number):
-                raise Failure(f"{number} is not octal")
-        return cls(kind, tuple(int(number, 8) for number in words[1:end])), words[end:]
+        return cls(kind, tuple(map(octal, words[1:end]))), words[end:]
 
     @classmethod
     def at(cls, number: int) -> Place:
@@ -113,6 +110,13 @@ class Place(NamedTuple):
     def exists(self) -> bool:
         """Whether the machine has it; of a central word and a symbol of the paper it depends on the machine."""
         return all(number < size for number, size in zip(self.numbers, ALL_KINDS[self.kind].sizes))
+
+
+def octal(text: str) -> int:
+    """Returns a number that is typed."""
+    if not re.fullmatch("[0-7]+", text):
+        raise Failure(f"{text} is not octal")
+    return int(text, 8)
 
 
 def fields(line: str) -> Dict[str, str]:

@@ -1,8 +1,7 @@
 """A script that is performed: its lines with their answers, those that were refused, and the tape of what is in effect at its end."""
 
 import sys
-from argparse import Namespace
-from typing import Any, Callable, Iterable, List, Optional, Sequence, Tuple
+from typing import Callable, Iterable, List, Optional, Sequence, Tuple
 
 from ..failure import naming_line
 from ..run.console import Console
@@ -10,10 +9,9 @@ from ..run.device import Device, DeviceFailure
 from ..run.forms import is_refusal
 from ..run.reasons import reason
 from ..run.session import Session
-from ..run.tape import History, Position, Tape, counted, room_of
+from ..run.tape import History, Tape, counted, room_of
 from .ending import complain, flush, shown_text, write
-from .options import simulator
-from .text_files import script_lines, shown
+from .text_files import shown
 
 MOST_SHOWN = 60  # characters of a line that was refused
 Took = Callable[[str, List[str], Optional[Tuple[int, int]]], object]
@@ -117,16 +115,3 @@ def performed(words: Sequence[str], lines: Iterable[str], devices: Sequence[Devi
     script = Script(console, lines)
     console.end()
     return script
-
-
-def replayed(asked: Namespace, symbols: Any, path: Optional[str], turn: Optional[int] = None) -> Tuple[Session, Script]:
-    """Performs the script of a command line, after the lines that load its sources. Returns a simulator before the actions that are
-    in effect at its end, or after a turn with the settings before the next one; and the script."""
-    from .device_options import devices_of  # which needs this module
-    words = simulator(asked)
-    devices = devices_of(asked) if getattr(asked, "device", None) else []
-    script = performed(words, symbols.loading(script_lines(path)), devices)
-    tape = script.tape
-    run = Session.of_tape(words, tape if turn is None else tape.part(Position(0), tape.after_turn(turn)))
-    run.device_channels = frozenset(device.channel for device in devices)
-    return run, script

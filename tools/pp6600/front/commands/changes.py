@@ -3,19 +3,18 @@
 from collections import ChainMap
 from itertools import takewhile
 
+from ...devices.options import add_devices, replayed
 from ...engine.interface import PAPER, PAPER_LENGTH
 from ...language.display_code import SYMBOLS
-from ...language.names import AllSymbols
 from ...language.symbol_options import add_symbols, symbols_of
 from ...run.conditions import changes, column_of, first_place
+from ...run.names import AllSymbols
 from ...run.recording import next_turn
 from ...run.search import Search, TurnFinder
 from ...run.state import differences
 from ...run.tape import STEP, WATCH_WORDS, SourceLine
 from ...run.turn import places_of_setting
 from ...shell.command_line import arguments, count, words_after, write_lines
-from ...shell.device_options import add_devices
-from ...shell.script import replayed
 
 LINE_END = 0o100  # among the symbols of the paper
 DESCRIPTION = """Shows every change of a place (M 0 106, A 0, C 1000, H 12 ..) over the whole run of a script, however

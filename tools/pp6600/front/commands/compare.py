@@ -1,10 +1,10 @@
 """Two runs: the first turn after which the machines differ."""
 
 from ...engine.interface import P
-from ...language.names import AllSymbols
 from ...language.symbol_options import add_files, add_symbols, symbols_from, symbols_of
 from ...language.versions import Versions, address_name
 from ...run.forms import PROCESSORS
+from ...run.names import AllSymbols
 from ...run.search import halve
 from ...run.session import Session
 from ...run.state import central_differences, central_of, state_of

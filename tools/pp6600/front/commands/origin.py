@@ -3,14 +3,14 @@
 import sys
 import time
 
-from ...language.names import AllSymbols
+from ...devices.options import add_devices, devices_of
+from ...language.origin_text import MOST_STEPS, origin_rows
 from ...language.symbol_options import add_symbols, symbols_of
 from ...run.conditions import first_place
-from ...run.origin_text import MOST_STEPS, origin_rows
+from ...run.names import AllSymbols
 from ...run.session import Session
 from ...run.tape import numbered
 from ...shell.command_line import Failure, arguments, count, octal, script_lines, simulator, words_after, write_lines
-from ...shell.device_options import add_devices, devices_of
 from ...shell.script import performed
 
 DESCRIPTION = """Shows where the number at a place (M 0 106, A 0, C 1000, H 12 ..; XP 0: a word of the frame; LP 7: a symbol of the

@@ -1,5 +1,6 @@
 """The whole machine on a screen of 80 columns and 24 lines (decimal)."""
 
+from ...devices.options import add_devices, devices_of, timeline
 from ...language.calls import calls, sentence
 from ...language.symbol_options import add_symbols, symbols_of
 from ...run.forms import PROCESSORS
@@ -7,7 +8,6 @@ from ...run.session import Session
 from ...run.tape import counted
 from ...run.turn import states_of
 from ...shell.command_line import add_script, add_turn, arguments, script_lines, simulator, write_lines
-from ...shell.device_options import add_devices, devices_of, timeline
 from ...shell.script import Refusals
 
 DESCRIPTION = """Shows the machine at the end of a script, or after a turn, on one screen: the ten processors with the two words

@@ -1,8 +1,8 @@
 """A script, then lines of the keyboard."""
 
+from ...devices.options import add_devices, devices_of, timeline
 from ...language.symbol_options import add_sources, symbols_of
 from ...shell.command_line import Failure, arguments, script_lines, simulator, words_after
-from ...shell.device_options import add_devices, devices_of, timeline
 from ...shell.keyboard import converse, edit_lines
 from ...shell.script import show_lines
 

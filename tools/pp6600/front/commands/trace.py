@@ -3,18 +3,17 @@
 from array import array
 from itertools import takewhile
 
+from ...devices.options import add_devices, replayed
 from ...engine import interface as flat
 from ...engine.interface import CHANGES, INSIDE, Form
-from ...language.names import AllSymbols
 from ...language.symbol_options import add_symbols, symbols_of
 from ...run.conditions import is_written
 from ...run.forms import CELLS, CLOCK, PROCESSORS
+from ...run.names import AllSymbols
 from ...run.search import TurnFinder, around, ranges_of, spans
 from ...run.tape import REJECT, STEP, Position, ReplyLine
 from ...run.turn import CHANNEL_CODES, CHANNEL_JUMPS
 from ...shell.command_line import add_script, arguments, channel, count, processor, write_lines
-from ...shell.device_options import add_devices
-from ...shell.script import replayed
 
 DESCRIPTION = """Shows each turn of a script, as the processor stood before it: the turn, counted in octal from 1, the
 processor, P, the one or two words of the instruction, its name, A, Q and the phase; and WAITS if the turn was a wait.

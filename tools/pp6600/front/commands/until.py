@@ -2,13 +2,12 @@
 
 from itertools import islice
 
-from ...language.names import AllSymbols
+from ...devices.options import add_devices, replayed
 from ...language.symbol_options import add_symbols, symbols_of
 from ...run import conditions
+from ...run.names import AllSymbols
 from ...run.searches import last_moments, search_for
 from ...shell.command_line import Failure, arguments, count, words_after, write
-from ...shell.device_options import add_devices
-from ...shell.script import replayed
 
 DESCRIPTION = """Shows the first turn at whose end a condition holds and at whose beginning it did not. A condition is PLACE = 105,
 also != < > <= >= (in quotation marks, for the shell), PLACE outside 100 117 or inside, PLACE changes or is written, M 0 100 117 changes or

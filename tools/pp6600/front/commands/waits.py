@@ -4,13 +4,14 @@ import sys
 from contextlib import closing
 from typing import NamedTuple
 
+from ...devices.options import add_devices, replayed
 from ...engine import interface as flat
 from ...engine.choose import is_proved
 from ...engine.interface import CHANGES, Form
-from ...language.names import AllSymbols
 from ...language.symbol_options import add_symbols, symbols_of
 from ...run.conditions import Column, Condition, changes
 from ...run.forms import CELLS, CLOCK, MOST_TURNS, MOST_WATCHES, PROCESSORS, REGISTERS, Place
+from ...run.names import AllSymbols
 from ...run.search import Search, TurnFinder, last_found
 from ...run.searches import last_moments
 from ...run.session import Session
@@ -19,8 +20,6 @@ from ...run.tape import STEP
 from ...run.turn import CHANNEL_JUMPS, places_of_setting
 from ...run.written import made_turn
 from ...shell.command_line import add_script, add_turn, arguments, write_lines
-from ...shell.device_options import add_devices
-from ...shell.script import replayed
 
 DESCRIPTION = """Shows each processor that waits at the end of a script: the address of its instruction and its name, P,
 the channel that it waits for with its state and register, and the turn since which it waits, counted in octal from 1.

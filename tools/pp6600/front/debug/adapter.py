@@ -2,13 +2,13 @@
 
 import itertools
 
+from ...devices.options import device_of
 from ...engine.choose import default_engine
 from ...failure import Failure
 from ...language.symbol_options import symbols_from
 from ...run.device import DeviceFailure
 from ...run.forms import PROCESSORS
 from ...run.tape import counted
-from ...shell.device_options import device_of
 from ...shell.ending import shown_text
 from ...shell.options import OPTIONS, processor
 from ...shell.text_files import script_lines, shown

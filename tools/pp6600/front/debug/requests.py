@@ -4,8 +4,8 @@ import base64
 import binascii
 
 from ...failure import Failure
-from ...convert.cells import set_lines
 from ...language.calls import calls, sentence
+from ...language.cells import set_lines
 from ...run.forms import CELLS, PROCESSORS, hit_of
 from .breakpoints import ProcessorCell
 from .listings import instruction

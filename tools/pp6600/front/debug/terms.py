@@ -12,6 +12,7 @@ from typing import Callable, NamedTuple, Optional
 
 from ...failure import Failure
 from ...run.conditions import Column, Condition, first_place, parsed
+from ...run.forms import octal
 
 SIGNS = {"=": operator.eq, "==": operator.eq, ">": operator.gt, ">=": operator.ge, "<": operator.lt, "<=": operator.le,
          "%": lambda count, number: count % number == 0}
@@ -25,9 +26,7 @@ def hits_of(text):
     found = COUNT.fullmatch(text)
     if not found:
         raise Failure(f"{text} is no count of hits: it is a number, or one of = > >= < <= % and a number")
-    if not re.fullmatch("[0-7]+", found[2]):
-        raise Failure(f"{found[2]} is not octal")
-    sign, number = found[1] or "=", int(found[2], 8)
+    sign, number = found[1] or "=", octal(found[2])
     if not number and sign == "%":
         raise Failure("no number is a multiple of 0")
     return lambda count: SIGNS[sign](count, number)

@@ -3,9 +3,9 @@
 import re
 
 from ...failure import Failure
-from ...language.names import AllSymbols
 from ...run.conditions import Column
 from ...run.forms import KINDS, PROCESSORS, REGISTERS, Place
+from ...run.names import AllSymbols
 from .breakpoints import ProcessorCell, checked
 from .terms import of_processor
 

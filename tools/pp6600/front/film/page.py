@@ -14,11 +14,11 @@ import zlib
 from typing import Any, Dict, Mapping, NamedTuple, Optional
 
 from ...language.display_code import SYMBOLS
-from ...language.names import AllSymbols
-from ...language.sources import Source, words_of
 from ...language.source.statements import TAB
+from ...language.sources import Source, words_of
 from ...run import conditions, sentences
 from ...run.forms import MODES, STATES
+from ...run.names import AllSymbols
 from ...run.turn import BLOCK_GOES_ON, COMPLETES, NAMES, RELATIVE_JUMPS, TWO_WORDS, WAITS_FOR
 from ...shell.options import given_options, in_words
 from ..keys import for_page

@@ -1,10 +1,10 @@
 """The tool that makes a film: a run as one web page, from which one goes on."""
 
+from ...devices.options import add_devices, devices_of, script_with
 from ...language.symbol_options import add_symbols, symbols_of
 from ...run.attached import names_of
 from ...run.tape import NOTE_OF_DEVICE
 from ...shell.command_line import Failure, add_script, arguments, bytes_of, octal, simulator
-from ...shell.device_options import add_devices, devices_of, script_with
 from ...shell.installation import page_module
 from ...shell.script import performed
 from ...shell.text_files import lines_of, write_whole

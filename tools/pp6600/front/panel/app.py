@@ -7,10 +7,10 @@ import time
 
 from ...failure import Failure
 from ...language.calls import calls, sentence
-from ...language.names import AllSymbols
+from ...language.origin_text import MOST_STEPS, origin_rows
 from ...run.device import DeviceFailure
 from ...run.forms import KINDS
-from ...run.origin_text import MOST_STEPS, origin_rows
+from ...run.names import AllSymbols
 from ...run.searches import Stopped, last_before, next_found, turn_of_line_before, turn_of_next_line
 from ...run.session import REPLAYED
 from ...run.state import Memory

@@ -4,14 +4,14 @@ import os
 from contextlib import closing
 from typing import NamedTuple
 
+from ...devices.options import timeline
 from ...failure import Failure
+from ...run.console import Console, has_no_answer
 from ...run.forms import hit_of, is_refusal
 from ...run.searches import MOST_NEW
-from ...run.console import Console, has_no_answer
 from ...run.session import Session, without_history
 from ...run.state import state_of
 from ...run.tape import ScriptLine, SourceLine
-from ...shell.device_options import timeline
 from ...shell.keyboard import place_of
 
 LOG_LENGTH = 10000  # decimal, lines and answers

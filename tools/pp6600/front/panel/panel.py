@@ -1,8 +1,8 @@
 """Shows the live machine on a full screen, and steps it forward and back by keys."""
 
+from ...devices.options import add_devices, devices_of
 from ...language.symbol_options import add_symbols, symbols_of
 from ...shell.command_line import Failure, arguments, octal, script_lines, simulator, words_after
-from ...shell.device_options import add_devices, devices_of
 from .app import Panel
 from .logged_session import LoggedSession
 

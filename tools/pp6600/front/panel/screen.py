@@ -3,8 +3,8 @@
 import textwrap
 from typing import NamedTuple, Optional, Sequence
 
-from ...language.names import AllSymbols
 from ...run.forms import CELLS, PROCESSORS, ROW, Place
+from ...run.names import AllSymbols
 from ...run.state import State
 from .rows_pane import WIDTH, rows_pane, sentence_line
 from .text import CHANGED, CHOSEN, CURSOR, HEAD, HERE, REFUSED, SLOT, TITLE, WATCHED, MarkedLine, beside, in_height

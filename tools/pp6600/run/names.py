@@ -7,10 +7,10 @@ import re
 from typing import Any, Dict, Iterable, List, Optional, Sequence, Tuple
 
 from ..failure import Failure
-from ..run.forms import CELLS
-from ..run.turn import Processor
+from .forms import CELLS
+from .turn import Processor
 
-FARTHEST = 0o77  # from a symbol of a list to a cell: such a list says nothing of the program's cells
+FARTHEST = 0o77  # from a label to a cell outside the program, if the label is outside too, as that of a buffer or of a list of names
 EQUATES = ("=", "EQU")  # before the number of a name that is no label
 EXIT = "X"  # at the end of the name of a subroutine's jump back
 OF_A_PROCESSOR = ("M", "A", "P", "Q")
@@ -63,20 +63,20 @@ class AddressNames:
     is_source = False  # which is loaded
 
     def __init__(self, names: Names, cells: Iterable[int]) -> None:
-        """The cells of the program belong to the label before them, however far it is, and all others to none."""
+        """The cells of the program belong to the label before them, however far it is."""
         self.names, self.cells = names, frozenset(cells)
         self.labels = names.firsts()
         self.addresses = sorted(self.labels)
 
     def name(self, address: int, farthest: Optional[int] = None) -> str:
-        """Returns an address by the nearest label before it, as START+3; if none is near, a name of this number, if any. Outside the program
-        a label may be so far."""
+        """Returns an address by the nearest label before it, as START+3; if there is none, a name of this number, if any. Outside the program
+        a label counts that is outside too, and near."""
         at = bisect.bisect_right(self.addresses, address) - 1
-        distance = address - self.addresses[at] if at >= 0 else CELLS
-        farthest = (0 if self.cells else FARTHEST) if farthest is None else farthest
-        if at < 0 or distance > farthest and address not in self.cells:
+        label = self.addresses[at] if at >= 0 else -CELLS
+        distance, most = address - label, (0 if label in self.cells else FARTHEST) if farthest is None else farthest
+        if at < 0 or distance > most and address not in self.cells:
             return self.names.equates.get(address, [""])[0]
-        return f"{self.labels[self.addresses[at]]}{f'+{distance:o}' if distance else ''}"
+        return f"{self.labels[label]}{f'+{distance:o}' if distance else ''}"
 
     def address(self, name: str) -> Optional[int]:
         """Returns the number that has a name; None if none has it."""

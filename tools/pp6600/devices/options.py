@@ -6,22 +6,23 @@ import pkgutil
 import sys
 import types
 from argparse import Namespace
-from typing import Any, Dict, List, Sequence, Tuple, Type
+from typing import Any, Dict, List, Optional, Sequence, Tuple, Type
 
 from .. import devices
-from ..devices.controller import Controller
-from ..devices.converter import Converter
 from ..failure import Failure, naming_line
 from ..run.attached import Attached
 from ..run.device import Device, DeviceFailure
 from ..run.forms import CHANNELS
 from ..run.session import Session
-from .options import Parser, up_to
-from .script import Refusals
-from .text_files import bytes_of, lines_of
+from ..run.tape import Position
+from ..shell.options import Parser, simulator, up_to
+from ..shell.script import Refusals, Script, performed
+from ..shell.text_files import bytes_of, lines_of, script_lines
+from .controller import Controller
+from .converter import Converter
 
 FORM = "NAME[:WORD,..]@CHANNEL"
-NAMES = sorted({module.name for module in pkgutil.iter_modules(devices.__path__)} - {"controller", "converter", "pictures", "tape_file"})
+NAMES = sorted({module.name for module in pkgutil.iter_modules(devices.__path__)} - {"controller", "converter", "options", "pictures", "tape_file"})
 
 
 def add_devices(parser: Parser) -> None:
@@ -45,6 +46,18 @@ def devices_of(asked: Namespace) -> List[Device]:
 def timeline(words: Sequence[str], attached: Sequence[Device]) -> Session:
     """Returns a session that goes back without a limit, with these devices if there are any."""
     return Attached(words, attached) if attached else Session(words)
+
+
+def replayed(asked: Namespace, symbols: Any, path: Optional[str], turn: Optional[int] = None) -> Tuple[Session, Script]:
+    """Performs the script of a command line, after the lines that load its sources. Returns a simulator before the actions that are
+    in effect at its end, or after a turn with the settings before the next one; and the script."""
+    words = simulator(asked)
+    devices = devices_of(asked) if getattr(asked, "device", None) else []
+    script = performed(words, symbols.loading(script_lines(path)), devices)
+    tape = script.tape
+    run = Session.of_tape(words, tape if turn is None else tape.part(Position(0), tape.after_turn(turn)))
+    run.device_channels = frozenset(device.channel for device in devices)
+    return run, script
 
 
 def script_with(words: Sequence[str], attached: Sequence[Device], script: bytes) -> Tuple[bytes, Refusals]:

@@ -6,13 +6,13 @@ from __future__ import annotations
 import re
 from typing import Any, Callable, Dict, Iterator, List, Optional, Sequence, Set, Tuple
 
-from ..language.names import AllSymbols
+from ..run.forms import Place
+from ..run.names import AllSymbols
+from ..run.origin_search import DEADSTART, LINE_END, PAPER, PRINTER, READER, SET, START, TICK, TURN, Link, OriginSearch, Step
+from ..run.session import Session
+from ..run.tape import Position, ReplyLine, SourceLine, Tape
+from ..run.turn import BLOCKS, Processor
 from ..shell.text_files import bytes_of
-from .forms import Place
-from .origin_search import DEADSTART, LINE_END, PAPER, PRINTER, READER, SET, START, TICK, TURN, Link, OriginSearch, Step
-from .session import Session
-from .tape import Position, ReplyLine, SourceLine, Tape
-from .turn import BLOCKS, Processor
 
 MOST_STEPS = 0o40  # by processors, without --all
 INDENT = "  "
