@@ -253,7 +253,7 @@ fn without_marks(text: &[u8]) -> &[u8] {
 }
 
 /// Returns the base that a word, or its beginning, names.
-fn base_of(word: &[u8]) -> Option<Base> {
+pub fn base_of(word: &[u8]) -> Option<Base> {
     match word.first()? {
         b'O' if b"OCTAL".starts_with(word) => Some(Base::Octal),
         b'D' if b"DECIMAL".starts_with(word) => Some(Base::Decimal),

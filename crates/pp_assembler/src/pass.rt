@@ -94,6 +94,8 @@ pub struct Row {
     pub value: Option<i64>,
     /// The number may change.
     pub is_set: bool,
+    /// The line has been performed, and is not only listed.
+    pub is_performed: bool,
 }
 
 /// A word of VFD that is not full: its cell, and how many bits are used.
@@ -380,6 +382,7 @@ impl Pass {
             has_address,
             value,
             is_set,
+            is_performed: true,
         };
         Ok(self.rows.push(row)?)
     }

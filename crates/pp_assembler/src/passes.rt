@@ -1,16 +1,20 @@
 //! A source in two passes: the first one finds what its names stand for, the second one makes its words and reports what is wrong.
-ghost use Rattle.std.specs.Prelude.{◌≡◌, ◌<◌, All, IfOk, map};
+ghost use Rattle.std.specs.Prelude.{◌≡◌, ◌<◌, All, IfOk, IfSome, List, map};
 ghost use Rattle.pp_notation.specs.Cells.{IsProgram, IsStart};
+ghost use Rattle.pp_assembler.specs.Meaning.{AreMeant, IsFound, IsMeant};
+ghost use Rattle.pp_assembler.specs.declared.lines.Lines.{Lines as AllLines};
+ghost use Rattle.pp_assembler.specs.declared.pass.Row.{Row};
 ghost use Rattle.pp_assembler.specs.Places.{IsOfLine, length_of, line_lengths};
 
 use crate::lines::{Lines, Span, cut_lines, read_lines};
+use crate::meaning::{Found, encode_performed};
 use crate::message::{Fault, Message};
 use crate::pass::{CELLS, Pass, Slot};
 use crate::performing::Ending;
 use crate::places::complaints;
-use crate::program::Assembly;
+use crate::program::{Assembly, Performed};
 use crate::symbols::Symbols;
-use crate::units::Blocks;
+use crate::units::{Blocks, Unit};
 use pp_notation::{Cell, Program};
 use std::alloc::{AllocError, Global};
 
@@ -29,11 +33,17 @@ pub fn assemble(alloc: Global, source: &[u8]) -> Result<Assembly, AllocError>
     ensures start { IfOk result (λ made. IsStart made.program.start) }
     ensures messages { IfOk result (λ made. All (IsOfLine (line_lengths source.now)) made.messages.items) }
     ensures warnings { IfOk result (λ made. All (IsOfLine (line_lengths source.now)) made.warnings.items) }
+    // The words are what the statements mean.
+    ensures meaning { IfOk result IsMeant }
 {
     let spans = cut_lines(alloc, source)?;
     let mut lines = read_lines(alloc, source, &spans)?;
-    let pass = last_pass(alloc, &mut lines)?;
-    assembly_of(alloc, lines, pass, &spans)
+    let mut pass = last_pass(alloc, &mut lines)?;
+    let found = encode_performed(alloc, &lines, &pass)?;
+    if let Found::Refused(message) = &found {
+        pass.messages.push(*message)?;
+    }
+    assembly_of(alloc, lines, pass, found, &spans)
 }
 
 /// Returns the last pass over lines.
@@ -75,35 +85,65 @@ fn assembly_of(
     alloc: Global,
     lines: Lines,
     pass: Pass,
+    found: Found,
     spans: &[Span],
 ) -> Result<Assembly, AllocError>
     ensures messages { IfOk result (λ made. All (IsOfLine (map length_of spans.now)) made.messages.items) }
     ensures warnings { IfOk result (λ made. All (IsOfLine (map length_of spans.now)) made.warnings.items) }
+    ensures meaning { IsFound lines pass.rows.items found → IfOk result IsMeant }
 {
     let mut units = pass.units;
-    let program = if units.is_empty() {
-        program_of(alloc, &pass.cells, pass.start)?
-    } else {
-        units.remove(0).program
-    };
+    let first = first_program(alloc, &mut units, &pass.cells, pass.start)?;
+    let (program, words, meaning) = output_of(found, first, pass.words);
     let made = Assembly {
         program,
+        meaning,
         others: units,
         lines,
         symbols: pass.symbols,
         vocabulary: pass.vocabulary,
-        words: pass.words,
+        words,
         rows: pass.rows,
         messages: Vec::new(alloc),
         warnings: Vec::new(alloc),
     };
-    let messages = complaints(alloc, &made, &pass.messages, spans)?;
+    let messages = match made.meaning {
+        Some(_) => Vec::new(alloc),
+        None => complaints(alloc, &made, &pass.messages, spans)?,
+    };
     let warnings = complaints(alloc, &made, &pass.warnings, spans)?;
     Ok(Assembly {
         messages,
         warnings,
         ..made
     })
+}
+
+/// Returns the program of the first unit, or that of these cells if there is none.
+fn first_program(
+    alloc: Global,
+    units: &mut Vec<Unit>,
+    cells: &[Slot],
+    start: Option<u16>,
+) -> Result<Program, AllocError> {
+    if units.is_empty() {
+        return program_of(alloc, cells, start);
+    }
+    Ok(units.remove(0).program)
+}
+
+/// Returns the program and the words that the statements mean, if these have been found, or else those that a pass has made.
+fn output_of(
+    found: Found,
+    program: Program,
+    words: Vec<u16>,
+) -> (Program, Vec<u16>, Option<Performed>)
+    ensures { (lines : AllLines) (rows : List Row) → IsFound lines rows found → IfSome result.2 (AreMeant lines rows result.0 result.1.items) }
+{
+    match found {
+        Found::Words(made) => (made.program, made.words, Some(made.performed)),
+        _ => (program, words, None),
+    }
 }
 
 /// Returns the program of these cells.

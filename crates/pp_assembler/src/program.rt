@@ -5,13 +5,26 @@ use crate::pass::Row;
 use crate::symbols::Symbols;
 use crate::units::Unit;
 use crate::vocabulary::Vocabulary;
+use pp_meaning::{Statement, Symbol};
 use pp_notation::Program;
+
+/// The statements of a source as they are performed, after macros, repetitions, conditions and micros, with the terms of their operands.
+#[derive(Drop)]
+pub struct Performed {
+    /// What the names stand for, in the order of the statements that define them.
+    pub symbols: Vec<Symbol>,
+    pub statements: Vec<Statement>,
+    /// The index of the line of each statement.
+    pub lines: Vec<usize>,
+}
 
 /// All that is known of a source: the program that it makes, its statements and their rows in the listing, its names, and what is wrong
 /// with it. If there is a message, the program is not to be used.
 #[derive(Drop)]
 pub struct Assembly {
     pub program: Program,
+    /// The statements that the words are of, if `pp_meaning` has the meaning of them all and nothing is wrong.
+    pub meaning: Option<Performed>,
     /// The programs of further IDENTs.
     pub others: Vec<Unit>,
     /// The lines, each with those that continue it.

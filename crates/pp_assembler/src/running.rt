@@ -148,6 +148,9 @@ impl Pass {
         for index in span.first..span.end {
             self.at = index;
             self.plain_row(&Here::new(lines, index), false)?;
+            if let Some(row) = self.rows.last_mut() {
+                row.is_performed = false;
+            }
         }
         Ok(())
     }

@@ -3,6 +3,7 @@ use crate::message::{Fault, Field, Outcome, Stop};
 use crate::pass::Pass;
 use crate::symbols::{Place, end_of_name};
 use crate::texts::{are_in_code, digits_of, is_alphanumeric, next_where, tail, text_at};
+pub use pp_meaning::Base;
 
 const MOST_BITS: u32 = 60;
 
@@ -16,14 +17,6 @@ const EITHER_BASE: &str = "{} may be octal or decimal: write {}B or {}D, or BASE
 
 const OF_ANOTHER_PROGRAM: &str =
     "{} is no number, symbol, text or *; a = begins an operand that is alone; a symbol of another program is not taken: use EQU";
-
-/// What numbers without a letter are.
-#[derive(Clone, Copy)]
-pub enum Base {
-    Octal,
-    Decimal,
-    Mixed,
-}
 
 /// A number, and how many addresses more are added than subtracted: 1 in an address.
 #[derive(Clone, Copy)]
@@ -188,11 +181,7 @@ impl<'a> Expression<'a> {
 
     /// Returns the value of a counter; of ** it is 0.
     fn counter(&mut self, after: &'a [u8]) -> Value {
-        let (letter, rest) = match after {
-            [b'*'] | [b'*', b'-' | b'+' | b'/', ..] => (b'*', tail(after, 1)),
-            [letter @ (b'L' | b'O'), rest @ ..] if !goes_on(rest, b".$=") => (*letter, rest),
-            _ => (b'L', after),
-        };
+        let (letter, rest) = counter_of(after);
         self.rest = rest;
         match letter {
             b'*' => Value::new(0, 0),
@@ -266,13 +255,22 @@ fn size_of_name(text: &[u8]) -> Option<usize> {
     end_of_name(text, end.saturating_add(1))
 }
 
+/// Returns the letter of the counter whose `*` is before a text, or a `*` of `**`, and what follows it.
+pub fn counter_of(after: &[u8]) -> (u8, &[u8]) {
+    match after {
+        [b'*'] | [b'*', b'-' | b'+' | b'/', ..] => (b'*', tail(after, 1)),
+        [letter @ (b'L' | b'O'), rest @ ..] if !goes_on(rest, b".$=") => (*letter, rest),
+        _ => (b'L', after),
+    }
+}
+
 /// A number that a text begins with: its digits, their letter, by how many bits it is shifted, and what follows.
 #[derive(Clone, Copy)]
-struct Number<'a> {
-    digits: &'a [u8],
-    letter: Option<u8>,
+pub struct Number<'a> {
+    pub digits: &'a [u8],
+    pub letter: Option<u8>,
     shift: u32,
-    rest: &'a [u8],
+    pub rest: &'a [u8],
 }
 
 /// Returns whether a number or a counter goes on with a text: with a letter, a digit or one of other symbols.
@@ -284,7 +282,7 @@ fn goes_on(text: &[u8], others: &[u8]) -> bool {
 }
 
 /// Returns the number that a text begins with, if it does.
-fn number_of(text: &[u8]) -> Option<Number<'_>> {
+pub fn number_of(text: &[u8]) -> Option<Number<'_>> {
     let (count, _) = digits_of(text, usize::MAX);
     let (digits, rest) = text.split_at_checked(count)?;
     let (letter, rest) = match rest {

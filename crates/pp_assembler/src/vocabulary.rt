@@ -96,6 +96,12 @@ impl Vocabulary {
             .copied()
     }
 
+    /// Returns whether a macro has or had a name.
+    pub fn has_had_macro(&self, name: &[u8]) -> bool {
+        let mut macros = self.macros.iter();
+        macros.any(|one| self.text_of(one.name) == name)
+    }
+
     /// Forgets the macros with a name, at the statement with a number.
     pub fn purge(&mut self, name: &[u8], statement: u32) {
         for one in &mut self.macros {

@@ -1,0 +1,387 @@
+//! The words that `pp_meaning` gives to the statements of a source, if it has the meaning of them all.
+ghost use Rattle.std.specs.Prelude.{◌≡◌, IfOk, IfSome};
+ghost use Rattle.pp_assembler.specs.Meaning.{ArePerformed, IsFound, IsWordsOf, read_at};
+
+use crate::directives::base_of;
+use crate::fields::{Parts, Statement as Fields};
+use crate::lines::{Lines, Span};
+use crate::message::{Fault, Message};
+use crate::operations::{Elsewhere, Operation, operation_of};
+use crate::pass::{CELLS, Here, Pass, Row};
+use crate::program::Performed;
+use crate::terms::{Names, operand_of};
+use crate::texts::{is_blank, tail};
+use pp_meaning::{Operand, Operation as Meant, Refusal, Statement, Symbol, encode, program_of};
+use pp_notation::{Cell, Program};
+use std::alloc::{AllocError, Global};
+
+/// The greatest word.
+const WORD: u32 = 0o7777;
+
+const REFUSED: &str =
+    "this is right, and yet the assembler has no words for it: please report it with its source";
+
+/// What statements make.
+#[derive(Drop)]
+pub struct Encoded {
+    pub performed: Performed,
+    pub program: Program,
+    /// The words in the order of their statements.
+    pub words: Vec<u16>,
+}
+
+/// What a row of the listing is.
+#[derive(Clone, Copy)]
+enum Part {
+    /// A statement with a meaning.
+    Kept(Fields, Meant),
+    /// What neither makes words nor says how others are meant.
+    Silent,
+    /// A statement whose meaning is not known here.
+    Other,
+}
+
+/// Returns whether a row has nothing beside its line.
+fn is_bare(row: &Row) -> bool {
+    row.first == row.end && !row.has_address && row.value.is_none()
+}
+
+/// Returns what an operation does to the words, if that is known here.
+fn meant(operation: Operation, name: &[u8], operand: &[u8]) -> Option<Meant> {
+    Some(match operation {
+        Operation::None => Meant::Blank,
+        Operation::Instruction(code) => Meant::Instruction(code),
+        Operation::Expressions => Meant::Constants(false),
+        Operation::Data => Meant::Constants(true),
+        Operation::Zeros => Meant::Zeros,
+        Operation::Space => Meant::Space,
+        Operation::Origin => Meant::Origin,
+        Operation::Location => Meant::Location,
+        Operation::Equate => Meant::Equate(matches!(name, b"=")),
+        Operation::Set => Meant::Set,
+        Operation::Base => {
+            let more = u8::try_from(operand.len().wrapping_sub(1)).ok()?;
+            Meant::SetBase(base_of(operand)?, more)
+        }
+        Operation::Deck => Meant::Deck,
+        Operation::End => Meant::End,
+        _ => return None,
+    })
+}
+
+/// Returns whether an operation neither makes words nor says how others are meant.
+fn is_silent(operation: Operation) -> bool {
+    matches!(
+        operation,
+        Operation::Ignored
+            | Operation::Error(_)
+            | Operation::Name
+            | Operation::Micro
+            | Operation::NumberMicro { .. }
+            | Operation::Block(_)
+            | Operation::Lines(Elsewhere::Here | Elsewhere::Purge)
+    )
+}
+
+/// Returns whether a statement has no label where one says nothing.
+fn is_right_label(operation: Meant, fields: Fields) -> bool {
+    !matches!(operation, Meant::SetBase(..) | Meant::Deck | Meant::End)
+        || fields.location.is_empty()
+}
+
+/// Returns what the statement of a row is.
+fn part_of_statement(pass: &Pass, here: &Here, row: &Row, fields: Fields) -> Part {
+    let name = fields.operation.of(here.text);
+    let operation = operation_of(name);
+    let is_call = pass.vocabulary.has_had_macro(name);
+    if is_call && !matches!(operation, Operation::Unknown) {
+        return Part::Other;
+    }
+    if is_bare(row) && (is_call || is_silent(operation)) {
+        return Part::Silent;
+    }
+    match meant(operation, name, fields.operand.of(here.text)) {
+        Some(meant) if row.origin <= CELLS as i64 && is_right_label(meant, fields) => {
+            Part::Kept(fields, meant)
+        }
+        _ => Part::Other,
+    }
+}
+
+/// Returns what a row is.
+fn part_of(pass: &Pass, lines: &Lines, row: &Row) -> Part {
+    if !row.is_performed {
+        return Part::Silent;
+    }
+    let here = Here::new(lines, row.statement);
+    match pass.statement(&here) {
+        Ok(Some(fields)) => part_of_statement(pass, &here, row, fields),
+        Ok(None) if is_bare(row) => Part::Silent,
+        _ => Part::Other,
+    }
+}
+
+/// Returns whether a label is a name.
+fn is_name(label: &[u8]) -> bool {
+    !matches!(label, b"" | b"+" | b"-")
+}
+
+/// Returns what the names of the listing stand for, if each statement has a meaning.
+fn names_of(alloc: Global, lines: &Lines, pass: &Pass) -> Result<Option<Names>, AllocError> {
+    let mut names = Names::new(alloc);
+    for row in &pass.rows {
+        let (fields, operation) = match part_of(pass, lines, row) {
+            Part::Silent => continue,
+            Part::Other => return Ok(None),
+            Part::Kept(fields, operation) => (fields, operation),
+        };
+        let label = lines.part_of(row.statement, fields.location);
+        if is_name(label) {
+            let value = match operation {
+                Meant::Equate(_) | Meant::Set => row.value,
+                _ => Some(row.location),
+            };
+            match value {
+                Some(value) => names.add(label, value, matches!(operation, Meant::Set))?,
+                None => return Ok(None),
+            }
+        }
+    }
+    Ok(Some(names))
+}
+
+/// Returns the terms of operands, between two of which is a comma.
+fn operands_of(
+    alloc: Global,
+    names: &Names,
+    line: &[u8],
+    operand: Span,
+) -> Result<Option<Vec<Operand>>, AllocError> {
+    let mut operands = Vec::new(alloc);
+    let mut parts = Parts::new(operand, false);
+    for _ in 0..=line.len() {
+        let part = match parts.next(line) {
+            Ok(Some(part)) => part,
+            Ok(None) => return Ok(Some(operands)),
+            Err(_) => return Ok(None),
+        };
+        match operand_of(alloc, names, part.of(line))? {
+            Some(operand) => operands.push(operand)?,
+            None => return Ok(None),
+        }
+    }
+    Ok(None)
+}
+
+/// Returns the terms of the operands of a statement, if it has operands with terms.
+fn terms_of(
+    alloc: Global,
+    names: &Names,
+    line: &[u8],
+    operation: Meant,
+    operand: Span,
+) -> Result<Option<Vec<Operand>>, AllocError> {
+    match operation {
+        Meant::SetBase(..) => Ok(Some(Vec::new(alloc))),
+        _ => operands_of(alloc, names, line, operand),
+    }
+}
+
+/// Returns a statement with the terms of its operands. An operand that says nothing is a part of its comment.
+fn statement_of(
+    alloc: Global,
+    names: &mut Names,
+    line: &[u8],
+    fields: Fields,
+    operation: Meant,
+) -> Result<Option<Statement>, AllocError>
+    ensures { IfOk result (λ made. IfSome made (λ statement. statement.line.items ≡ line.now)) }
+{
+    let Fields {
+        location,
+        operation: name,
+        operand,
+    } = fields;
+    let (space, end) = if operand.is_empty() || matches!(operation, Meant::Deck) {
+        (Span::new(name.end, name.end), name.end)
+    } else {
+        (Span::new(name.end, operand.first), operand.end)
+    };
+    let variable = Span::new(space.end, end);
+    let Some(operands) = terms_of(alloc, names, line, operation, variable)? else {
+        return Ok(None);
+    };
+    let comment = tail(line, end);
+    if comment.first().is_some_and(|symbol| !is_blank(*symbol)) {
+        return Ok(None);
+    }
+    Ok(Some(Statement {
+        line: Vec::from_slice(alloc, line)?,
+        margin: Vec::from_slice(alloc, Span::new(0, location.first).of(line))?,
+        label: names.label(location.of(line))?,
+        gap: Vec::from_slice(alloc, Span::new(location.end, name.first).of(line))?,
+        operation,
+        space: Vec::from_slice(alloc, space.of(line))?,
+        operands,
+        comment: Vec::from_slice(alloc, comment)?,
+    }))
+}
+
+/// Returns the line at an index, as it is read.
+fn read_line(lines: &Lines, index: usize) -> &[u8]
+    ensures { result.now ≡ read_at lines.now index }
+{
+    match lines.all.get(index) {
+        Some(line) => line.read.of(&lines.capitals),
+        None => b"",
+    }
+}
+
+/// Returns the statements of the listing with their terms.
+fn statements_of(
+    alloc: Global,
+    lines: &Lines,
+    pass: &Pass,
+    names: Names,
+) -> Result<Option<Performed>, AllocError>
+    ensures { IfOk result (λ made. IfSome made (λ performed. ArePerformed lines.now pass.now.rows.items performed)) }
+{
+    let mut names = names;
+    let mut statements = Vec::new(alloc);
+    let mut indices = Vec::new(alloc);
+    for row in &pass.rows {
+        if !row.is_performed {
+            continue;
+        }
+        if let Part::Kept(fields, operation) = part_of(pass, lines, row) {
+            let line = read_line(lines, row.statement);
+            match statement_of(alloc, &mut names, line, fields, operation)? {
+                Some(statement) => statements.push(statement)?,
+                None => return Ok(None),
+            }
+            indices.push(row.statement)?;
+        }
+    }
+    Ok(Some(Performed {
+        symbols: names.all,
+        statements,
+        lines: indices,
+    }))
+}
+
+/// Returns the statements that a pass has performed, if nothing is wrong and all have a meaning.
+fn performed_of(alloc: Global, lines: &Lines, pass: &Pass) -> Result<Option<Performed>, AllocError>
+    ensures { IfOk result (λ made. IfSome made (λ performed. ArePerformed lines.now pass.now.rows.items performed)) }
+{
+    if !pass.messages.is_empty() || !pass.vocabulary.synonyms.is_empty() {
+        return Ok(None);
+    }
+    match names_of(alloc, lines, pass)? {
+        Some(names) => statements_of(alloc, lines, pass, names),
+        None => Ok(None),
+    }
+}
+
+/// Returns the line of each cell, or 0 of one without a word.
+fn lines_of_cells(alloc: Global, cells: &[Cell]) -> Result<Vec<u32>, AllocError> {
+    let mut lines = vec![in alloc; 0; CELLS]?;
+    for cell in cells {
+        if let Some(line) = lines.get_mut(usize::from(cell.address)) {
+            *line = cell.line;
+        }
+    }
+    Ok(lines)
+}
+
+/// Returns words, if each has twelve bits.
+fn words_of(alloc: Global, words: &[u32]) -> Result<Option<Vec<u16>>, AllocError>
+    ensures { IfOk result (λ made. IfSome made (λ small. small.items ≡ words.now)) }
+{
+    let mut small = Vec::new(alloc);
+    for word in words {
+        if *word > WORD {
+            return Ok(None);
+        }
+        small.push(*word as u16)?;
+    }
+    Ok(Some(small))
+}
+
+/// Returns the program, and the words in the order of their statements, that statements make. There are so many words.
+///
+/// # Errors
+/// Memory ran out, or a statement is refused.
+fn encoding_of(
+    alloc: Global,
+    symbols: &[Symbol],
+    statements: &[Statement],
+    lines: &[u32],
+    count: usize,
+) -> Result<(Program, Vec<u16>), Refusal>
+    ensures { IfOk result (λ made. IsWordsOf symbols.now statements.now made.0 made.1.items) }
+{
+    let image = encode(alloc, symbols, statements)?;
+    let refusal = Refusal::At(statements.len());
+    let Some(program) = program_of(alloc, &image, lines)? else {
+        return Err(refusal);
+    };
+    match words_of(alloc, &image.words)? {
+        Some(words) if words.len() == count => Ok((program, words)),
+        _ => Err(refusal),
+    }
+}
+
+/// Returns whether the statement at an index is BSS, which may go back below cell 0: `pp_meaning` has no words of that.
+fn is_space(statements: &[Statement], index: usize) -> bool {
+    match statements.get(index) {
+        Some(statement) => matches!(statement.operation, Meant::Space),
+        None => false,
+    }
+}
+
+/// Returns that a statement is refused, which is no fault of the source.
+fn refused(lines: &Lines, performed: &Performed, index: usize) -> Message {
+    let line = performed.lines.get(index).or(performed.lines.last());
+    Here::new(lines, line.copied().unwrap_or(0)).last_message(Fault::new(REFUSED))
+}
+
+/// What a pass has found of the meaning of its statements.
+#[derive(Drop)]
+pub enum Found {
+    Words(Encoded),
+    /// A statement is refused.
+    Refused(Message),
+    /// There is a statement whose meaning is not known here, or something is wrong.
+    Nothing,
+}
+
+/// Returns what the statements of a pass make, if nothing is wrong and all have a meaning.
+///
+/// # Errors
+/// Memory ran out.
+pub fn encode_performed(alloc: Global, lines: &Lines, pass: &Pass) -> Result<Found, AllocError>
+    ensures { IfOk result (IsFound lines.now pass.now.rows.items) }
+{
+    let Some(performed) = performed_of(alloc, lines, pass)? else {
+        return Ok(Found::Nothing);
+    };
+    let [unit] = pass.units.as_slice() else {
+        return Ok(Found::Nothing);
+    };
+    let cells = lines_of_cells(alloc, unit.program.cells())?;
+    let Performed {
+        symbols,
+        statements,
+        ..
+    } = &performed;
+    match encoding_of(alloc, symbols, statements, &cells, pass.words.len()) {
+        Ok((program, words)) => Ok(Found::Words(Encoded {
+            performed,
+            program,
+            words,
+        })),
+        Err(Refusal::NoMemory) => Err(AllocError),
+        Err(Refusal::At(index)) if is_space(statements, index) => Ok(Found::Nothing),
+        Err(Refusal::At(index)) => Ok(Found::Refused(refused(lines, &performed, index))),
+    }
+}
