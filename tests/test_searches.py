@@ -18,15 +18,16 @@ from pp6600.run.conditions import joined
 
 SEED, COUNT = map(int, os.environ.get("PP6600_SEARCHES", "0:150").split(":"))
 CELLS = [4096 * number + address for number in range(10) for address in range(0o200)]
-PLACES = [*range(flat.A, flat.STATES + 24), flat.CLOCK, *CELLS[::7], flat.SLOT, flat.CENTRAL, flat.CENTRAL + 1]
+REGISTERS = [*range(flat.A, flat.STATES + 24), flat.CLOCK]  # which change more often than cells
+PLACES = [*REGISTERS, *CELLS[::7], flat.SLOT, flat.CENTRAL, flat.CENTRAL + 1]
 MOST, SEARCHES, SAMPLES = 150, 5, 4  # turns of a search; searches of a condition; looks at a run for numbers that it has
 
 
 def number_test(choose, samples):
     """Returns the test of a number, mostly of one that is there at some time of a run."""
-    place = choose.choice(PLACES)
+    place = choose.choice(choose.choice((REGISTERS, PLACES)))
     number = choose.choice(samples)(place) if choose.random() < 0.8 else choose.randrange(0o10000)
-    ends = sorted((number, choose.choice((number, 0, choose.randrange(0o1000000)))))
+    ends = sorted((number, choose.choice((number, number + 1, number + 1, 0, choose.randrange(0o1000000)))))
     return Form(choose.choice((INSIDE, OUTSIDE)), place, *ends)
 
 
