@@ -221,7 +221,7 @@ class LibrarySession:
     def numbers(self, first: int, count: int) -> List[int]:
         """Returns the numbers at consecutive places."""
         place, = checked("numbers", first)
-        into = room_for(c_uint64, count)
+        into: ctypes.Array[c_uint64] = room_for(c_uint64, count)
         if self._call("numbers", place, into, c_size_t(count)) != DONE:
             raise Failure(f"the machine does not have the places {first} to {first + count - 1}")
         numbers: List[int] = into[:]
