@@ -40,7 +40,7 @@ FAILED = re.compile(r"\.\.\. (?:FAIL|ERROR)$", re.M)
 NOT_PASSED = re.compile(r"(?:failures|errors|unexpected successes)=(\d+)")  # in the last line
 LONGEST = 1800  # seconds of processor time that a module may take, and of time in which it takes none
 LOOK = 10  # seconds between looks at that time
-FIRST = [f"test_{name}" for name in "windows film_page film_session film_walk sessions random install debug_random".split()]  # they take longest
+FIRST = [f"test_{name}" for name in "windows film_page film_session film_walk sessions install packages evaluate library random".split()]  # they take longest
 
 
 def modules(names):

@@ -12,21 +12,25 @@ import tempfile
 from ...run.forms import CELLS, PROCESSORS
 from ...run.turn import NAMES, TWO_WORDS
 
+WIDTH = len("0000  0000  LJM 00 0000")
+MOST_TEXT = 60  # bytes of the user's own listing beside an instruction
 
-@functools.lru_cache(maxsize=1 << 16)
-def decoded(word, second):
-    """Returns a word with the instruction that it is; `second` is the word after it."""
-    code, d = divmod(word, 0o100)
-    return f"{word:04o}  {NAMES[code]} {d:02o}{f' {second:04o}' if code in TWO_WORDS else ''}"
+
+def shown(cell, word, second):
+    """Returns the address of a cell, its word and the instruction that this is; `second` is the word after it."""
+    code = word >> 6
+    return f"{cell:04o}  {word:04o}  {NAMES[code]} {word & 0o77:02o}{f' {second:04o}' if code in TWO_WORDS else ''}"
 
 
 def instruction(memory, cell):
     """Returns the address of a cell, its word and the instruction that this is."""
-    return f"{cell:04o}  {decoded(memory.number(cell), memory.number(cell + 1))}"
+    return shown(cell, memory.number(cell), memory.number(cell + 1))
 
 
-WIDTH = len("0000  0000  LJM 00 0000")
-MOST_TEXT = 60  # bytes of the user's own listing beside an instruction
+@functools.lru_cache(maxsize=1 << 16)
+def own_part(cell, word, second):
+    """Returns the same as bytes, of one width. Most cells of all processors are alike, so it is seldom made."""
+    return f"{shown(cell, word, second):{WIDTH}}".encode("ascii")
 
 
 class Beside:
@@ -42,7 +46,7 @@ class Beside:
 
     def at(self, cell, word):
         """Returns the bytes beside a cell that has this word."""
-        texts = (self.symbols.labels.get(cell, ""), self.symbols.text(cell, word)) if self.width else ()
+        texts = self.symbols.labels.get(cell, ""), self.symbols.text(cell, word)
         whole = (text.encode()[:width].decode(errors="ignore").encode() for text, width in zip(texts, self.widths))
         return b"".join(b"  " + text.ljust(width) for text, width in zip(whole, self.widths) if width)
 
@@ -80,7 +84,9 @@ class Listings:
 
     def line(self, number, memory, cell):
         """Returns the line of a cell of a processor, as long as any other."""
-        return f"{instruction(memory, cell):{WIDTH}}".encode("ascii") + self.beside[number].at(cell, memory.number(cell)) + b"\n"
+        word, beside = memory.number(cell), self.beside[number]
+        own = own_part(cell, word, memory.number(cell + 1))
+        return own + (beside.at(cell, word) if beside.width else b"") + b"\n"
 
     def text(self, number, memory):
         return b"".join(self.line(number, memory, cell) for cell in range(CELLS)).decode()
