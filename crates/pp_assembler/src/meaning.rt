@@ -1,4 +1,4 @@
-//! The words that `pp_meaning` gives to the statements of a source, if it covers each one.
+//! The words that `pp_meaning` gives to the statements of a source, if it has the meaning of them all.
 ghost use Rattle.std.specs.Prelude.{◌≡◌, IfOk, IfSome};
 ghost use Rattle.pp_assembler.specs.Meaning.{ArePerformed, IsFound, IsWordsOf, read_at};
 
@@ -269,7 +269,7 @@ fn statements_of(
     }))
 }
 
-/// Returns the statements that a pass has performed, if nothing is wrong and each has a meaning.
+/// Returns the statements that a pass has performed, if nothing is wrong and all have a meaning.
 fn performed_of(alloc: Global, lines: &Lines, pass: &Pass) -> Result<Option<Performed>, AllocError>
     ensures { IfOk result (λ made. IfSome made (λ performed. ArePerformed lines.now pass.now.rows.items performed)) }
 {
@@ -355,7 +355,7 @@ pub enum Found {
     Nothing,
 }
 
-/// Returns what the statements of a pass make, if nothing is wrong and each has a meaning.
+/// Returns what the statements of a pass make, if nothing is wrong and all have a meaning.
 ///
 /// # Errors
 /// Memory ran out.

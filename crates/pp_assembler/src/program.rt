@@ -23,7 +23,7 @@ pub struct Performed {
 #[derive(Drop)]
 pub struct Assembly {
     pub program: Program,
-    /// The statements that the words are of, if `pp_meaning` covers each one and nothing is wrong.
+    /// The statements that the words are of, if `pp_meaning` has the meaning of them all and nothing is wrong.
     pub meaning: Option<Performed>,
     /// The programs of further IDENTs.
     pub others: Vec<Unit>,

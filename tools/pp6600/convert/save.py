@@ -51,9 +51,8 @@ def main() -> int:
                       "--as-deck": "cards, a word a column, as the simulator's --deck takes them",
                       "--as-panel": "the words of a panel, as the simulator's --panel takes them",
                       "--set": "SET lines for processor N"})
-    add_sources(parser)
     parser.add_argument("words", nargs="*", metavar="N A B SCRIPT", help="octal; without a script, standard input is it")
-    asked = parser.parse()
+    asked = parser.parse(add_sources)
     if len(asked.words) < 3:
         raise Failure("give a processor, its first and its last cell, as save 0 100 177")
     (path,) = words_after(asked.words[3:], 1, "give a processor, two cells, one script")

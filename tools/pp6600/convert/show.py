@@ -14,10 +14,7 @@ there, with the last STEP cut short. At a terminal a line that is refused has th
 def main() -> int:
     parser = arguments(DESCRIPTION)
     parser.add_argument("--stop", action="store_true", help="stop at the first line that is refused")
-    add_turn(parser)
-    add_sources(parser)
-    add_script(parser)
-    asked = parser.parse()
+    asked = parser.parse(add_turn, add_sources, add_script)
     words = simulator(asked)
     lines, status = symbols_of(asked).loading(script_lines(asked.script)), 0
     if asked.turn is not None:

@@ -17,6 +17,7 @@ from .source.scope import LITERAL, LITERALS, NOMINAL, WORD_BITS
 
 HERE = re.compile(r"\*[LO]?([-+][0-9]+[BDO]?)?")  # an operand that is an address near that of its line
 MICRO, DEFINE_MICROS = re.compile('"([^"]+)"'), ("MICRO", "DECMIC", "OCTMIC")
+WITH_PARAMETERS = ("MACRO", "MACROE", "OPDEF", "LOCAL", "ECHO", "IRP")  # for which something else stands in lines that are printed
 DUPLICATED = re.compile(r"\bDUPLICATED? LINES?\b", re.I)
 LABELLED = ("BSS", "ORG", "LOC", "END", "USE", "BSSZ")  # of the operations without words those whose label is an address
 BITS = re.compile("(?:^|,)([0-9]{1,2})/")  # of the fields of a VFD
@@ -53,7 +54,8 @@ class Printout:
         all_parts = [parts_of(line, self.columns) for line in texts]
         operations = operation_columns(all_parts)
         self.parts = [with_fields(parts, operations) for parts in all_parts]  # of each line
-        self.labels = {parts.label.upper() for parts in self.parts}
+        given = " ".join(parts.operand.upper() for parts in self.parts if parts.operation in WITH_PARAMETERS)
+        self.named = {*(parts.label.upper() for parts in self.parts), *re.findall(r"[A-Z][\w.]*", given)}  # by the listing
         self.has_zeros = any(parts.address and parts.words and WITH_ZEROS.fullmatch(parts.address.text) for parts in all_parts)
 
     def read(self) -> "PrintedReading":
@@ -402,7 +404,7 @@ class PrintedReading:
                 made = told.met[text]
                 said = f"{text} is at {number:04o} by this line, and makes {digits_of(made)}"
                 self.literals += [] if self.is_other else [(Message(first.number, column, said), number, made)]
-            if text in told.unknown and text.upper() not in self.printout.labels and not self.is_other:
+            if text in told.unknown and text.upper() not in self.printout.named and not self.is_other:
                 was, line = self.fields.setdefault((text, field), (number, first.number))
                 if was != number:
                     self.doubts.append(Message(first.number, column, f"{text} is {number:o} in this line, and {was:o} in line {line} (decimal)"))

@@ -54,15 +54,6 @@ def ranges_of(numbers: Iterable[int]) -> List[Tuple[int, int]]:
     return found
 
 
-def merged(ranges: Iterable[Tuple[int, int]], most: int) -> List[Tuple[int, int]]:
-    """Returns so many ranges at most that have all the numbers of some, each by its first and last one, and as few others as possible."""
-    found = sorted(ranges)
-    ends: List[int] = list(itertools.accumulate((last for _, last in found), max))
-    gaps = sorted((first - end, at) for at, ((first, _), end) in enumerate(zip(found[1:], ends), 1))
-    begins = [0, *sorted(at for gap, at in gaps[max(len(gaps) + 1 - most, 0):] if gap > 1)] if found else []
-    return [(found[at][0], ends[after - 1]) for at, after in zip(begins, [*begins[1:], len(found)])]
-
-
 def arrivals(number: int, addresses: Iterable[int]) -> List[Forms]:
     """Returns alternatives of which one comes to hold in each turn in which a processor comes to one of some addresses: P or the phase has
     changed, and it is in no block transfer."""

@@ -11,7 +11,7 @@ from ..engine import interface as flat
 from ..engine.interface import INSIDE, MOST_ALTERNATIVES, Form
 from .conditions import Alternative, is_written, joined
 from .forms import CELLS
-from .search import first_turn, hold, merged, waits
+from .search import first_turn, hold, waits
 from .session import Session
 from .tape import Position
 
@@ -91,6 +91,15 @@ def around(entry: int) -> List[Tuple[int, int]]:
     """Returns the ranges of the cells at which P is before a jump by a return word, and after an RJM that stored it."""
     first, last = (entry - 1) % CELLS, (entry + 1) % CELLS
     return [(first, last)] if first < last else [(first, first), (last, last)]
+
+
+def merged(ranges: Iterable[Tuple[int, int]], most: int) -> List[Tuple[int, int]]:
+    """Returns so many ranges at most that have all the numbers of some, and as few others as possible."""
+    found = sorted(ranges)
+    while len(found) > most:
+        at = min(range(len(found) - 1), key=lambda at: found[at + 1][0] - found[at][1])
+        found[at:at + 2] = [(found[at][0], max(found[at][1], found[at + 1][1]))]
+    return found
 
 
 def calls_at(run: Session, number: int, entries: Iterable[int], position: Position) -> List[Call]:

@@ -244,10 +244,6 @@ class Tape:
         run = bisect.bisect_left(self.turns_before, turn)
         return Position(self.starts[run] - (self.turns_before[run] - turn))
 
-    def before_turn(self, turn: int) -> Position:
-        """Returns the position before the turn with a number, from 1."""
-        return Position(self.at_turn(turn) - 1)
-
     def latest_turn(self, number: int, position: Position) -> Optional[Position]:
         """Returns the position before the latest turn of a processor before a position; None if there is none."""
         while position:

@@ -4,7 +4,7 @@ import argparse
 import re
 import sys
 from functools import partial
-from typing import Any, Dict, List, Mapping, NamedTuple, NoReturn, Optional, Sequence
+from typing import Any, Callable, Dict, List, Mapping, NamedTuple, NoReturn, Optional, Sequence
 
 from ..engine.choice import version
 from ..engine.choose import default_engine
@@ -77,8 +77,10 @@ class Parser(argparse.ArgumentParser):
     def _print_message(self, message: str, file: Any = None) -> None:  # argparse takes no notice of an output that is full
         write(message.rstrip("\n"))
 
-    def parse(self) -> argparse.Namespace:
-        """Returns what is asked by the words of the command line."""
+    def parse(self, *adds: Callable[["Parser"], None]) -> argparse.Namespace:
+        """Returns what is asked by the words of the command line. The functions add more options first."""
+        for add in adds:
+            add(self)
         words = sys.argv[1:]
         if "--" in words:
             at = words.index("--")

@@ -97,10 +97,8 @@ def last_line(length, numbers):
 def main():
     parser = arguments(DESCRIPTION, "[OPTION ..] (PLACE | --turns COUNT) [SCRIPT]")
     parser.add_argument("--turns", metavar="COUNT", type=count, help="show what each of the last turns changed, octal")
-    add_symbols(parser)
-    add_devices(parser)
     parser.add_argument("words", nargs="*", metavar="PLACE [SCRIPT]", help="without a script, standard input is it")
-    asked = parser.parse()
+    asked = parser.parse(add_symbols, add_devices)
     symbols = symbols_of(asked)
     place, rest = (None, asked.words) if asked.turns else first_place(asked.words, symbols)
     (path,) = words_after(rest, 1, "give --turns, one script" if asked.turns else "give one place, one script")

@@ -74,12 +74,7 @@ def performed(asked, symbols):
 
 
 def main():
-    parser = arguments(DESCRIPTION)
-    add_turn(parser)
-    add_symbols(parser)
-    add_devices(parser)
-    add_script(parser)
-    asked = parser.parse()
+    asked = arguments(DESCRIPTION).parse(add_turn, add_symbols, add_devices, add_script)
     symbols = symbols_of(asked)
     run, refusals = performed(asked, symbols)
     write_lines(screen(run, symbols))

@@ -47,10 +47,8 @@ class Transcript:
 def main():
     parser = arguments(DESCRIPTION, "[OPTION ..] [SCRIPT]")
     parser.add_argument("--save", metavar="FILE", help="write the session into a new file, as a script")
-    add_sources(parser)
-    add_devices(parser)
     parser.add_argument("script", metavar="SCRIPT", nargs="*", help="without it, only what is typed")
-    asked = parser.parse()
+    asked = parser.parse(add_sources, add_devices)
     (script,) = words_after(asked.script, 1, "give one script")
     edit_lines()
     lines = symbols_of(asked).loading([] if script is None else script_lines(script))

@@ -1,18 +1,20 @@
 """A run turn by turn."""
 
+import re
 from array import array
-from itertools import takewhile
+from bisect import bisect_right
+from itertools import accumulate, takewhile
 
 from ...devices.options import add_devices, replayed
 from ...engine import interface as flat
-from ...engine.interface import CHANGES, INSIDE, Form
+from ...engine.interface import INSIDE, Form
 from ...language.symbol_options import add_symbols, symbols_of
 from ...run.conditions import is_written
 from ...run.forms import CELLS, CLOCK, PROCESSORS
 from ...run.names import AllSymbols
 from ...run.search import TurnFinder, around, ranges_of, spans
-from ...run.tape import REJECT, STEP, Position, ReplyLine
-from ...run.turn import CHANNEL_CODES, CHANNEL_JUMPS
+from ...run.tape import REJECT, STEP, ReplyLine
+from ...run.turn import CHANNEL_CODES, CHANNEL_JUMPS, places_of_setting
 from ...shell.command_line import add_script, arguments, channel, count, processor, write_lines
 
 DESCRIPTION = """Shows each turn of a script, as the processor stood before it: the turn, counted in octal from 1, the
@@ -24,7 +26,8 @@ state and register are shown in place of Q and the phase, and WORD LOST if the t
 a block of input has ended and the channel is still full. With --symbols an address has its label after it, and the listing's own
 text is at the end of the line."""
 BLOCK_BEGINS = (0o71, 0o73)
-LEAST_PART = 0o100  # turns that are looked at at once
+ALL_CELLS = CELLS * PROCESSORS
+OVER_CLOCK = [code << 6 | CLOCK for code in BLOCK_BEGINS]  # of phases of block transfers the first and the last one
 
 
 class Tracer:
@@ -88,77 +91,80 @@ def fate_of_word(processor, after, was, now):
 class Touches:
     """The turns of a run that may have touched a channel; whether one did is seen there. They are those that wrote it; those by which a block
     transfer began or ended, or that were in one over the clock, which none writes; and those at a word that uses it and need not change it,
-    as a jump by its state."""
+    as a jump by its state. Such a word is in one of some cells: those that had one at first, or were written since."""
 
     def __init__(self, run, channel, processors):
-        self.run, self.processors = run, [*processors]
-        codes = CHANNEL_JUMPS if channel < CLOCK else CHANNEL_CODES  # no instruction changes the clock
-        self.words = {code << 6 | channel for code in codes}
-        written = [flat.REGISTERS + channel, *([flat.STATES + channel] if channel < CLOCK else [])]  # by a device perhaps as it was
-        in_block = [[is_written(flat.P + number), Form(INSIDE, flat.PHASE + number, code << 6 | CLOCK, code << 6 | CLOCK)]
-                    for number in self.processors for code in BLOCK_BEGINS if channel == CLOCK]
-        phases = [[Form(CHANGES, flat.PHASE + number, 1)] for number in self.processors]
-        self.finder = TurnFinder([*([is_written(place)] for place in written), *phases, *in_block])
+        self.run, self.processors, self.is_clock = run, [*processors], channel == CLOCK
+        self.words = {code << 6 | channel for code in (CHANNEL_CODES if self.is_clock else CHANNEL_JUMPS)}  # no instruction changes the clock
+        written = [flat.REGISTERS + channel, *([] if self.is_clock else [flat.STATES + channel])]  # by a device perhaps as it was
+        self.written = [*written, *(flat.PHASE + number for number in self.processors)]
 
     def positions(self, first, last):
         """Yields the positions before those after turn `first`, up to turn `last`."""
         run, tape = self.run, self.run.tape
-        run.goto(tape.after_turn(first))
-        while run.turn < last:
-            begin = tape.after_turn(run.turn)
-            end, most = min(tape.starts[tape.run_after(begin) + 1], tape.at_turn(last)), LEAST_PART
-            while begin < end:
-                part, found = self.part(begin, min(end - begin, most, run.history.room))
+        here, last = tape.after_turn(first), tape.at_turn(last)
+        run.goto(here)
+        self.cells = set()
+        self.see(cell for cell, word in enumerate(run.engine.numbers(flat.CELLS, ALL_CELLS)) if word in self.words)
+        while here < last:
+            action = tape.run_after(here)
+            end = min(tape.starts[action + 1], last)
+            if tape.runs[action].line == STEP:
+                here, found = self.part(here, end)
                 yield from found
-                most = 2 * most if part == most else max(part, LEAST_PART)
-                begin += part
-            run.goto(end)
+            else:
+                self.see(place.number for place in places_of_setting(tape.runs[action].line) if place.kind == "M")
+                here = end
 
-    def part(self, begin, most):
-        """Returns a number of turns after a position, up to so many, in which no word that a processor performs changes, and the positions
-        before those of them that may have touched the channel."""
+    def see(self, cells):
+        """Adds cells to those in which a word that uses the channel may be."""
+        self.cells.update(cells)
+        edges = [-1, *sorted(self.cells), ALL_CELLS]
+        others = [(first + 1, last - 1) for first, last in zip(edges, edges[1:]) if last - first > 1]
+        self.pattern = re.compile(f"[{''.join(f'{chr(first)}-{chr(last)}' for first, last in [*others, *zip(self.written, self.written)])}]")
+        alternatives = [[is_written(flat.P + number), Form(INSIDE, flat.PHASE + number), Form(INSIDE, flat.P + number, first, first + size - 1)]
+                        for number in self.processors
+                        for first, size in ranges_of(cell % CELLS for cell in self.cells if cell // CELLS == number)]
+        if self.is_clock:
+            alternatives += [[is_written(flat.P + number), Form(INSIDE, flat.PHASE + number, *OVER_CLOCK)] for number in self.processors]
+        self.finder = TurnFinder(alternatives)
+
+    def part(self, begin, end):
+        """Returns the end of as many turns as the engine keeps, between two positions without another action between, and the positions before
+        those of them that may have touched the channel."""
         run = self.run
-        performed = self.performed(begin, most)
-        most = run.position - begin
         run.goto(begin)
-        cells = {flat.CELLS + CELLS * number + p for number, addresses in performed.items() for p in {*addresses}}
-        users = {first + at for first, size in ranges_of(cells)
-                 for at, word in enumerate(run.engine.numbers(first, size)) if word in self.words}
-        written = cells.intersection(run.engine.turns(most).places)
-        run.history.performed(most)
-        if written:
-            run.goto(begin)
-            TurnFinder([[Form(CHANGES, first, size)] for first, size in ranges_of(written)]).next(run, most)
+        records = run.engine.turns(min(end - begin, run.history.room))
+        run.history.performed(len(records.counts))
         end = run.position
-        found = self.uses(begin, end, performed, users) if users else ()
-        return end - begin, sorted({*found, *self.writes(begin, end)})
+        places = array("I", records.olds)[::4].tobytes().decode("utf-32-le", "surrogatepass")  # a character each, so that few are looked at
+        found = [(match.start(), ord(match[0])) for match in self.pattern.finditer(places)]
+        if any(place < ALL_CELLS for _, place in found):
+            self.see(place for _, place in found if place < ALL_CELLS)
+        ends = list(accumulate(records.counts)) if found else ()
+        written = {begin + bisect_right(ends, at) for at, place in found if place >= ALL_CELLS}
+        return end, sorted(at for at in {*written, *self.performed(begin, end)} if run.tape.slot(at) in self.processors)
 
-    def performed(self, begin, most):
-        """Returns P before each turn of each processor, of some turns after a position, and P after the last of these turns."""
-        run, width = self.run, len(self.processors)
+    def performed(self, begin, end):
+        """Returns the positions between two before the turns in which a processor performs a word that uses the channel, or is in a block over
+        the clock."""
+        run = self.run
         run.goto(begin)
-        before = run.engine.numbers(flat.P, PROCESSORS)
-        numbers, made = run.engine.looks([flat.P + number for number in self.processors], most)
-        run.history.performed(made)
-        slot = run.tape.slot(begin)
-        return {number: array("Q", [before[number]]) + numbers[width * ((number - slot) % PROCESSORS) + at::width * PROCESSORS]
-                for at, number in enumerate(self.processors)}
+        slot = run.next_slot
+        due = [begin + (number - slot) % PROCESSORS for number in self.at_words()]
+        self.finder.begin(run)
+        while run.position < end and self.finder.conditions:
+            if self.finder.next(run, end - run.position):
+                here = run.position
+                due += [here + PROCESSORS - 1] if run.tape.slot(here - 1) in self.at_words() else []
+                due += [here - 1] if self.is_clock else []
+        return [at for at in due if at < end]
 
-    def uses(self, begin, end, performed, users):
-        """Yields the positions before the turns between two positions in which a processor performs one of some cells."""
-        slot = self.run.tape.slot(begin)
-        for number, addresses in performed.items():
-            memory = flat.CELLS + CELLS * number
-            positions = range(begin + (number - slot) % PROCESSORS, end, PROCESSORS)
-            yield from (position for position, p in zip(positions, addresses) if memory + p in users)
-
-    def writes(self, begin, end):
-        """Yields the positions before the turns between two positions that wrote the channel, or were of a block."""
-        run, tape = self.run, self.run.tape
-        run.goto(begin)
-        while run.position < end:
-            if self.finder.next(run, end - run.position) and tape.slot(Position(run.position - 1)) in self.processors:
-                yield run.position - 1
+    def at_words(self):
+        """Returns the processors that are about to perform a word that uses the channel."""
+        numbers = self.run.engine.numbers(flat.P, flat.STATES - flat.P)
+        cells = {number: CELLS * number + numbers[number] for number in self.processors if not numbers[flat.PHASE - flat.P + number]}
+        return [number for number, cell in cells.items() if cell in self.cells and self.run.number_of(cell) in self.words]
 
 
 def positions_of(asked, run, first, last):
@@ -188,10 +194,7 @@ def main():
     parser.add_argument("--last", metavar="COUNT", type=count, help="the last of these turns alone, octal")
     parser.add_argument("--from", metavar="N", type=count, dest="first", default=1, help="the turns from N on, octal")
     parser.add_argument("--to", metavar="N", type=count, dest="to", help="the turns up to N, octal")
-    add_symbols(parser)
-    add_devices(parser)
-    add_script(parser)
-    asked = parser.parse()
+    asked = parser.parse(add_symbols, add_devices, add_script)
     symbols = symbols_of(asked)
     run, script = replayed(asked, symbols, asked.script)
     last = run.tape.turns if asked.to is None else min(asked.to, run.tape.turns)

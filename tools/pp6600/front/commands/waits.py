@@ -182,12 +182,7 @@ def waits(run, symbols=AllSymbols()):
 
 
 def main():
-    parser = arguments(DESCRIPTION)
-    add_turn(parser)
-    add_symbols(parser)
-    add_devices(parser)
-    add_script(parser)
-    asked = parser.parse()
+    asked = arguments(DESCRIPTION).parse(add_turn, add_symbols, add_devices, add_script)
     symbols = symbols_of(asked)
     run, script = replayed(asked, symbols, asked.script, asked.turn)
     if not is_proved(run.engine) and sys.stderr and sys.stderr.isatty():

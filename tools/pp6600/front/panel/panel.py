@@ -14,10 +14,8 @@ w FILE saves what was sent as a script. It needs a terminal of 80 columns and 24
 def main():
     parser = arguments(DESCRIPTION, "[OPTION ..] [SCRIPT]")
     parser.add_argument("--turn", metavar="N", type=octal, help="go to this turn of the script, counted in octal from 1")
-    add_symbols(parser)
-    add_devices(parser)
     parser.add_argument("script", metavar="SCRIPT", nargs="*", help="lines of the console to begin with")
-    asked = parser.parse()
+    asked = parser.parse(add_symbols, add_devices)
     (script,) = words_after(asked.script, 1, "give one script")
     try:
         from . import terminal  # it needs a module of Python's that is not everywhere

@@ -1,4 +1,5 @@
-use Rattle.std.proofs.Common.{rules}
+use Rattle.std.proofs.Common.{rules, ◌≡◌}
+use Rattle.pp_assembler.specs.Meaning.{IsWordsOf}
 use Rattle.pp_assembler.proofs.meaning.encoding_of.Goals as goal
 
 pub returns-in-Some-2 : goal.returns-in-Some-2
