@@ -134,7 +134,7 @@ class Decks(Case):
         lines = read("tests", "programs", "decks", "scope-style.pp").splitlines()
         found = assembled(lines, texts_in(DECKS))
         symbols = ListingSymbols(lines_of(found, "listing", 0))
-        self.assertEqual({address: f"{cell.word:04o}" for address, cell in found.cells.items()},
+        self.assertEqual({address: cell.word for address, cell in found.cells.items()},
                          {address: word for address, (word, _) in symbols.listing.cells.items()})
 
 
@@ -146,7 +146,7 @@ class Listings(Case):
         self.assertEqual([], found.messages, lines)
         printed = lines_of(found, "listing", 0)
         symbols = ListingSymbols(printed)
-        self.assertEqual({address: f"{cell.word:04o}" for address, cell in found.cells.items()},
+        self.assertEqual({address: cell.word for address, cell in found.cells.items()},
                          {address: word for address, (word, _) in symbols.listing.cells.items()}, printed)
         tables = symbols.names.labels, symbols.names.equates
         self.assertEqual({(name, symbol.value) for name, symbol in found.symbols.named() if 0 <= symbol.value <= 0o7777},
