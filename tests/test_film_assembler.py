@@ -54,6 +54,10 @@ class InNode(Case):
         lines = wanted["sources"]["3"]["lines"]
         self.assertEqual(lines, one["source"]["lines"][:len(lines)])
         labels = wanted["labels"]["3"]
-        self.assertEqual([labels[name] for name in ("names", "addresses")], [one["labels"][name] for name in ("names", "addresses")])
+        self.assertEqual(labels["addresses"], one["labels"]["addresses"])
+        self.assertEqual(*({cell: name for cell, name in them["names"].items() if int(cell) in source.at_location} for them in (labels, one["labels"])))
+        for cell, name in one["labels"]["names"].items():  # the page does not see how long a buffer is
+            label, sign, _ = name.partition("+")
+            self.assertFalse(sign and int(cell) not in source.at_location and labels["addresses"][label] in source.at_location, name)
         self.assertEqual(sorted(labels["entries"]), sorted(one["labels"]["entries"]))
         self.assertEqual(own_lines(source, labels["texts"]), own_lines(source, one["labels"]["texts"]))

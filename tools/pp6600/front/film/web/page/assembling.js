@@ -5,7 +5,7 @@ import { CELLS, octal } from "../machine/places.js";
 import { Assembler } from "../engine/library.mjs";
 
 const WRITTEN = { COMPLAINTS: 0, LISTING: 2, LINES: 3, NAMES: 4 }; // the forms of pp6600_assemble
-const NEAR = 0o77; // how far after a label an address is named by it, if the source does not fill it
+const NEAR = 0o77; // how far after a label that has no word, as that of a buffer, an address without one is named by it
 const LJM = 0o0100, RJM = 0o0200; // without an index
 export const NEW_SOURCE = ["          BASE   OCTAL", "          ORG    100", " START    LDN    0", "          UJN    *", "          END    START",
   ""].join("\n");
@@ -77,12 +77,13 @@ function labelsOf(lines, rows, names) {
   };
 }
 
-// The name of each address: by the label before it, if this is near or the cell is filled, or else by a number's name.
+// The name of each address: by the label before it, if the cell is filled or behind a buffer's label, or else by a number's name.
 function namesOf(labels, numbers, filled) {
   const names = {};
   for (let address = 0, last = -1; address < CELLS; address++) {
     if (labels.has(address)) last = address;
-    const isNear = last >= 0 && (address - last <= NEAR || filled.has(address)), more = address > last ? `+${octal(address - last)}` : "";
+    const most = filled.has(last) ? 0 : NEAR, more = address > last ? `+${octal(address - last)}` : "";
+    const isNear = last >= 0 && (address - last <= most || filled.has(address));
     const name = isNear ? labels.get(last) + more : numbers.get(address);
     if (name) names[address] = name;
   }
