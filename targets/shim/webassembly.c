@@ -1,4 +1,4 @@
-/* Memory for the proved library in a WebAssembly module, which has no system below it. Nothing proves this file.
+/* What the proved library calls in a WebAssembly module, which has no system below it: memory, and a product. Nothing proves this file.
  * A block has 16 bytes more than a power of two, and in the first 16 its size is kept. A free block is kept for the next of its size. One
  * thread uses a module. */
 #include "block.h"
@@ -61,3 +61,16 @@ struct block rattle_realloc(void *old, size_t old_size, size_t size, size_t alig
 /* Memory for what a page hands to the library. Returns its address, or 0; and gives it back, if it is any. */
 __attribute__((export_name("pp6600_room"))) void *room(size_t size) { return memory_of(size); }
 __attribute__((export_name("pp6600_end_room"))) void end_room(void *start) { if (start) rattle_dealloc(start); }
+
+/* The product of two numbers of 128 bits, modulo 2^128, which the compiled code asks for where a product may not fit in 64. It is made of
+ * products of halves of 32 bits. */
+enum { HALF = 32 };
+__int128 __multi3(__int128 one, __int128 other);
+__int128 __multi3(__int128 one, __int128 other) {
+    size_t a = (size_t)one, b = (size_t)other, low_half = ((size_t)1 << HALF) - 1;
+    size_t low = (a & low_half) * (b & low_half);
+    size_t middle = (a >> HALF) * (b & low_half) + (low >> HALF);
+    size_t sum = (a & low_half) * (b >> HALF) + (middle & low_half);
+    size_t high = (a >> HALF) * (b >> HALF) + (middle >> HALF) + (sum >> HALF) + a * (size_t)(other >> 64) + (size_t)(one >> 64) * b;
+    return (__int128)((unsigned __int128)high << 64 | (sum << HALF | (low & low_half)));
+}
