@@ -61,3 +61,11 @@ class InNode(Case):
             self.assertFalse(sign and int(cell) not in source.at_location and labels["addresses"][label] in source.at_location, name)
         self.assertEqual(sorted(labels["entries"]), sorted(one["labels"]["entries"]))
         self.assertEqual(own_lines(source, labels["texts"]), own_lines(source, one["labels"]["texts"]))
+
+    def test_products(self):
+        """A product that has 63 bits, and one that has more, which the module makes of halves."""
+        texts = [f"          BASE   DECIMAL\n          CON    {factor}*{factor}/9007199254740992\n          END\n" for factor in (3037000499, 3037000500)]
+        files = [self.file(json.dumps(data)) for data in ({"two_words": page.tables()["two_words"]}, texts)]
+        fits, does_not = map(json.loads, in_node("film_assembler.js", MODULE, *files))
+        self.assertEqual((fits["faults"], fits["load"]), (0, ["SET M 3 0 1777"]))  # the quotient is 1023 and a part
+        self.assertEqual(does_not["faults"], 1)
