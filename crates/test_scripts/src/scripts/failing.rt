@@ -2,8 +2,7 @@
 ghost use Rattle.std.specs.Prelude.{◌<◌};
 
 use super::{With, ends, session_of};
-use crate::progress::Summary;
-use crate::serving::serve;
+use pp_console::{Summary, serve};
 use pp_history::{Reversible, Session};
 use pp_lines::{Endless, Feed, IoFault, Log, Tray};
 use pp_machine::Place;

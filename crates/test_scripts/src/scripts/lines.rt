@@ -1,8 +1,6 @@
 //! Lines and words.
 use super::{Case, With, compare, follows_each, session_of};
-use crate::progress::Summary;
-use crate::serving::serve;
-use crate::{IoFault, parse, perform};
+use pp_console::{IoFault, Summary, parse, perform, serve};
 use pp_history::Session;
 use pp_lines::{Feed, Tray};
 use pp_rig::Rig;

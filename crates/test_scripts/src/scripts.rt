@@ -8,8 +8,7 @@ mod history;
 mod lines;
 mod steps;
 
-use crate::progress::Summary;
-use crate::serving::serve;
+use pp_console::{Summary, serve};
 use pp_history::Session;
 use pp_lines::{Feed, IoFault, Tray};
 use pp_machine::CentralSize;
