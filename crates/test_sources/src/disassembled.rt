@@ -1,7 +1,6 @@
 //! Cells and the source that they are disassembled to, as docs/ASSEMBLER.md and the tools have them.
-use super::*;
-use crate::source_text::write_source;
-use pp_notation::are_cells;
+use pp_disassembly::{disassemble, write_source};
+use pp_notation::{Cell, are_cells};
 use std::process::Abort;
 
 /// Checks the source of words from an address on, entered there.

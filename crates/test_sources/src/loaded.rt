@@ -1,5 +1,5 @@
 //! The texts of the lines.
-use super::*;
+use pp_loading::load_lines;
 use pp_notation::{Cell, are_cells};
 use std::process::Abort;
 
