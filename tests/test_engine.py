@@ -67,6 +67,9 @@ class Calls(Case):
                 with self.subTest(words, engine=name), self.assertRaises(Rejection) as caught:
                     engine_of(name, words)
                 self.assertEqual((f"pp6600: {text}", 2), (caught.exception.text, caught.exception.status))
+            with self.subTest("help", engine=name), self.assertRaisesRegex(Rejection, "usage: ") as caught:
+                engine_of(name, ["--help"])
+            self.assertEqual(0, caught.exception.status)
         for name in ("/none.so", "/bin/true", self.file("", "empty.so")):
             self.assertRaises(Failure, engine_of, name, [])
 

@@ -24,7 +24,7 @@ from pp6600.failure import Failure
 
 CRATE = os.path.join(TOP, "crates", "pp_library")
 PLACES = 106592 + 32768  # of a machine with the smallest central memory
-SEQUENCES = 120
+SEQUENCES = 80
 STACKS = 32 << 10, 144 << 10, 16 << 10  # bytes of the assembler's calls, of a search and of another, as the header says
 # Opens sessions with little memory until there is none, and compares the others before and after.
 LITTLE_MEMORY = """
@@ -61,7 +61,7 @@ class Machines(LibraryCase):
 
     def test_what_actions_overwrote(self):
         """Put back, that of the last one first, it gives the machine as it was, and so does undoing; performed again they do the same."""
-        for seed in range(60):
+        for seed in range(40):
             session = self.open(history=500, central=32768)
             session.answer("\n".join(Maker(seed, (BUSY, WATCHING)[seed % 2]).script()).encode())
             session.answer(b"DEADSTART\n" * (seed % 3 == 0))
@@ -261,7 +261,7 @@ class RandomCalls(LibraryCase):
     def test_slips_are_seen(self):
         for name in library_calls.SLIPS:
             with self.subTest(name), self.assertRaises(AssertionError):
-                for seed in range(60):
+                for seed in range(40):
                     library_calls.trace_of(seed, library_calls.slipping(name))
 
 

@@ -17,7 +17,7 @@ from .interface import Form, Records, Rejection
 from .numbers_of_calls import checked, counted
 from .origins import LINK_BYTES, Origins, origins_of
 from .plain.lines import Rejected
-from .plain.program import FILE_BYTES, pieces, read_options, read_words
+from .plain.program import FILE_BYTES, USAGE, pieces, read_options, read_words
 
 DONE, ROOM, WATCHED, CLOSED, OPEN, NO_MEMORY, REFUSED, LIMIT, NOT_FOUND = range(9)
 MOST_OLDS = 76  # the most places that an action overwrites
@@ -350,7 +350,7 @@ class LibraryEngine:
             options: Dict[str, Any] = {**read_options(given)}
             options.update((name, bytes_of(given[f"--{name}"], name.upper())) for name in ("deck", "panel") if f"--{name}" in given)
         except Rejected as rejected:
-            status, text = rejected.args
+            status, text = rejected.args or (0, USAGE)  # if help is asked for
             raise Rejection(f"pp6600: {text}", status) from None
         try:
             self.session = LibrarySession(**options, path=path)
