@@ -189,12 +189,13 @@ class BadSurroundings(PageCase):
     def test_damaged(self):
         """A file that is cut short, or has a flipped byte."""
         text = read(self.film(script=COUNTER))
-        at = text.index('id="simulator">') + 2000
-        flipped = text[:at] + ("A" if text[at] != "A" else "B") + text[at + 1:]
-        for name, damaged in (("cut", text[:at] + text[at + 4000:]), ("flipped", flipped)):
-            with self.subTest(name):
-                self.open_in(write(self.path(f"{name}.html"), damaged))
-                self.assert_fault("it is damaged: a part of it is missing")
+        for part in ("simulator", "view"):
+            at = text.index(f'id="{part}">') + 2000
+            flipped = text[:at] + ("A" if text[at] != "A" else "B") + text[at + 1:]
+            for name, damaged in (("cut", text[:at] + text[at + 4000:]), ("flipped", flipped)):
+                with self.subTest(name, part=part):
+                    self.open_in(write(self.path(f"{name}-{part}.html"), damaged))
+                    self.assert_fault("it is damaged: a part of it is missing")
 
     def test_no_workers(self):
         self.open_in(self.film(script=COUNTER), "Object.defineProperty(window, 'Worker', { value: undefined })")
