@@ -81,6 +81,7 @@ export class Hands extends Part {
     const { exercise, exercises } = this.state;
     keep("look", look);
     this.update({ look, lookBefore: this.state.look });
+    this.update(viewAt(this.state));
     return look === "class" && !exercise && exercises.length ? this.exercises.goTo(exercises[0].name) : null;
   }
 
@@ -271,7 +272,7 @@ export class Hands extends Part {
 
   // In a toolbar arrows lead from button to button; Tab leaves it.
   rove(event) {
-    const all = [...event.target.closest(GROUPS).querySelectorAll("button:not(:disabled)")], at = all.indexOf(event.target);
+    const all = [...event.target.closest(GROUPS).querySelectorAll("button:not(:disabled)")].filter((one) => one.checkVisibility()), at = all.indexOf(event.target);
     const next = all[(at + ARROWS[event.key] + all.length) % all.length];
     event.preventDefault();
     if (next.closest(".tools")) this.update({ tool: next.dataset.action });

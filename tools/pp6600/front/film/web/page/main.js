@@ -30,7 +30,7 @@ function foldedIn({ columns }) {
 // The one state of the page: the session, what is shown of it, what is chosen, the window, and what is typed.
 function stateOf(about) {
   const size = windowNow(), { exercises = [], keys } = about, isClass = exercises.length > 0;
-  const memory = { n: 0, follows: true, isHeld: false, first: 0, top: 0, as: "numbers" };
+  const memory = { n: 0, follows: true, isHeld: false, first: 0, top: 0, as: "" };
   const editor = { n: 0, text: "", messages: [], rows: [], listing: "", texts: [] };
   return {
     isOpen: false, film: null, transcript: [], sentLast: null, tree: newTree(), said: { text: "", isWrong: false }, isBusy: false, offer: null,
