@@ -257,8 +257,8 @@ class Solve(PageCase):
         self.browser.open(path)
         solved = self.js(f"""editor.edit({json.dumps(self.SOURCE)}); await editor.load(); await exercises.check(); const at = store.state.checked;
           moves.moveTo(0); await exercises.check(); const before = store.state.checked;
-          return [at.wrong.length, at.turn, before.wrong.length > 0, store.state.solved]""")
-        self.assertEqual([0, 0, True, {"first-program": True}], solved)
+          return [at.wrong.length, at.turn, before.wrong[0], store.state.solved]""")
+        self.assertEqual([0, 0, {"wanted": "0022 5555", "found": "0022 0000"}, {"first-program": True}], solved)
         there = self.js("""moves.moveTo(store.state.film.last); await session.type(['STEP 100']); await exercises.goTo("exchange"); await session.type(["STEP 5"]);
           const other = [store.state.exercise, turn(), store.state.editor.text.includes("LDD")]; await exercises.goTo("first-program");
           return [other, store.state.exercise, turn(), store.state.editor.text.includes("LDD"), store.state.sources.get(0).name,
