@@ -19,7 +19,7 @@ from tests.support import PATIENCE, PROVED, TOP, Case, blocks, program, read
 from pp6600.engine import library
 from pp6600.engine.assembler import Assembler
 from pp6600.engine.interface import Form
-from pp6600.engine.library import LibraryEngine, LibrarySession, Refused
+from pp6600.engine.library import LibrarySession, Refused
 from pp6600.failure import Failure
 
 CRATE = os.path.join(TOP, "crates", "pp_library")
@@ -191,15 +191,14 @@ class WrongHands(LibraryCase):
         self.assertEqual((session.counts(), session.numbers(0, PLACES)), before)
 
     def test_a_list_of_places_that_is_changed(self):
-        """The engine looks at what is in the list now."""
-        engine, places = LibraryEngine(PROVED, []), [40960]
-        self.addCleanup(engine.close)
-        engine.perform(b"SET A 0 5\nSET A 1 6\n")
-        self.assertEqual(([5], 1), (list(engine.looks(places, 1)[0]), 1))
+        """The session looks at what is in the list now."""
+        session, places = self.open(), [40960]
+        session.perform(b"SET A 0 5\nSET A 1 6\n")
+        self.assertEqual(([[5]], False), session.looks(1, places))
         places[0] = 40961
-        self.assertEqual([6], list(engine.looks(places, 1)[0]))
+        self.assertEqual([[6]], session.looks(1, places)[0])
         places.append(40960)
-        self.assertEqual([6, 5], list(engine.looks(places, 1)[0]))
+        self.assertEqual([[6, 5]], session.looks(1, places)[0])
 
     def test_a_line_that_is_too_long(self):
         """The call takes none of it, each time; the classes say so."""

@@ -67,7 +67,7 @@ def packed(data: bytes) -> str:
 
 def tables() -> Dict[str, Any]:
     """Returns what it has to know of every machine: the one table of instructions, and the sentences about turns."""
-    return {"names": NAMES, "two_words": TWO_WORDS, "relative_jumps": list(RELATIVE_JUMPS), "symbols": SYMBOLS,
+    return {"names": NAMES, "two_words": sorted(TWO_WORDS), "relative_jumps": list(RELATIVE_JUMPS), "symbols": SYMBOLS,
             "modes": {"reader": MODES["CR MODE"], "printer": MODES["LP MODE"]},
             "states": list(zip(STATES, ("inactive", "empty", "full", "function"))), "waits_for": WAITS_FOR,
             "goes_on_in": {"instruction": COMPLETES, "block": BLOCK_GOES_ON},
