@@ -32,7 +32,7 @@ pub enum Origin {
 }
 
 /// Returns whether a symbol is a blank, as at the end of a line.
-fn is_space(symbol: u8) -> bool {
+pub fn is_space(symbol: u8) -> bool {
     matches!(symbol, b' ' | 0x09..=0x0d | 0x1c..=0x1f)
 }
 

@@ -3,6 +3,7 @@
 
 mod blocks;
 mod conditions;
+mod decks;
 mod directives;
 mod encoding;
 mod fields;
@@ -29,10 +30,11 @@ mod values;
 mod vocabulary;
 mod wording;
 
+pub use decks::Text;
 pub use lines::{Line, Lines, Span};
 pub use message::Complaint;
 pub use pass::{CELLS, Row};
-pub use passes::assemble;
+pub use passes::{assemble, assemble_with};
 pub use program::{Assembly, Performed};
 pub use symbols::{Definition, Symbol, Symbols};
 pub use units::Unit;

@@ -1,8 +1,9 @@
-//! The statements of a source: its lines, each with those that continue it, and those that SUBR makes.
+//! The statements of a source and of its common decks: their lines, each with those that continue it, and those that SUBR makes.
 ghost use Rattle.std.specs.Prelude.{◌≡◌, IfOk, map};
 ghost use Rattle.pp_assembler.specs.Places.{length_of, line_lengths};
 ghost use Rattle.pp_notation.specs.Columns.{between};
 
+use crate::decks::{Decks, Text, up_to_endx};
 use crate::fields::{in_columns, is_empty, length_without_blanks};
 use crate::texts::tail;
 use std::alloc::{AllocError, Global};
@@ -19,7 +20,7 @@ static SUBR: [&[u8]; SUBR_LINES] = [
     b"          ENDM",
 ];
 /// How many lines it has.
-pub const SUBR_LINES: usize = 4;
+const SUBR_LINES: usize = 4;
 
 /// Bytes of a text, as of a source, of all lines or of a line: the first one, from 0, and the one after the last.
 #[derive(Clone, Copy, Default)]
@@ -64,11 +65,12 @@ pub struct Join {
     pub first: usize,
 }
 
-/// The call of a macro that made a line: its column, from 0, and where its name is.
+/// The call of a macro that made a line, or the XTEXT of the common deck that has it: its column, from 0, and where the name is.
 #[derive(Clone, Copy)]
 pub struct Call {
     pub column: usize,
     pub name: Span,
+    pub is_deck: bool,
 }
 
 /// A line with those that continue it, or a line that another one made.
@@ -85,15 +87,18 @@ pub struct Line {
     pub call: Option<Call>,
 }
 
-/// The lines of a source, with their text and the same in capitals.
+/// The lines of a source and of its common decks, with their text and the same in capitals.
 #[derive(Drop)]
 pub struct Lines {
     pub text: Vec<u8>,
     pub capitals: Vec<u8>,
     pub joins: Vec<Join>,
     pub all: Vec<Line>,
-    /// How many lines no other one made.
+    /// The lines of the source.
+    pub source: Span,
+    /// How many lines no other one made: those of SUBR, of the source and of its decks.
     pub own: usize,
+    pub decks: Decks,
 }
 
 impl Lines {
@@ -103,7 +108,9 @@ impl Lines {
             capitals: Vec::new(alloc),
             joins: Vec::new(alloc),
             all: Vec::new(alloc),
+            source: Span::none(),
             own: 0,
+            decks: Decks::new(alloc),
         }
     }
 
@@ -174,11 +181,11 @@ impl Lines {
         }
     }
 
-    /// Returns the last line, if another one may continue it.
-    fn continued(&self) -> Option<Line> {
-        let line = *self.all.last()?;
+    /// Returns the last line of a text, whose first one has an index, if another one may continue it.
+    fn continued(&self, first: usize) -> Option<Line> {
+        let line = *self.all.get(first..)?.last()?;
         let text = self.text_of(line);
-        let is_note = line.number == 0 || text.first() == Some(&b'*') || is_empty(text);
+        let is_note = text.first() == Some(&b'*') || is_empty(text);
         (!is_note && self.joins_of(line).len() < MOST_JOINS).then_some(line)
     }
 
@@ -209,24 +216,40 @@ impl Lines {
         Ok(())
     }
 
-    fn add_source(&mut self, source: &[u8], spans: &[Span]) -> Result<(), AllocError> {
+    /// Adds the lines of a text, each with those that continue it, and returns where they are.
+    fn add_lines(&mut self, source: &[u8], spans: &[Span]) -> Result<Span, AllocError> {
+        let first = self.all.len();
         let mut number: u32 = 0;
         for span in spans {
             number = number.saturating_add(1);
             let mut bytes = without_returns(span.of(source));
             if number == 1 {
-                bytes = bytes.strip_prefix(MARK.as_slice()).unwrap_or(bytes);
+                bytes = without_mark(bytes);
             }
-            match self.continued() {
+            match self.continued(first) {
                 Some(last) if bytes.first() == Some(&b',') => self.join(number, last, bytes)?,
                 _ => self.add_line(number, bytes)?,
             }
         }
-        Ok(())
+        Ok(Span::new(first, self.all.len()))
+    }
+
+    /// Adds a common deck.
+    fn add_deck(&mut self, alloc: Global, deck: &Text) -> Result<(), AllocError> {
+        let text = without_mark(deck.lines);
+        let spans = cut_lines(alloc, text)?;
+        let lines = self.add_lines(text, up_to_endx(text, &spans))?;
+        self.decks.add(deck.name, lines)
     }
 }
 
-fn without_returns(line: &[u8]) -> &[u8] {
+/// Returns a text without what some editors put before it.
+fn without_mark(text: &[u8]) -> &[u8] {
+    text.strip_prefix(MARK.as_slice()).unwrap_or(text)
+}
+
+/// Returns a line without the carriage returns at its end.
+pub fn without_returns(line: &[u8]) -> &[u8] {
     match line.iter().rposition(|byte| *byte != b'\r') {
         Some(last) => line.get(..=last).unwrap_or(line),
         None => b"",
@@ -254,13 +277,21 @@ pub fn cut_lines(alloc: Global, source: &[u8]) -> Result<Vec<Span>, AllocError>
     Ok(spans)
 }
 
-/// Returns the lines of SUBR and those of a source, each with those that continue it.
-pub fn read_lines(alloc: Global, source: &[u8], spans: &[Span]) -> Result<Lines, AllocError> {
+/// Returns the lines of SUBR, those of a source and those of its common decks, each with those that continue it.
+pub fn read_lines(
+    alloc: Global,
+    source: &[u8],
+    spans: &[Span],
+    decks: &[Text],
+) -> Result<Lines, AllocError> {
     let mut lines = Lines::new(alloc);
     for line in &SUBR {
         lines.add_line(0, line)?;
     }
-    lines.add_source(source, spans)?;
+    lines.source = lines.add_lines(source, spans)?;
+    for deck in decks {
+        lines.add_deck(alloc, deck)?;
+    }
     lines.own = lines.all.len();
     Ok(lines)
 }

@@ -168,7 +168,11 @@ impl Pass {
         let name = here.span_of(statement.operation);
         let line = Line {
             joins: Span::none(),
-            call: Some(Call { column, name }),
+            call: Some(Call {
+                column,
+                name,
+                is_deck: false,
+            }),
             ..here.line
         };
         let made = self.expand(lines, statement.operation, line, called.body)?;

@@ -3,7 +3,9 @@ use crate::encoding::{bits_of, index_of};
 use crate::fields::Statement;
 use crate::message::{Fault, Field, Outcome, Stop};
 use crate::pass::{Here, OpenWord, Pass};
-use crate::texts::{Text, are_in_code, before_mark, code_of, digits_of, no_code, tail, text_at};
+use crate::texts::{
+    DisplayText, are_in_code, before_mark, code_of, digits_of, no_code, tail, text_at,
+};
 
 const WORD_BITS: u32 = 12;
 
@@ -73,11 +75,11 @@ impl Pass {
         let rest = tail(operand, before);
         let text = if digits > 0 {
             let size = (count as usize).saturating_mul(2);
-            Text::new(b'H', rest.get(..size).unwrap_or(rest), size, 0)
+            DisplayText::new(b'H', rest.get(..size).unwrap_or(rest), size, 0)
         } else {
             let mark = rest.first().copied().unwrap_or(b'*');
             let symbols = before_mark(tail(rest, 1), mark, column)?;
-            Text::new(b'C', symbols, symbols.len(), 0)
+            DisplayText::new(b'C', symbols, symbols.len(), 0)
         };
         let is_blank = |symbol: &u8| digits > 0 && *symbol == b'\t';
         let is_wrong = |symbol: &&u8| code_of(**symbol).is_none() && !is_blank(*symbol);
@@ -166,7 +168,7 @@ fn add_bits(words: &mut Vec<u16>, used: u32, size: u32, number: u64) -> Outcome<
 }
 
 /// Adds the words of a text, two symbols each.
-fn put_text(words: &mut Vec<u16>, text: Text) -> Outcome {
+fn put_text(words: &mut Vec<u16>, text: DisplayText) -> Outcome {
     let size = text.size_in_words();
     for word in 0..size / 2 {
         let at = word.saturating_mul(2);

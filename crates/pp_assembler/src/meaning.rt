@@ -79,7 +79,7 @@ fn is_silent(operation: Operation) -> bool {
             | Operation::Micro
             | Operation::NumberMicro { .. }
             | Operation::Block(_)
-            | Operation::Lines(Elsewhere::Here | Elsewhere::Purge)
+            | Operation::Lines(Elsewhere::Deck | Elsewhere::Here | Elsewhere::Purge)
     )
 }
 

@@ -5,7 +5,7 @@ use crate::macros::Repetition;
 use crate::message::{Argument, Fault, Field, Message, Outcome, Stop};
 use crate::running::{Job, Run};
 use crate::symbols::{Definition, Symbols};
-use crate::texts::{Text, are_in_code, text_at};
+use crate::texts::{DisplayText, are_in_code, text_at};
 use crate::units::{Blocks, Literals, Unit};
 use crate::values::{Base, Expression, Value};
 use crate::vocabulary::Vocabulary;
@@ -422,7 +422,7 @@ fn fitting(here: &Here, operand: Field, number: i64, bits: u32, code: Option<u8>
 }
 
 /// Returns a text as a number of so many bits.
-fn text_field(operand: Field, text: Text, bits: u32) -> Outcome<u64> {
+fn text_field(operand: Field, text: DisplayText, bits: u32) -> Outcome<u64> {
     let size = (bits / 6) as usize;
     if matches!(text.kind, b'C' | b'Z') || bits % 6 != 0 || text.count > size {
         let fault = Fault::new("the text {} does not fit in {} (decimal) bits");

@@ -6,6 +6,7 @@ ghost use Rattle.pp_assembler.specs.declared.lines.Lines.{Lines as AllLines};
 ghost use Rattle.pp_assembler.specs.declared.pass.Row.{Row};
 ghost use Rattle.pp_assembler.specs.Places.{IsOfLine, length_of, line_lengths};
 
+use crate::decks::Text;
 use crate::lines::{Lines, Span, cut_lines, read_lines};
 use crate::meaning::{Found, encode_performed};
 use crate::message::{Fault, Message};
@@ -24,7 +25,7 @@ const MOST_PASSES: usize = 10;
 const UNSETTLED: &str =
     "the addresses of blocks are others in each pass, for they depend on one another";
 
-/// Returns what a source makes.
+/// Returns what a source makes that reads no common decks.
 ///
 /// # Errors
 /// Memory ran out.
@@ -36,8 +37,24 @@ pub fn assemble(alloc: Global, source: &[u8]) -> Result<Assembly, AllocError>
     // The words are what the statements mean.
     ensures meaning { IfOk result IsMeant }
 {
+    assemble_with(alloc, source, &[])
+}
+
+/// Returns what a source makes that may read common decks, by XTEXT or *CALL. Of two with one name the first one counts. A message
+/// about a line of a deck is about the line that reads it.
+///
+/// # Errors
+/// Memory ran out.
+pub fn assemble_with(alloc: Global, source: &[u8], texts: &[Text]) -> Result<Assembly, AllocError>
+    ensures cells { IfOk result (λ made. IsProgram made.program.cells.items) }
+    ensures start { IfOk result (λ made. IsStart made.program.start) }
+    ensures messages { IfOk result (λ made. All (IsOfLine (line_lengths source.now)) made.messages.items) }
+    ensures warnings { IfOk result (λ made. All (IsOfLine (line_lengths source.now)) made.warnings.items) }
+    // The words are what the statements mean.
+    ensures meaning { IfOk result IsMeant }
+{
     let spans = cut_lines(alloc, source)?;
-    let mut lines = read_lines(alloc, source, &spans)?;
+    let mut lines = read_lines(alloc, source, &spans, texts)?;
     let mut pass = last_pass(alloc, &mut lines)?;
     let found = encode_performed(alloc, &lines, &pass)?;
     if let Found::Refused(message) = &found {

@@ -1,10 +1,11 @@
 //! The order in which lines are performed: those of a source, and those that other lines repeat, choose or make.
 use crate::fields::{Origin, Statement, statement_of};
-use crate::lines::{Join, Line, Lines, SUBR_LINES, Span};
+use crate::lines::{Join, Line, Lines, Span};
 use crate::message::{Field, Outcome, Stop};
 use crate::operations::{Operation, operation_of};
 use crate::pass::{Here, MOST_STATEMENTS, Pass, too_many_statements};
 use crate::performing::{Ending, is_known};
+use crate::remote::name_after_call;
 
 /// How many blocks and calls are within one another.
 const MOST_NESTED: u32 = 100;
@@ -48,10 +49,10 @@ impl Pass {
     /// Performs all lines. Returns what ends the pass early.
     pub fn run(&mut self, lines: &mut Lines) -> Result<(), Ending> {
         lines.forget_made();
-        let end = lines.own;
-        self.run_all(lines, Span::new(0, SUBR_LINES))?;
+        let source = lines.source;
+        self.run_all(lines, Span::new(0, source.first))?;
         self.rows.clear();
-        self.run_all(lines, Span::new(SUBR_LINES, end))?;
+        self.run_all(lines, source)?;
         if !self.has_ended {
             match self.all_remote(lines) {
                 Ok(rest) => self.run_all(lines, rest)?,
@@ -169,6 +170,9 @@ impl Pass {
     /// Performs the present line.
     fn perform(&mut self, lines: &mut Lines) -> Outcome {
         self.count_statement()?;
+        if let Some(name) = name_after_call(lines, self.at) {
+            return self.read_deck(lines, name, 0);
+        }
         self.replace_micros(lines)?;
         let Some(statement) = self.present_statement(lines)? else {
             return Ok(());
@@ -208,9 +212,9 @@ impl Pass {
     /// Returns the statement of a line, as it stands there.
     pub fn statement(&self, here: &Here) -> Outcome<Option<Statement>> {
         let origin = match here.line.call {
-            Some(_) => Origin::Made,
-            None if here.joins.is_empty() => Origin::Source,
-            None => Origin::Joined,
+            Some(call) if !call.is_deck => Origin::Made,
+            _ if here.joins.is_empty() => Origin::Source,
+            _ => Origin::Joined,
         };
         statement_of(here.text, origin, &self.vocabulary)
     }

@@ -67,16 +67,16 @@ pub fn digits_of(text: &[u8], most: usize) -> (usize, u32) {
 
 /// A text: its kind, its symbols, how many it has with blanks that the line has lost, and the column after it.
 #[derive(Clone, Copy)]
-pub struct Text<'a> {
+pub struct DisplayText<'a> {
     pub kind: u8,
     pub symbols: &'a [u8],
     pub count: usize,
     pub end: usize,
 }
 
-impl<'a> Text<'a> {
+impl<'a> DisplayText<'a> {
     pub fn new(kind: u8, symbols: &'a [u8], count: usize, end: usize) -> Self {
-        Text {
+        DisplayText {
             kind,
             symbols,
             count,
@@ -123,7 +123,7 @@ fn is_kind(symbol: u8) -> bool {
 }
 
 /// Returns the text that begins at a column, if one does. One between two symbols is a text only where that is allowed.
-pub fn text_at(line: &[u8], at: usize, is_delimited: bool) -> Outcome<Option<Text<'_>>> {
+pub fn text_at(line: &[u8], at: usize, is_delimited: bool) -> Outcome<Option<DisplayText<'_>>> {
     let (digits, count) = digits_of(tail(line, at), 9);
     let start = at.saturating_add(digits);
     match tail(line, start) {
@@ -134,14 +134,14 @@ pub fn text_at(line: &[u8], at: usize, is_delimited: bool) -> Outcome<Option<Tex
             if is_delimited && is_kind(*kind) && !is_alphanumeric(*mark) && *mark != b' ' => {
             let symbols = before_mark(rest, *mark, at)?;
             let end = at.saturating_add(symbols.len()).saturating_add(3);
-            Ok(Some(Text::new(*kind, symbols, symbols.len(), end)))
+            Ok(Some(DisplayText::new(*kind, symbols, symbols.len(), end)))
         }
         _ => Ok(None),
     }
 }
 
 /// Returns the text of so many symbols.
-fn counted(line: &[u8], at: usize, kind: u8, first: usize, count: u32) -> Outcome<Text<'_>> {
+fn counted(line: &[u8], at: usize, kind: u8, first: usize, count: u32) -> Outcome<DisplayText<'_>> {
     let wanted = count as usize;
     let end = if wanted > 0 {
         first.saturating_add(wanted)
@@ -154,7 +154,7 @@ fn counted(line: &[u8], at: usize, kind: u8, first: usize, count: u32) -> Outcom
     }
     let end = end.min(line.len());
     let symbols = line.get(first..end).unwrap_or(b"");
-    Ok(Text::new(kind, symbols, wanted.max(symbols.len()), end))
+    Ok(DisplayText::new(kind, symbols, wanted.max(symbols.len()), end))
 }
 
 /// Returns the symbols before a mark. Without it, a column has a fault.

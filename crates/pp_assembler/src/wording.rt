@@ -50,7 +50,11 @@ pub fn message_text(
         },
     ) = line
     {
-        writer.text(b" (in the macro ")?;
+        writer.text(if call.is_deck {
+            b" (in the common deck "
+        } else {
+            b" (in the macro "
+        })?;
         writer.text(call.name.of(&assembly.lines.capitals))?;
         writer.text(b": ")?;
         let text = stripped(text.of(&assembly.lines.text));
