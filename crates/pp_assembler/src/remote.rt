@@ -1,13 +1,10 @@
 //! Directives that perform lines from elsewhere, or give operations other names.
-use crate::decks::Decks;
-use crate::directives::the_only;
-use crate::fields::Statement;
-use crate::lines::{Call, Line, Lines, Span};
-use crate::message::{Argument, Fault, Field, Outcome, Stop};
-use crate::operations::Elsewhere;
-use crate::pass::{Here, Pass, too_many_statements};
-use crate::texts::{after_blanks, end_of_word};
-use crate::vocabulary::{Macro, Meaning};
+use crate::pass::Pass;
+use pp_source::{
+    Argument, Call, Decks, Elsewhere, Fault, Field, Here, Line, Lines, Macro, Meaning, Outcome,
+    Span, Statement, Stop, after_blanks, end_of_word,
+};
+use pp_statements::{the_only, too_many_statements};
 
 /// How many lines there are at most, with those that others make.
 const MOST_LINES: usize = 1_000_000;
@@ -64,7 +61,7 @@ impl Pass {
                 self.read_deck(lines, name, statement.operand.first)
             }
             Elsewhere::Here => {
-                self.plain_row(&here, false)?;
+                self.scope.plain_row(&here, false)?;
                 let is_before = !statement.location.is_empty();
                 let name = if is_before {
                     statement.location
@@ -82,7 +79,7 @@ impl Pass {
     /// Performs the lines of the common deck that a part of the present line names, next. A message is about a column.
     pub fn read_deck(&mut self, lines: &mut Lines, name: Field, column: usize) -> Outcome {
         let here = Here::new(lines, self.at);
-        self.plain_row(&here, false)?;
+        self.scope.plain_row(&here, false)?;
         let Some(deck) = lines.decks.find(name.of(here.text)) else {
             return Err(no_deck(&lines.decks, name).at(column));
         };
@@ -142,21 +139,21 @@ impl Pass {
         let words = &mut self.vocabulary;
         let name = words.keep(statement.location.of(here.text))?;
         if let Some(one) = words.macro_of(old) {
-            let from = self.performed;
+            let from = self.scope.performed;
             words.macros.push(Macro { name, from, ..one })?;
         } else {
             let text = words.keep(old)?;
             words.synonyms.push(Meaning { name, text })?;
         }
-        self.plain_row(here, false)
+        self.scope.plain_row(here, false)
     }
 
     /// PURGMAC forgets macros.
     fn purge(&mut self, here: &Here, statement: Statement) -> Outcome {
         let names = statement.operand.of(here.text);
         for name in names.split(|symbol| *symbol == b',') {
-            self.vocabulary.purge(name, self.performed);
+            self.vocabulary.purge(name, self.scope.performed);
         }
-        self.plain_row(here, false)
+        self.scope.plain_row(here, false)
     }
 }
