@@ -1,5 +1,5 @@
 -- The words of a program are those of its statements.
-use Rattle.std.specs.Prelude.{◌≡◌, ℕ, Bool, true, List, [], Option, Some, None, IfSome, slice_get}
+use Rattle.std.specs.Prelude.{◌≡◌, ℕ, true, List, [], Option, Some, None, IfSome, slice_get}
 use Rattle.std.specs.List.{AllByRecursion, AllZip}
 use Rattle.pp_notation.specs.Columns.{between}
 use Rattle.pp_notation.specs.declared.program.Program.{Program}

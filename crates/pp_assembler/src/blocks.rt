@@ -4,8 +4,8 @@ use crate::conditions::texts_of;
 use crate::pass::Pass;
 use crate::running::Job;
 use pp_source::{
-    Argument, Fault, Field, Here, Lines, Opening, Operation, Order, Outcome, Remote, Span,
-    Statement, Stop, operation_of,
+    Argument, Fault, Field, Here, Lines, Opening, Operation, Outcome, Remote, Span, Statement,
+    Stop, operation_of,
 };
 use pp_statements::Base;
 
@@ -235,35 +235,58 @@ impl Pass {
         self.jobs.push(Job::Show(block.end))?;
         let is_first = holds?;
         match kind {
-            Opening::Macro { has_names } => {
-                if !block.is_closed {
-                    self.pass_over(lines, block.first)?;
-                }
-                self.define_macro(&here, statement, has_names, block.first)?;
-                self.show(lines, block.first)
-            }
-            Opening::Remote => {
-                self.show(lines, block.first)?;
-                let name = self.vocabulary.keep(statement.location.of(here.text))?;
-                let lines = block.first;
-                Ok(self.vocabulary.remote.push(Remote { name, lines })?)
-            }
+            Opening::Macro { has_names } => { self.keep_macro(lines, statement, has_names, block) }
+            Opening::Remote => self.keep_remote(lines, statement, block.first),
             _ if !block.is_closed => self.push_run(block.first, 1, 0),
-            Opening::Repeat => {
-                let operands = self.operands(&here, statement)?;
-                let operand = operands.first().copied().unwrap_or(statement.operand);
-                let times = self.scope.count(&here, operand, 0)?;
-                self.push_run(block.first, times, 0)
-            }
+            Opening::Repeat => self.repeat(&here, statement, block.first),
             Opening::Echo => Ok(()),
-            _ if is_first => {
-                self.jobs.push(Job::Show(block.second))?;
-                self.push_run(block.first, 1, 0)
-            }
-            _ => {
-                self.show(lines, block.first)?;
-                self.push_run(block.second, 1, 0)
-            }
+            _ => self.choose(lines, block, is_first),
         }
+    }
+
+    /// Keeps the lines of a macro.
+    fn keep_macro(
+        &mut self,
+        lines: &Lines,
+        statement: Statement,
+        has_names: bool,
+        block: Block,
+    ) -> Outcome {
+        if !block.is_closed {
+            self.pass_over(lines, block.first)?;
+        }
+        self.define_macro(
+            &Here::new(lines, self.at),
+            statement,
+            has_names,
+            block.first,
+        )?;
+        self.show(lines, block.first)
+    }
+
+    /// Keeps the lines of RMT.
+    fn keep_remote(&mut self, lines: &Lines, statement: Statement, body: Span) -> Outcome {
+        let here = Here::new(lines, self.at);
+        self.show(lines, body)?;
+        let name = self.vocabulary.keep(statement.location.of(here.text))?;
+        Ok(self.vocabulary.remote.push(Remote { name, lines: body })?)
+    }
+
+    /// DUP performs lines so many times.
+    fn repeat(&mut self, here: &Here, statement: Statement, body: Span) -> Outcome {
+        let operands = self.operands(here, statement)?;
+        let operand = operands.first().copied().unwrap_or(statement.operand);
+        let times = self.scope.count(here, operand, 0)?;
+        self.push_run(body, times, 0)
+    }
+
+    /// Performs the lines up to ELSE, or those after it.
+    fn choose(&mut self, lines: &Lines, block: Block, is_first: bool) -> Outcome {
+        if is_first {
+            self.jobs.push(Job::Show(block.second))?;
+            return self.push_run(block.first, 1, 0);
+        }
+        self.show(lines, block.first)?;
+        self.push_run(block.second, 1, 0)
     }
 }

@@ -1,5 +1,5 @@
 //! A source in two passes: the first one finds what its names stand for, the second one makes its words and reports what is wrong.
-ghost use Rattle.std.specs.Prelude.{◌≡◌, All, IfOk, IfSome, List, map};
+ghost use Rattle.std.specs.Prelude.{All, IfOk, IfSome, List, map};
 ghost use Rattle.pp_notation.specs.Cells.{IsProgram, IsStart};
 ghost use Rattle.pp_assembler.specs.Meaning.{AreMeant, IsFound, IsMeant};
 ghost use Rattle.pp_source.specs.declared.lines.Lines.{Lines as AllLines};

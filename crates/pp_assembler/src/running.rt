@@ -243,18 +243,12 @@ impl Pass {
         words.add_kept(name)?;
         let (number, first) = here.place_of(statement.operation.first);
         let line = here.line;
-        let before = lines.joins.len();
-        for index in line.joins.first..line.joins.end {
-            if let Some(join) = lines.joins.get(index).copied() {
-                lines.joins.push(join)?;
-            }
-        }
-        lines.joins.push(Join {
+        let join = Join {
             column,
             number,
             first,
-        })?;
-        let joins = Span::new(before, lines.joins.len());
+        };
+        let joins = lines.add_joins(line.joins, join)?;
         self.at = lines.add_read(Line { joins, ..line }, &words.made)?;
         let operation = Field::new(column, words.made.len());
         Ok(Statement {

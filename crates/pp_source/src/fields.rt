@@ -1,5 +1,5 @@
 //! A line cut into the fields of a statement: location, operation and operand. The comment is left out.
-use crate::message::{Fault, Field, Outcome, Stop};
+use crate::message::{Fault, Field, Outcome};
 use crate::scan::{
     LAST_COLUMN, after_blanks, end_of_word, find, in_columns, is_blank, is_empty, next_where, tail,
 };

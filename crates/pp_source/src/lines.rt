@@ -127,6 +127,18 @@ impl Lines {
         Ok(index)
     }
 
+    /// Adds joins, and one more behind them, and returns where they are.
+    pub fn add_joins(&mut self, joins: Span, last: Join) -> Result<Span, AllocError> {
+        let first = self.joins.len();
+        for index in joins.first..joins.end {
+            if let Some(join) = self.joins.get(index).copied() {
+                self.joins.push(join)?;
+            }
+        }
+        self.joins.push(last)?;
+        Ok(Span::new(first, self.joins.len()))
+    }
+
     fn add_line(&mut self, number: u32, bytes: &[u8]) -> Result<(), AllocError> {
         let mut line = Line::default();
         line.number = number;

@@ -1,5 +1,5 @@
 //! Texts in display code: 3HABC, 0HABC up to a comma or a blank, H*ABC* between two equal symbols.
-use crate::message::{Fault, Outcome, Stop};
+use crate::message::{Fault, Outcome};
 use crate::numbers::product;
 use crate::scan::{digits_of, find, is_alphanumeric, is_blank, next_where, tail};
 pub use pp_notation::code_of_symbol as code_of;

@@ -1,7 +1,7 @@
 //! The statements of a source, performed one after another.
 use crate::directives::the_only;
 use crate::scope::Scope;
-use pp_source::{Argument, Fault, Field, Here, Operation, Outcome, Statement, Stop, is_operation};
+use pp_source::{Argument, Fault, Here, Operation, Outcome, Statement, Stop, is_operation};
 
 const LABEL_IS_OPERATION: &str =
     "{} is no operation; {} is taken as a label, for it is not in column 3 or later";

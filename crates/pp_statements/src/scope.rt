@@ -2,8 +2,8 @@
 use crate::units::{Blocks, Literals, Unit};
 use crate::values::{Base, Expression, Value};
 use pp_source::{
-    Argument, Definition, DisplayText, Fault, Field, Here, Join, Line, Lines, Message, Outcome,
-    Span, Statement, Stop, Symbols, are_in_code, text_at,
+    Argument, Definition, DisplayText, Fault, Field, Here, Message, Outcome, Statement, Stop,
+    Symbols, are_in_code, text_at,
 };
 use std::alloc::{AllocError, Global};
 

@@ -2,8 +2,8 @@
 use crate::scope::Scope;
 pub use pp_meaning::Base;
 use pp_source::{
-    Fault, Field, Number, Outcome, Place, Stop, are_in_code, counter_of, decoded, digits_of,
-    end_of_name, is_alphanumeric, next_where, number_of, product, shifted, tail, text_at,
+    Fault, Field, Number, Outcome, Place, Stop, are_in_code, counter_of, decoded, end_of_name,
+    next_where, number_of, product, shifted, tail, text_at,
 };
 
 const MOST_BITS: u32 = 60;

@@ -1,5 +1,5 @@
-use Rattle.std.proofs.Common.{rules, ◌≡◌, true}
-use Rattle.pp_assembler.specs.Meaning.{IsPerformed, read_at}
+use Rattle.std.proofs.Common.{rules, true}
+use Rattle.pp_assembler.specs.Meaning.{IsPerformed}
 use Rattle.pp_assembler.proofs.Pairs.{performed_at, push_both}
 use Rattle.pp_assembler.proofs.meaning.statements_of.Goals as goal
 use Rattle.pp_assembler.proofs.meaning.statements_of.Goals.{in-Kept+in_ok-statement+in-Some+in_ok-push-in-Some+in_ok-push, in_default}
