@@ -75,6 +75,34 @@ def statements(choose: random.Random, real: Sequence[List[str]]) -> List[str]:
             *(statement(choose) for _ in range(choose.randrange(1, 14)))]
 
 
+DECKS = ("PPCOM", "PPSYM.pp", "compmac.txt")  # of tests/programs/decks
+READS = ["          XTEXT  {}", " {:8} XTEXT", "*CALL {}", "*call {} and more", " A        XTEXT  {}  COMMENT"]
+
+
+def decks() -> Dict[str, List[str]]:
+    """Returns the lines of common decks by their names: those of the repository, and others made at random."""
+    choose = random.Random(66)
+    found = {name.partition(".")[0].upper(): read("tests", "programs", "decks", name).removesuffix("\n").split("\n") for name in DECKS}
+    for number in range(8):
+        reads = [choose.choice(READS).format(f"D{choose.randrange(number)}") for _ in range(choose.randrange(2)) if number]
+        end = choose.choice([[], ["          ENDX"], [" ENDX   OF IT", "          LDN    7", "NEVER"]])
+        head = choose.choice([[], [f"D{number}"], [f"D{number}", "COMMON"], ["COMMON", "          LDN    5"]])
+        found[f"D{number}"] = [*head, *choose.choice(KINDS[1:])(choose, []), *reads, statement(choose), *end]
+    return found
+
+
+def sources_with_decks(count: int = 24) -> Iterator[List[str]]:
+    """Yields the lines of each source that reads common decks."""
+    choose = random.Random(67)
+    yield from (read("tests", "programs", "decks", name).removesuffix("\n").split("\n") for name in ("nos-style.pp", "scope-style.pp"))
+    names = [*decks(), "NONE", "d1", ""]
+    for _ in range(count):
+        lines = choose.choice(KINDS[1:])(choose, [])
+        for _ in range(choose.randrange(1, 4)):
+            lines.insert(choose.randrange(len(lines) + 1), choose.choice(READS).format(choose.choice(names)))
+        yield lines
+
+
 KINDS = (lambda choose, real: changed(choose, choose.choice(real)), statements, lambda choose, real: assembler_lines.source(choose))
 
 

@@ -1,30 +1,43 @@
 """The crate pp_assembler against the assembler and the disassembler in Python.
 
-crates/test_assembler/stdin has sources, each ended by a line `----`: those of the repository, and others made at random. The program
-test_assembler must write crates/test_assembler/stdout for them, which rt ci compares. This module says whether the two files are what
+crates/test_assembler/stdin has sources, each ended by a line `----`: those of the repository, and others made at random; then common decks, and
+sources that may read them. The program test_assembler must write crates/test_assembler/stdout for them, which rt ci compares. This module says whether the two files are what
 the sources and the assembler in Python make now; `python3 -m tests.test_assembler_crate` writes them.
 """
 
 import os
 import re
 import sys
-from typing import Iterator, Sequence
+from typing import Iterator, Optional, Sequence
 
-from .assembler_sources import sources
+from .assembler_sources import decks, sources, sources_with_decks
 from .support import TOP, Case, read
 
 from pp6600.language.source.codes import CODES, MNEMONICS
 from pp6600.language.source.disassembler import Disassembler
-from pp6600.language.source.passes import Program, assembled
+from pp6600.language.source.passes import Program, Texts, assembled
 from pp6600.language.source.writing import listing
 
 FOLDER = os.path.join(TOP, "crates", "test_assembler")
 END = "----\n"
 
 
-def answer(lines: Sequence[str]) -> str:
+def answer(lines: Sequence[str], texts: Optional[Texts] = None) -> str:
     """Returns what the program must write of a source."""
-    return "".join(f"{line}\n" for line in answer_lines(assembled(lines))) + END
+    return "".join(f"{line}\n" for line in answer_lines(assembled(lines, texts))) + END
+
+
+def given() -> Iterator[str]:
+    """Yields the sources and common decks that the program is given."""
+    texts = [*sources(), *([f"++++{name}", *lines] for name, lines in decks().items()), *sources_with_decks()]
+    return ("\n".join(lines) + "\n" + END for lines in texts)
+
+
+def wanted() -> Iterator[str]:
+    """Yields what the program must write of each source."""
+    found = decks()
+    yield from map(answer, sources())
+    yield from (answer(lines, found.get) for lines in sources_with_decks())
 
 
 def answer_lines(program: Program) -> Iterator[str]:
@@ -40,9 +53,8 @@ def answer_lines(program: Program) -> Iterator[str]:
 
 class Crate(Case):
     def test_files_are_not_stale(self):
-        found = list(sources())
-        self.assertEqual("".join("\n".join(lines) + "\n" + END for lines in found), read(FOLDER, "stdin"))
-        self.assertEqual("".join(map(answer, found)), read(FOLDER, "stdout"))
+        self.assertEqual("".join(given()), read(FOLDER, "stdin"))
+        self.assertEqual("".join(wanted()), read(FOLDER, "stdout"))
 
     def test_all_instructions_are_there(self):
         """Each name is in the table of the crate, at its code."""
@@ -52,8 +64,7 @@ class Crate(Case):
 
 
 def main() -> None:
-    found = list(sources())
-    for name, texts in (("stdin", ("\n".join(lines) + "\n" + END for lines in found)), ("stdout", map(answer, found))):
+    for name, texts in (("stdin", given()), ("stdout", wanted())):
         with open(os.path.join(FOLDER, name), "w", encoding="utf-8", newline="\n") as file:
             file.writelines(texts)
 
