@@ -8,8 +8,6 @@ import { keep, kept } from "./kept.js";
 import { NOTE, NO_ROOM } from "./session.js";
 import { Part } from "./store.js";
 
-const AFTER = 300; // milliseconds after which a draft is kept
-
 export class Editor extends Part {
   nameOf(n) { return `draft ${this.state.exercise || "run"} ${n}`; }
   assembled(text) { return { text, ...this.assembling.assembled(text), texts: [...this.assembling.texts.keys()] }; }
@@ -18,8 +16,7 @@ export class Editor extends Part {
     const { editor, drafts } = this.state;
     drafts.set(this.nameOf(editor.n), text);
     this.update({ editor: { ...editor, ...this.assembled(text) } });
-    clearTimeout(this.timer);
-    this.timer = setTimeout(() => this.keepNow(), AFTER);
+    this.keepSoon();
   }
 
   keepNow() {

@@ -12,7 +12,6 @@ import { Part } from "./store.js";
 import { branchNow, joinedTrees, withBranch, withSession } from "./tree.js";
 
 const MOST_WANTED = 0o2000, MOST_BRANCHES = 64; // turns that are recorded where some were skipped; branches that a script begins
-const AFTER = 300; // milliseconds after which what has changed is kept
 export const NOTE = /^\* (EXERCISE|PANEL) /; // with which a session of an exercise begins
 const textOf = (parts) => ofLines(parts.flatMap((part) => (typeof part === "number" ? stepsOf(part) : [part])));
 export const NO_ROOM = "this browser keeps nothing more: save this file";
@@ -259,11 +258,6 @@ export class Session extends Part {
   }
 
   // ---- what is kept
-
-  keepSoon() {
-    clearTimeout(this.timer);
-    this.timer = setTimeout(() => this.keepNow(), AFTER);
-  }
 
   // Keeps the session, unless it is as it was opened: then one in which more was done would no longer be the latest.
   keepNow() {
