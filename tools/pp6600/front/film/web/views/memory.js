@@ -61,12 +61,12 @@ function textOfChosen(state) {
 function chosenBox(state) {
   const { film, chosen, origin } = state;
   if (!chosen) return h("p.chosen.soft", "Click a number, or move with the arrows: who changed it, and when?");
-  return h("p.chosen", { "aria-live": "polite" },
+  return h("p.chosen",
     canSet(chosen) ? h("button", { tabindex: -1, "data-action": "set", title: "another number, or an instruction (e, a double click)" },
       "set") : null,
     hasOrigin(chosen) ? h("button", { tabindex: -1, "data-action": "origin", "aria-expanded": String(Boolean(origin)),
       title: "where it came from (c)" }, "came from") : null,
-    h("b", chosen.name), " is ", h("b", film.text(chosen)), ". ", textOfChosen(state));
+    h("span", { "aria-live": "polite" }, h("b", chosen.name), " is ", h("b", film.text(chosen)), ". ", textOfChosen(state)));
 }
 
 const FORMS = [["numbers", "numbers"], ["instructions", "instructions"], ["text", "instructions and text"]];
