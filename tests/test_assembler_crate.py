@@ -1,8 +1,9 @@
 """The crate pp_assembler against the assembler and the disassembler in Python.
 
-crates/test_assembler/stdin has sources, each ended by a line `----`: those of the repository, and others made at random; then common decks, and
-sources that may read them. The program test_assembler must write crates/test_assembler/stdout for them, which rt ci compares. This module says whether the two files are what
-the sources and the assembler in Python make now; `python3 -m tests.test_assembler_crate` writes them.
+crates/test_assembler/stdin has sources, each ended by a line `----`: those of the repository, and others made at random; then common
+decks, and sources that may read them. The program test_assembler must write crates/test_assembler/stdout for them, which rt ci compares.
+This module says whether the two files are what the sources and the assembler in Python make now; `python3 -m tests.test_assembler_crate`
+writes them.
 """
 
 import os
