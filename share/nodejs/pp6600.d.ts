@@ -109,7 +109,7 @@ export declare function open(options?: Options, module?: Module): Promise<Sessio
 /** Returns the assembler. */
 export declare function assembler(module?: Module): Promise<Assembler>;
 
-/** Returns the version of the module, as "5.2.0". */
+/** Returns the version of the module, as "5.3.0". */
 export declare function version(module?: Module): Promise<string>;
 
 /** A machine with its undo history. A number that a call does not take is a RangeError, and else what fails is a LibraryError; then nothing

@@ -6,7 +6,7 @@ use crate::status::{CLOSED, DONE, LIMIT, NO_MEMORY, NOT_FOUND, OPEN, REFUSED, RO
 use crate::texts::put_text;
 
 /// The version of the library: 1,000,000 times its major number, 1,000 times its minor number, and its patch number (decimal).
-pub const VERSION: u32 = 5_002_000;
+pub const VERSION: u32 = 5_003_000;
 
 /// Returns the version of the library.
 #[unsafe(no_mangle)]
