@@ -6,7 +6,8 @@ import { deviceOf } from "../machine/words.js";
 import { turning } from "../machine/turns.js";
 import { pane } from "./parts.js";
 
-const BOX = { w: 50, h: 50 }, PILL = { w: 106, h: 26 }, LEAST_WIDE = 396, HIGH = 190, LEAST_HIGH = 168, MOST_HIGH = 240, HALF = PROCESSORS / 2;
+const BOX = { w: 50, h: 50 }, PILL = { w: 106, h: 26 }, HALF = PROCESSORS / 2;
+const LEAST_WIDE = 396, HIGH = 190, LEAST_HIGH = 168, MOST_HIGH = 240;
 
 // Five above from left to right, five below back: the direction in which the slot moves.
 function sizes(width, height, count) {
