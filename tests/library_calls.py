@@ -466,12 +466,12 @@ class Sequence:
     def assembler(self, _):
         source, (faults,), (messages,) = self.choose.choice(SOURCES + FAULTY), self.outs(8), self.outs(8)
         given = Memory(source), size(len(source))
-        form, processor = self.choose.choice((0, 1, 2, 3, 4, 5, 2 ** 32 - 1)), self.choose.choice((0, 9, 10, 2 ** 32 - 1))
-        assert self.text("assemble", (*given, ("u32", form)), (faults,)) == (DONE if form <= 4 else REFUSED)
-        assert faults.is_same if form > 4 else (faults.number() > 0) == (source in FAULTY)
+        form, processor = self.choose.choice((*range(8), 2 ** 32 - 1)), self.choose.choice((0, 9, 10, 2 ** 32 - 1))
+        assert self.text("assemble", (*given, ("u32", form)), (faults,)) == (DONE if form <= 6 else REFUSED)
+        assert faults.is_same if form > 6 else (faults.number() > 0) == (source in FAULTY)
         status = self.text("load_lines", (*given, ("u32", processor)), (messages,))
         assert status == (REFUSED if processor > 9 or source in FAULTY else DONE)
-        assert messages.is_same if processor > 9 else form > 4 or messages.number() == faults.number()
+        assert messages.is_same if processor > 9 else form > 6 or messages.number() == faults.number()
 
     def cells(self, _):
         addresses = self.choose.sample(range(0o10000), self.choose.choice((0, 1, 5, 30)))

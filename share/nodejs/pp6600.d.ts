@@ -87,7 +87,7 @@ export interface OriginTurn {
 }
 
 /** What the assembler writes of a source. */
-export declare const FORM: Readonly<Record<"COMPLAINTS" | "WORDS" | "LISTING" | "LINES" | "NAMES", number>>;
+export declare const FORM: Readonly<Record<"COMPLAINTS" | "WORDS" | "LISTING" | "LINES" | "NAMES" | "ROWS" | "UNITS", number>>;
 
 /** A call failed. If an option or a file was rejected, the message is the program's line, and `exit` is the program's exit status. */
 export declare class LibraryError extends Error {

@@ -10,7 +10,7 @@ export const PLACE = Object.freeze({
   CARD_COLUMN: 41042, READER_MODE: 41043, PAPER_LENGTH: 41044, PAPER_COLUMN: 41045, PRINTER_MODE: 41046, PAPER: 41047, SLOT: 106583,
   WATCHES: 106584, CENTRAL: 106592,
 });
-export const FORM = Object.freeze({ COMPLAINTS: 0, WORDS: 1, LISTING: 2, LINES: 3, NAMES: 4 });
+export const FORM = Object.freeze({ COMPLAINTS: 0, WORDS: 1, LISTING: 2, LINES: 3, NAMES: 4, ROWS: 5, UNITS: 6 });
 
 // Loads the module from its bytes, or from an address; else from pp6600.wasm beside this file. One module can have many sessions.
 export async function load(source = new URL("pp6600.wasm", import.meta.url)) {
