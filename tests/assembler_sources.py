@@ -9,7 +9,8 @@ from typing import Dict, Iterator, List, Sequence, Tuple
 from . import assembler_lines
 from .support import TOP, read
 
-from pp6600.language.source.codes import CELLS, MNEMONICS
+from pp6600.language.notation import MNEMONICS
+from pp6600.run.forms import CELLS
 
 LIKELY = (0, 0o100, 0o200, 0o300, 0o376, 0o2400, 0o1077, 0o7777)  # words that are treated in their own way
 PLACES = ("examples/*/*.pp", "exercises/**/*.pp", "tests/programs/**/*.pp", "tests/debug/*.pp")
@@ -76,6 +77,36 @@ def statements(choose: random.Random, real: Sequence[List[str]]) -> List[str]:
 
 
 KINDS = (lambda choose, real: changed(choose, choose.choice(real)), statements, lambda choose, real: assembler_lines.source(choose))
+FROZEN = 3000
+
+
+def program(choose: random.Random) -> List[str]:
+    """Returns a program with statements of all kinds that make or name addresses. Each fits in its place, so nothing is wrong with it."""
+    lines = ["          BASE   OCTAL", " MAC      MACRO  P", "          LOCAL  L", " L        LDN    P", "          ENDM",
+             f"          ORG    {choose.randrange(0o100, 0o6000):o}"]
+    for number in range(choose.randrange(1, 30)):
+        label = choose.choice(("", "", f" A{number}", f"B{number}=", f" C.{number}"))
+        one = choose.choice((
+            "LDN 5", "LDC 123456", "PSN", "BSS 3", "BSS 0", "CON 1,2,3,4,5", "DIS ,*ABC DEF*", "MAC 7", "", "BSSZ 2", "SUBR",
+            "LDN 5           A NOTE", "EQU 777", "EQU 123456", "EQU *-1", "SET 5", "LOC 20", "LOC *O", "UJN *", "VFD 60/1",
+            "DATA H*LDN*,17", "LDM =1234", "DUP 2", "IFEQ 1,2"))
+        if one.split(" ")[0] in ("SUBR", "EQU", "SET"):
+            label = label or f" D{number}"
+        lines.append(f"{label:9} {one}")
+        body = {"DUP 2": ["          PSN", "          ENDD"], "IFEQ 1,2": [" NOT      PSN", "          ENDIF"]}
+        lines += body.get(one, [])
+    return [*lines, "          PSN"]
+
+
+FROZEN_KINDS = (program, lambda choose: changed(choose, program(choose)), assembler_lines.source, lambda choose: statements(choose, []),
+                lambda choose: [["          ORG    100B"], ["          BASE   OCTAL"]][choose.randrange(2)] + [statement(choose)])
+
+
+def made_at_random() -> Iterator[List[str]]:
+    """Yields the lines of the sources whose results are in tests/programs/frozen.txt: they depend on no file."""
+    choose = random.Random(81)
+    for _ in range(FROZEN):
+        yield choose.choice(FROZEN_KINDS)(choose)
 
 
 def sections(name: str) -> Dict[str, List[Tuple[List[str], List[str]]]]:
