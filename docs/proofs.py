@@ -11,8 +11,8 @@ docs/promises.txt has the text of both. A line '### NAME' begins a promise. Belo
 A line 'first: SECTION: NAME; NAME' names promises that matter most. PROOFS.md begins with these sections, each with these promises.
 Then come the sections without promises. INNER.md has all other promises, section by section.
 
-Each mutant, crates/CRATE/must-fail/NAME.edit, has two lines, '# promise: NAME' and '# call: CRATE::TYPE::CALL', or several such
-pairs: a promise that it breaks, and the call of its own crate whose contract rejects it.
+Each mutant, crates/CRATE/must-fail/NAME.edit or must-fail/more/NAME.edit, has two lines, '# promise: NAME' and '# call: CRATE::TYPE::CALL',
+or several such pairs: a promise that it breaks, and the call of its own crate whose contract rejects it. The text that it changes is there.
 
 What is named and is not there is a fault: a call, a clause, a definition, a promise, a section. Faults are printed, and then nothing is
 written. With --check nothing is written either, and it is a fault if a page is not what would be made.
@@ -147,13 +147,28 @@ def ordered(text):
 def mutants():
     """Returns the crate, the name and the pairs of promise and call of each mutant."""
     found = []
-    for path in sorted(glob.glob(os.path.join(TOP, "crates", "*", "must-fail", "*.edit"))):
+    for path in sorted(glob.glob(os.path.join(TOP, "crates", "*", "must-fail", "**", "*.edit"), recursive=True)):
         pairs, promise = [], ""
         for key, value in re.findall(r"^# (promise|call): (.*)", read(path), re.M):
             promise = value if key == "promise" else promise
             pairs += [(promise, value)] if key == "call" else []
-        found.append((path.split(os.sep)[-3], os.path.basename(path)[:-len(".edit")], pairs))
+        found.append((path[len(TOP):].split(os.sep)[2], os.path.basename(path)[:-len(".edit")], pairs))
     return found
+
+
+def faults_of_edits():
+    """Yields each mutant whose text is not there exactly once, as its pairs are applied one after another."""
+    for path in sorted(glob.glob(os.path.join(TOP, "crates", "*", "must-fail", "**", "*.edit"), recursive=True)):
+        texts, name, old = {}, "", ""
+        for key, value in re.findall(r"^(file|old|new):(?: (.*))?$", read(path), re.M):
+            if key == "file":
+                name = os.path.join(path.partition("must-fail")[0], value)
+            elif key == "old":
+                old = value
+            elif texts.setdefault(name, read(name)).count(old) != 1:
+                yield f"{path[len(TOP) + 1:]}: what it changes is {texts[name].count(old)} times in its file: {old}"
+            else:
+                texts[name] = texts[name].replace(old, value)
 
 
 def faults_of_mutants(promises):
@@ -225,7 +240,7 @@ def main():
         return 2
     (pages, faults), known = ordered(read(TEXT)), contracts()
     promises = [promise for parts in pages.values() for _, promise in parts if promise]
-    faults += [*faults_of_names(promises, known), *faults_of_mutants(promises)]
+    faults += [*faults_of_names(promises, known), *faults_of_mutants(promises), *faults_of_edits()]
     for name, parts in pages.items() if not faults else ():
         path, page = os.path.join(TOP, name), page_of(parts, known)
         if not sys.argv[1:]:

@@ -65,7 +65,7 @@ def in_node(name, *words):
     """Runs a module of this folder, joined with those of the page that it imports, in Node. Returns the lines of its output."""
     path = os.path.join(ROOM.name, name)
     with open(path, "w", encoding="utf-8") as file:
-        file.write(joined({"one": os.path.join(TOP, "tests", name)})["one"])
+        file.write(joined(os.path.join(TOP, "tests", name)))
     done = subprocess.run(["node", path, *words], capture_output=True, text=True, check=False)
     if done.stderr or done.returncode:
         raise RuntimeError(done.stderr)
@@ -83,7 +83,7 @@ def text_of(*files):
 
 
 def unpacked(page, part):
-    """Returns the bytes of a part of a page: film or simulator."""
+    """Returns the bytes of a part of a page: film, simulator, engine or view."""
     text = re.search(rf'<script type="text/plain" id="{part}">\n(.*?)\n</script>', page, flags=re.S)[1]
     return zlib.decompress(base64.b64decode(text))
 

@@ -203,7 +203,7 @@ class Sequence:
             return
         done, rest = lines[:taken.number()], lines[taken.number():]
         assert not rest or not done or done.endswith(b"\n")
-        answers = model.answer(done.decode("latin-1"))
+        answers = model.answers(done.decode("latin-1"))
         assert into.new[:count.number()] == "".join(f"{line}\n" for line in answers).encode()
         assert (made.number(), refused.number()) == (len(done.splitlines()) if b"\r" not in done else done.count(b"\n") + (not done.endswith(b"\n")),
                                                      sum(line.startswith("ERR") for line in answers))
@@ -211,7 +211,7 @@ class Sequence:
         left = room - count.number()
         if rest:
             line = rest.split(b"\n")[0]
-            needs = len("".join(f"{one}\n" for one in model.answer(line.decode("latin-1")))) if line.upper().strip().startswith(b"DUMP") else ANY_LINE
+            needs = len("".join(f"{one}\n" for one in model.answers(line.decode("latin-1")))) if line.upper().strip().startswith(b"DUMP") else ANY_LINE
             assert left < needs
 
     def numbers(self, handle):
@@ -234,9 +234,7 @@ class Sequence:
         status = self.native.call("counts", handle, *outs)
         if self.is_closed(handle, status, *outs):
             return
-        model, history = self.models[handle], self.models[handle].machine.history
-        changed = bool(history) and model.console.hit(history[-1], model.console.watches()) is not None
-        assert status == DONE and [out.number() for out in outs] == [*model.counts(), changed]
+        assert status == DONE and [out.number() for out in outs] == list(self.models[handle].counts())
 
     def recording(self, handle, name, most):
         """Makes a call that records actions. Returns the buffers, the status, and how many actions there is room for at most."""
@@ -254,7 +252,7 @@ class Sequence:
         wanted, processors, filled, is_watched = [], [], 0, False
         while len(wanted) < min(most, made_room) and olds_room - filled >= MOST_OLDS and not is_watched:
             processors.append(model.numbers(interface.SLOT, 1)[0])
-            turn = model.turns(1)
+            turn = model.records(1)
             wanted.append(dict(zip(turn.places, turn.numbers)))
             filled, is_watched = filled + self.count_of(made, len(wanted)), turn.is_watched
         assert status == (WATCHED if is_watched else ROOM if len(wanted) < most else DONE)
@@ -356,7 +354,7 @@ class Sequence:
             return
         model, rows, is_watched = self.models[handle], [], False
         while len(rows) < most and (len(rows) + 1) * len(chosen) <= room and not is_watched:
-            is_watched = model.turns(1).is_watched
+            is_watched = model.records(1).is_watched
             rows.append([model.numbers(place, 1)[0] for place in chosen])
         assert status == (WATCHED if is_watched else ROOM if len(rows) < most else DONE)
         assert turns.number() == len(rows) and list(into.words("Q")[:len(rows) * len(chosen)]) == [number for row in rows for number in row]
@@ -393,10 +391,10 @@ class Sequence:
         if not is_one:
             assert status == REFUSED and out.is_same
         elif most:
-            made, found = self.models[handle].search(forms, *most)
+            made, found = self.models[handle].until(forms, *most)
             assert status == (DONE if found else NOT_FOUND) and out.number() == made
         else:
-            undone = self.models[handle].search_back(forms)
+            undone = self.models[handle].back_until(forms)
             assert status == (DONE if undone else NOT_FOUND) and (out.number() == undone if undone else out.is_same)
         self.check_machine(handle)
 

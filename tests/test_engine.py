@@ -23,7 +23,7 @@ def numbers_of(engine):
 def turns_made(engine, most):
     """Makes turns. Returns how many, whether the last one changed a watched number, and the numbers before them, which their records give:
     what turns overwrote is put back from the last turn to the first."""
-    records = engine.turns(most)
+    records = engine.records(most)
     numbers = numbers_of(engine)
     for place, number in reversed(list(zip(records.places, records.numbers))):
         if place in numbers:
@@ -40,7 +40,7 @@ class Calls(Case):
                     ("SET M 3 17 1234", "M", (3, 0o17), 0o1234), ("SET A 11 777776", "A", (9,), 0o777776), ("SET P 2 105", "P", (2,), 0o105),
                     ("SET Q 5 7", "Q", (5,), 7), ("SET C 1000 17", "C", (0o1000,), 0o17), ("SET H 13 F 55", "H", (0o13,), 0o55)):
                 with self.subTest(line, engine=name):
-                    self.assertEqual(["OK"], engine.answer(f"{line}\n"))
+                    self.assertEqual(["OK"], engine.answers(f"{line}\n"))
                     self.assertEqual(wanted, engine.numbers(place_number(kind, numbers), 1)[0])
             self.assertEqual(2, engine.numbers(place_number("S", (0o13,)), 1)[0])
             engine.close()
@@ -49,13 +49,13 @@ class Calls(Case):
         """Turns end at a change of a watched number, and what they overwrote leads back."""
         for name in ENGINES:
             engine = engine_of(name, ["--history", "30"])
-            engine.answer("SET M 0 100 3420 376\nSET P 0 100\nSET A 0 7\nWATCH M 0 20\n")
+            engine.answers("SET M 0 100 3420 376\nSET P 0 100\nSET A 0 7\nWATCH M 0 20\n")
             with self.subTest(engine=name):
                 for wanted in ((1, True), (100, False)):
                     before = numbers_of(engine)
                     self.assertEqual((*wanted, True, before), turns_made(engine, 100))
                 engine.back(7)
-                self.assertEqual((23, 7, 30), engine.counts())
+                self.assertEqual((23, 7, 30), engine.counts()[:3])
             engine.close()
 
     def test_rejections(self):
@@ -67,6 +67,9 @@ class Calls(Case):
                 with self.subTest(words, engine=name), self.assertRaises(Rejection) as caught:
                     engine_of(name, words)
                 self.assertEqual((f"pp6600: {text}", 2), (caught.exception.text, caught.exception.status))
+            with self.subTest("help", engine=name), self.assertRaisesRegex(Rejection, "usage: ") as caught:
+                engine_of(name, ["--help"])
+            self.assertEqual(0, caught.exception.status)
         for name in ("/none.so", "/bin/true", self.file("", "empty.so")):
             self.assertRaises(Failure, engine_of, name, [])
 
@@ -80,8 +83,8 @@ class Alike(Case):
         for seed in range(int(os.environ.get("PP6600_ENGINES", "20"))):
             lines = [f"{line}\n" for line in Maker(seed, (ALL, LOOPS, WATCHED)[seed % 3]).script()]
             engines = [engine_of(name, []) for name in ENGINES]
-            self.check(seed, *([engine.answer(line) for line in lines] for engine in engines))
-            self.check(seed, *(engine_of(name, []).answer("".join(lines)) for name in ENGINES))
+            self.check(seed, *([engine.answers(line) for line in lines] for engine in engines))
+            self.check(seed, *(engine_of(name, []).answers("".join(lines)) for name in ENGINES))
             for number in range(6):
                 self.check((seed, number), *(self.called(engine, random.Random(f"{seed} {number}")) for engine in engines))
 
@@ -92,12 +95,11 @@ class Alike(Case):
     @staticmethod
     def called(engine, choose):
         """Returns what a random call of an engine returns, and what is then there."""
-        most, (kept, ahead, _) = choose.randrange(1, 60), engine.counts()
+        most, (kept, ahead, *_) = choose.randrange(1, 60), engine.counts()
         name = choose.choice(("looks", "turns", "back", "forward"))
         if name == "looks":
             places = choose.sample(NUMBERED, 3)
-            looked, turns = engine.looks(places, most)
-            found = list(looked), turns
+            found = engine.looks(most, places)
         elif name == "turns":
             found = turns_made(engine, most)
         else:

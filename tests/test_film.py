@@ -42,19 +42,19 @@ class Tool(FilmCase):
                 self.assertEqual([wanted], re.findall(r"<title>(.*?)</", made))
 
     def test_one_page(self):
-        """Each module is in the page once, and no mark of the template is left."""
+        """Each module is in the script of the page or of its worker, or in both, once, and no mark of the template is left."""
         made, web = read(self.film(script="STEP\n")), os.path.join(TOP, "tools", "pp6600", "front", "film", "web")
-        made += unpacked(made, "engine").decode("utf-8")
+        scripts = [unpacked(made, part).decode("utf-8") for part in ("view", "engine")]
         for path in glob.glob(os.path.join(web, "*", "*js")):
             name = re.sub(r"\W", "_", os.path.splitext(os.path.relpath(path, web))[0])
-            self.assertEqual(1, made.count(f"const m_{name} = (() => {{"), path)
+            self.assertIn(sorted(script.count(f"const m_{name} = (() => {{") for script in scripts), ([0, 1], [1, 1]), path)
         self.assertEqual([], re.findall(r"<!--\w+-->|/\*--\w+--\*/", made))
 
     def test_scripts_that_may_run(self):
         """The page runs its own two scripts, by their checksums, and none that stands in a text."""
         made = read(self.film(script="STEP\n"))
-        policy, scripts = re.search(r'Content-Security-Policy" content="(.*?)"', made)[1], re.findall(r"<script(?: id=\"shared\")?>(.*?)</script>", made, flags=re.S)
-        sums = [base64.b64encode(hashlib.sha256(script.encode()).digest()).decode() for script in scripts]
+        policy, (first,) = re.search(r'Content-Security-Policy" content="(.*?)"', made)[1], re.findall(r"<script>(.*?)</script>", made, flags=re.S)
+        sums = [base64.b64encode(hashlib.sha256(script).digest()).decode() for script in (first.encode(), unpacked(made, "view"))]
         self.assertEqual(f"default-src 'none'; script-src 'sha256-{sums[0]}' 'sha256-{sums[1]}' 'wasm-unsafe-eval' blob:; worker-src blob:; "
                          "style-src 'unsafe-inline'", policy)
 
@@ -82,7 +82,7 @@ class Tool(FilmCase):
         for name in stored():
             pages = read(shown_film(name)), read(FOLDER, f"{name}.html")
             with self.subTest(name, part="page"):
-                self.assertEqual(*(re.sub(r'(?s)(id="(?:film|simulator|engine)">\n).*?(\n</script>)', r"\1\2", page) for page in pages))
+                self.assertEqual(*(re.sub(r'(?s)(id="(?:film|simulator|engine|view)">\n).*?(\n</script>)', r"\1\2", page) for page in pages))
             with self.subTest(name, part="film"):
                 self.assertEqual(*map(about, pages))
 
@@ -93,7 +93,7 @@ class Joining(Case):
     def joined(self, **texts):
         for name, text in texts.items():
             write(self.path(f"{name}.js"), text)
-        return joined({"one": self.path("a.js")})["one"]
+        return joined(self.path("a.js"))
 
     def test_in_order(self):
         made = self.joined(a='import { B, c } from "./b.js";\nexport const a = B + c();\n', b="export const B = 1, C = 2;\nexport function c() { return C; }\n")

@@ -189,12 +189,13 @@ class BadSurroundings(PageCase):
     def test_damaged(self):
         """A file that is cut short, or has a flipped byte."""
         text = read(self.film(script=COUNTER))
-        at = text.index('id="simulator">') + 2000
-        flipped = text[:at] + ("A" if text[at] != "A" else "B") + text[at + 1:]
-        for name, damaged in (("cut", text[:at] + text[at + 4000:]), ("flipped", flipped)):
-            with self.subTest(name):
-                self.open_in(write(self.path(f"{name}.html"), damaged))
-                self.assert_fault("it is damaged: a part of it is missing")
+        for part in ("simulator", "view"):
+            at = text.index(f'id="{part}">') + 2000
+            flipped = text[:at] + ("A" if text[at] != "A" else "B") + text[at + 1:]
+            for name, damaged in (("cut", text[:at] + text[at + 4000:]), ("flipped", flipped)):
+                with self.subTest(name, part=part):
+                    self.open_in(write(self.path(f"{name}-{part}.html"), damaged))
+                    self.assert_fault("it is damaged: a part of it is missing")
 
     def test_no_workers(self):
         self.open_in(self.film(script=COUNTER), "Object.defineProperty(window, 'Worker', { value: undefined })")
@@ -256,8 +257,8 @@ class Solve(PageCase):
         self.browser.open(path)
         solved = self.js(f"""editor.edit({json.dumps(self.SOURCE)}); await editor.load(); await exercises.check(); const at = store.state.checked;
           moves.moveTo(0); await exercises.check(); const before = store.state.checked;
-          return [at.wrong.length, at.turn, before.wrong.length > 0, store.state.solved]""")
-        self.assertEqual([0, 0, True, {"first-program": True}], solved)
+          return [at.wrong.length, at.turn, before.wrong[0], store.state.solved]""")
+        self.assertEqual([0, 0, {"wanted": "0022 5555", "found": "0022 0000"}, {"first-program": True}], solved)
         there = self.js("""moves.moveTo(store.state.film.last); await session.type(['STEP 100']); await exercises.goTo("exchange"); await session.type(["STEP 5"]);
           const other = [store.state.exercise, turn(), store.state.editor.text.includes("LDD")]; await exercises.goTo("first-program");
           return [other, store.state.exercise, turn(), store.state.editor.text.includes("LDD"), store.state.sources.get(0).name,

@@ -196,7 +196,7 @@ class Searches(Case):
 
     @staticmethod
     def accepted(line):
-        return not engine_of("plain", []).answer(f"{line}\n")[0].startswith("ERR")
+        return not engine_of("plain", []).answers(f"{line}\n")[0].startswith("ERR")
 
     @staticmethod
     def found(lines, forms):
@@ -205,11 +205,11 @@ class Searches(Case):
         for line in lines:
             kind, count = [*line.split(), "1"][:2]
             count = int(count, 8) if kind == "STEP" else 1
-            made, is_found = engine.search(forms, count) if kind == "STEP" and first is None else (0, False)
+            made, is_found = engine.until(forms, count) if kind == "STEP" and first is None else (0, False)
             if is_found:
                 first = at + made
             if kind != "STEP" or made < count:
-                engine.answer(f"{line}\n" if kind != "STEP" else f"STEP {count - made:o}\n")
+                engine.answers(f"{line}\n" if kind != "STEP" else f"STEP {count - made:o}\n")
             at += count
-        undone = engine.search_back(forms)
+        undone = engine.back_until(forms)
         return [first, at - undone if undone else None]

@@ -19,12 +19,12 @@ from tests.support import PATIENCE, PROVED, TOP, Case, blocks, program, read
 from pp6600.engine import library
 from pp6600.engine.assembler import Assembler
 from pp6600.engine.interface import Form
-from pp6600.engine.library import LibraryEngine, LibrarySession, Refused
+from pp6600.engine.library import LibrarySession, Refused
 from pp6600.failure import Failure
 
 CRATE = os.path.join(TOP, "crates", "pp_library")
 PLACES = 106592 + 32768  # of a machine with the smallest central memory
-SEQUENCES = 120
+SEQUENCES = 80
 STACKS = 32 << 10, 144 << 10, 16 << 10  # bytes of the assembler's calls, of a search and of another, as the header says
 # Opens sessions with little memory until there is none, and compares the others before and after.
 LITTLE_MEMORY = """
@@ -61,7 +61,7 @@ class Machines(LibraryCase):
 
     def test_what_actions_overwrote(self):
         """Put back, that of the last one first, it gives the machine as it was, and so does undoing; performed again they do the same."""
-        for seed in range(60):
+        for seed in range(40):
             session = self.open(history=500, central=32768)
             session.answer("\n".join(Maker(seed, (BUSY, WATCHING)[seed % 2]).script()).encode())
             session.answer(b"DEADSTART\n" * (seed % 3 == 0))
@@ -191,15 +191,14 @@ class WrongHands(LibraryCase):
         self.assertEqual((session.counts(), session.numbers(0, PLACES)), before)
 
     def test_a_list_of_places_that_is_changed(self):
-        """The engine looks at what is in the list now."""
-        engine, places = LibraryEngine(PROVED, []), [40960]
-        self.addCleanup(engine.close)
-        engine.perform(b"SET A 0 5\nSET A 1 6\n")
-        self.assertEqual(([5], 1), (list(engine.looks(places, 1)[0]), 1))
+        """The session looks at what is in the list now."""
+        session, places = self.open(), [40960]
+        session.perform(b"SET A 0 5\nSET A 1 6\n")
+        self.assertEqual(([[5]], False), session.looks(1, places))
         places[0] = 40961
-        self.assertEqual([6], list(engine.looks(places, 1)[0]))
+        self.assertEqual([[6]], session.looks(1, places)[0])
         places.append(40960)
-        self.assertEqual([6, 5], list(engine.looks(places, 1)[0]))
+        self.assertEqual([[6, 5]], session.looks(1, places)[0])
 
     def test_a_line_that_is_too_long(self):
         """The call takes none of it, each time; the classes say so."""
@@ -261,7 +260,7 @@ class RandomCalls(LibraryCase):
     def test_slips_are_seen(self):
         for name in library_calls.SLIPS:
             with self.subTest(name), self.assertRaises(AssertionError):
-                for seed in range(60):
+                for seed in range(40):
                     library_calls.trace_of(seed, library_calls.slipping(name))
 
 

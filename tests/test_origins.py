@@ -14,7 +14,7 @@ from tests.support import Case, program, write
 from pp6600.engine import origins as of
 from pp6600.engine.choose import library_named
 from pp6600.engine.interface import Rejection
-from pp6600.engine.library import LibraryEngine
+from pp6600.engine.library import session_of
 from pp6600.engine.plain import places
 from pp6600.engine.plain_origins import next_turn
 from pp6600.engine.plain_engine import PlainEngine
@@ -86,7 +86,7 @@ class Explained(Case):
         """Returns both engines with these options, or that in Python alone if there is no library for this machine; none if they are refused."""
         path = library_named(program())
         try:
-            return [PlainEngine(words), *([LibraryEngine(path, words)] if path else [])]
+            return [PlainEngine(words), *([session_of(path, words)] if path else [])]
         except Rejection:
             return []
 
@@ -113,7 +113,7 @@ class Explained(Case):
             engines = self.engines(words)
             for engine in engines:
                 for line in lines:
-                    engine.answer(line + "\n")
+                    engine.answers(line + "\n")
             for _ in range(TURNS if engines else 0):
                 self.check_turn(engines, seed)
             for engine in engines:

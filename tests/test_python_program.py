@@ -154,6 +154,14 @@ class Compared(Case):
                 self.assertEqual(3, process.wait(PATIENCE))
             self.assertEqual((b"", b"pp6600: LINE LIMIT\n"), (process.stdout.read(), process.stderr.read()))
 
+    def test_byte_limit(self):
+        """A long line leaves three bytes of the 268,435,456: a line that they end is performed, and one that they do not end is not."""
+        for rest, answers, status in ((b"XYZ", b"ERR 01 NOT A COMMAND\n", 1), (b"X\nYZ", b"ERR 01 NOT A COMMAND\n", 3), (b"WXYZ", b"", 3)):
+            with self.subTest(rest):
+                done = subprocess.run([program()], input=b"*" * ((1 << 28) - 4) + b"\n" + rest, capture_output=True, timeout=PATIENCE, check=False)
+                wanted = b"ERR 05 LINE TOO LONG\n" + answers, b"pp6600: LINE LIMIT\n" * (status == 3), status
+                self.assertEqual(wanted, (done.stdout, done.stderr, done.returncode))
+
     def test_lines_without_end(self):
         """A byte too many, and a line of a million bytes."""
         for size in (255, 256, 4095, 4096, 65535, 65536, 1000000):

@@ -180,7 +180,7 @@ class RandomSessions(Case):
     def test_words(self):
         """Words of the command line, right and wrong, of which all but a few end the program at once."""
         files = {'deck': b'1', 'panel': b'1 2 3 4 5 6 7 10 11 12 13 14'}
-        for number in range(1000):
+        for number in range(500):
             self.compare(f'words {number}', Session(word_line(number), files, [b'STEP']))
 
     @unittest.skipIf('PP6600_RANDOM' in os.environ, 'only random sessions are asked for')

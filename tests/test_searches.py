@@ -50,8 +50,8 @@ def samples_of(text):
     found = []
     for turns in range(1, SAMPLES + 1):
         engine = engine_of("plain", [])
-        engine.answer(text)
-        engine.looks([flat.SLOT], 40 * turns)
+        engine.answers(text)
+        engine.looks(40 * turns, [flat.SLOT])
         found.append(lambda place, engine=engine: engine.numbers(place, 1)[0])
     return found
 
@@ -66,7 +66,7 @@ class Searches(Case):
             condition = condition_of(choose, samples_of(text))
             engines = [engine_of(name, []) for name in ("plain", PROVED)]
             for engine in engines:
-                engine.answer(text)
+                engine.answers(text)
             with self.subTest(seed=seed, condition=condition):
                 found += self.searched(engines, condition)
             for engine in engines:
@@ -77,12 +77,12 @@ class Searches(Case):
         """Searches on, and then back. Returns how often the condition was found."""
         found = 0
         for _ in range(SEARCHES):
-            results = [engine.search(condition, MOST) for engine in engines]
+            results = [engine.until(condition, MOST) for engine in engines]
             self.same(engines, *results)
             found += results[0][1]
         undone = 1
         while undone:
-            results = [engine.search_back(condition) for engine in engines]
+            results = [engine.back_until(condition) for engine in engines]
             self.same(engines, *results)
             undone = results[0]
             found += bool(undone)
@@ -96,12 +96,12 @@ class Searches(Case):
     def test_refused(self):
         """A condition that is none changes nothing."""
         engine = engine_of(PROVED, [])
-        engine.answer("SET M 0 100 3410 376\nSET P 0 100\nSTEP 30\n")
+        engine.answers("SET M 0 100 3410 376\nSET P 0 100\nSTEP 30\n")
         before = engine.counts(), engine.numbers(flat.P, 10)
         for condition in ([Form(INSIDE, 1 << 30)], [Form(7)], [Form(CHANGES, flat.CENTRAL, 1 << 40)], [Form(PERFORMS, 10, 0o100)],
                           [Form(PERFORMS, 0, 0o10000)], [Form(WAITS, 10)], [Form(INSIDE, flat.P)] * 9):
             with self.subTest(condition):
-                self.assertRaises(Failure, engine.search, condition, 10)
-                self.assertRaises(Failure, engine.search_back, condition)
+                self.assertRaises(Failure, engine.until, condition, 10)
+                self.assertRaises(Failure, engine.back_until, condition)
                 self.assertEqual(before, (engine.counts(), engine.numbers(flat.P, 10)))
         engine.close()

@@ -17,7 +17,7 @@ import shutil
 
 from tests.fixtures import PAGES, sessions
 from tests.support import EXAMPLES, TOP, Case, add_tests, blocks, program, quick_path, read, run, write
-from tests.transcripts import TranscriptCase, transcripts
+from tests.transcripts import Shell, TranscriptCase, transcripts
 
 from pp6600 import Console
 
@@ -31,7 +31,7 @@ def shell_blocks():
         files = {block.words[1]: block.text for kind in ("python", "compass") for block in blocks(page, kind) if len(block.words) == 2}
         for some in filter(None, [*([block] for block in blocks(page, "shell")), blocks(page, "tools")]):
             lines = "".join(block.text for block in some).splitlines(keepends=True)
-            commands = "".join(line[2:] for line in lines if line.startswith("$ "))
+            commands = [line[2:-1] for line in lines if line.startswith("$ ")]
             found.append((some[0].place, (commands, "".join(line for line in lines if not line.startswith("$ ")), files)))
     return found
 
@@ -59,11 +59,12 @@ class Commands(Case):
         os.symlink(program(), self.path("pp6600"))
         for name in ("examples", "exercises", "tools"):
             os.symlink(os.path.join(TOP, name), self.path(name))
-        there = os.listdir(self.folder)
+        there = ["bin", *os.listdir(self.folder)]  # and what the shell has
         for name, text in files.items():
             write(self.path(name), text)
-        done = run("bash", "-c", f"exec 2>&1\n{commands}", cwd=self.folder, env={"PATH": quick_path()})
-        self.assertEqual(wanted, done.out)
+        shell = Shell(self.folder, quick_path())
+        self.addCleanup(shell.end)
+        self.assertEqual(wanted, "".join(map(shell.perform, commands)))
         ignored = [pattern.strip("/") for pattern in read(".gitignore").splitlines()]
         self.assertEqual([], [name for name in os.listdir(self.folder) if name not in (*there, *ignored)])
 

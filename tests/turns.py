@@ -29,7 +29,7 @@ class Recording:
         run.goto(first)
         parts = []
         while run.position < last:
-            parts.append(run.engine.turns(min(last - run.position, AT_ONCE)))
+            parts.append(run.engine.records(min(last - run.position, AT_ONCE)))
             run.history.performed(len(parts[-1].counts))
         self.slot, self.parts = run.tape.slot(first), parts
         self.olds = b"".join(part.olds for part in parts)

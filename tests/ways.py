@@ -7,7 +7,7 @@ import sys
 import tempfile
 
 from tests.cases import part
-from tests.support import PATIENCE, TOP, Case, program, write
+from tests.support import PATIENCE, TOP, Case, program, write, writer
 
 
 def outcome(case, *command, **how):
@@ -79,15 +79,20 @@ class Ways:
             out, err = process.communicate(timeout=PATIENCE)
         return out, err, process.returncode
 
-    def line_by_line(self):
-        """With a program at the other end that reads the answer to each line before it writes the next."""
+    def line_by_line(self, name=""):
+        """With a program at the other end, of standard input or of a named pipe, that reads the answer to each line before it writes the next."""
         seen = b""
+        if name:
+            os.mkfifo(os.path.join(self.folder, name))
         with self.started() as process:
+            typed = open(writer(os.path.join(self.folder, name)), "wb", buffering=0) if name else process.stdin
             for line, answer in zip(self.script.splitlines(keepends=True), self.case.out.splitlines(keepends=True)):
-                process.stdin.write(line)
+                typed.write(line)
                 seen += (read_now := process.stdout.readline())
                 if read_now != answer:
                     break
+            if name:
+                typed.close()
             out, err = process.communicate(timeout=PATIENCE)
         return seen + out, err, process.returncode
 

@@ -1,6 +1,6 @@
 // The proved simulator of the CDC 6600's peripheral processors, for Node, Deno and pages: `open` begins a session. pp6600.d.ts has each call.
 // Numbers of the machine are BigInt; others are plain numbers, so write 0o106 for an octal one.
-import { Assembler, FORM as CONDITION, LibraryError, LibrarySession, STATUS, openLibrary } from "./library.mjs";
+import { Assembler, FORM as CONDITION, LINK_BYTES, LibraryError, LibrarySession, MADE_BYTES, STATUS, openLibrary } from "./library.mjs";
 
 export { Assembler, CONDITION, LibraryError, STATUS };
 
@@ -11,6 +11,7 @@ export const PLACE = Object.freeze({
   WATCHES: 106584, CENTRAL: 106592,
 });
 export const FORM = Object.freeze({ COMPLAINTS: 0, WORDS: 1, LISTING: 2, LINES: 3, NAMES: 4, ROWS: 5, UNITS: 6 });
+const MOST_LINKS = 33, MOST_CONTROL = 7; // of the next turn
 
 // Loads the module from its bytes, or from an address; else from pp6600.wasm beside this file. One module can have many sessions.
 export async function load(source = new URL("pp6600.wasm", import.meta.url)) {
@@ -50,6 +51,19 @@ function placesOf(places) {
   return Uint32Array.from(places);
 }
 
+// Returns turns that a call wrote, each with its links. The source of a link is undefined if a number is read nowhere.
+function turnsIn(made, links) {
+  let next = 0;
+  const link = () => {
+    const [place, , source, isNone, how] = links.subarray(next, next += LINK_BYTES / 4);
+    return { place, source: isNone ? undefined : source, operation: how & 0xff, field: (how >> 8) & 0xff, further: how >>> 16 };
+  };
+  return Array.from({ length: 2 * made.length / MADE_BYTES }, (_, turn) => {
+    const [processor, address, word, kind, count, own, low, high] = made.subarray(MADE_BYTES / 2 * turn);
+    return { processor, address, word, kind, links: Array.from({ length: count }, link), own, olds: low + 0x10000 * high };
+  });
+}
+
 // A session, with turns one by one.
 export class Session extends LibrarySession {
   // Makes turns, up to the first that changes a watched number, or by "again" performs actions that were undone. Returns each: its
@@ -62,6 +76,23 @@ export class Session extends LibrarySession {
       found.push({ processor: made[turn], olds: overwritten });
     }
     return found;
+  }
+
+  // Makes turns as `turns` does. Returns the status; for each turn its processor, the address and the word of its instruction, its kind, its
+  // links, of which the first `own` are its processor's, and how many old numbers it has; and these.
+  origins(...how) {
+    const { status, made, links, olds } = this.recorded(...how);
+    return { status, made: turnsIn(made, links), olds };
+  }
+
+  // Returns what the next turn is, with the links of its processor alone, and the control places. No turn is made.
+  nextOrigins() {
+    const made = this.room("made", MADE_BYTES), links = this.room("links", LINK_BYTES * MOST_LINKS), control = this.room("control", 8 * MOST_CONTROL);
+    const outs = this.outs(2);
+    this.call("next_origins", made, links, BigInt(MOST_LINKS), outs[0], control, BigInt(MOST_CONTROL), outs[1]);
+    const [linked, count] = this.results(2), words = this.view(Uint32Array, links, LINK_BYTES / 4 * linked);
+    const [turn] = turnsIn(this.view(Uint16Array, made, MADE_BYTES / 2), words);
+    return { ...turn, control: [...this.view(BigUint64Array, control, count)].map(Number) };
   }
 
   // Makes turns in the same way, and returns the numbers at 1 to 16 places after each.

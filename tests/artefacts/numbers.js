@@ -9,7 +9,7 @@ import(require("url").pathToFileURL(process.argv[2])).then(async ({ Assembler, L
     open: (at, number) => new LibrarySession(calls, { [["history", "central", "reader", "printer"][at]]: number }),
     numbers: (_, number) => session.numbers(number, 1),
     turns: (_, number) => session.turns(number),
-    origins: (_, number) => session.origins(number),
+    origins: (_, number) => session.recorded(number),
     again: (_, number) => session.turns(number, 10, 100, "again"),
     until: (_, number) => session.until([], number),
     form: (at, number) => session.backUntil([{ kind: 0, [["kind", "place", "first", "last"][at]]: number }]),

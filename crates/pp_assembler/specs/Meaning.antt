@@ -1,5 +1,5 @@
 -- The words of a program are those of its statements.
-use Rattle.std.specs.Prelude.{◌≡◌, ℕ, Bool, true, List, [], Option, Some, None, IfSome, slice_get}
+use Rattle.std.specs.Prelude.{◌≡◌, ℕ, true, List, [], Option, Some, None, IfSome, slice_get}
 use Rattle.std.specs.List.{AllByRecursion, AllZip}
 use Rattle.pp_notation.specs.Columns.{between}
 use Rattle.pp_notation.specs.declared.program.Program.{Program}
@@ -10,11 +10,11 @@ use Rattle.pp_meaning.specs.Names.{AreNames}
 use Rattle.pp_meaning.specs.declared.expressions.Symbol.{Symbol}
 use Rattle.pp_meaning.specs.declared.statements.Image.{Image}
 use Rattle.pp_meaning.specs.declared.statements.Statement.{Statement}
-use Rattle.pp_assembler.specs.declared.lines.Line.{Line}
-use Rattle.pp_assembler.specs.declared.lines.Lines.{Lines}
+use Rattle.pp_source.specs.declared.lines.Line.{Line}
+use Rattle.pp_source.specs.declared.lines.Lines.{Lines}
 use Rattle.pp_assembler.specs.declared.meaning.Found.{Found}
 use Rattle.pp_assembler.specs.declared.meaning.Found.TheVariants.{Words}
-use Rattle.pp_assembler.specs.declared.pass.Row.{Row}
+use Rattle.pp_statements.specs.declared.scope.Row.{Row}
 use Rattle.pp_assembler.specs.declared.program.Assembly.{Assembly}
 use Rattle.pp_assembler.specs.declared.program.Performed.{Performed}
 

@@ -1,71 +1,13 @@
 //! Statements that other lines belong to: IF and SKIP, DUP and ECHO, MACRO, RMT. The lines end with ENDIF, ENDD, ENDM or RMT, or are
 //! counted.
-use crate::conditions::{Order, texts_of};
-use crate::fields::Statement;
-use crate::lines::{Lines, Span};
-use crate::message::{Argument, Fault, Field, Outcome, Stop};
-use crate::operations::{Operation, operation_of};
-use crate::pass::{Here, Pass};
+use crate::conditions::texts_of;
+use crate::pass::Pass;
 use crate::running::Job;
-use crate::values::Base;
-use crate::vocabulary::Remote;
-
-/// What begins a block.
-#[derive(Clone, Copy)]
-pub enum Opening {
-    /// IF.
-    Attribute,
-    /// IFC.
-    Texts,
-    Numbers(Order),
-    /// IFMI, or IFPL.
-    Sign { is_minus: bool },
-    /// A condition that holds always or never.
-    Fixed(bool),
-    Repeat,
-    Echo,
-    /// MACROE has the names of its operands before them in a call.
-    Macro { has_names: bool },
-    Remote,
-}
-
-impl Opening {
-    pub fn is_condition(self) -> bool {
-        matches!(self.end(), "ENDIF")
-    }
-
-    /// Returns the operation that ends the block.
-    pub fn end(self) -> &'static str {
-        match self {
-            Opening::Repeat | Opening::Echo => "ENDD",
-            Opening::Macro { .. } => "ENDM",
-            Opening::Remote => "RMT",
-            _ => "ENDIF",
-        }
-    }
-
-    /// Returns how many operands are before the count of lines, if there may be one.
-    pub fn operands(self) -> Option<usize> {
-        match self {
-            Opening::Attribute | Opening::Numbers(_) => Some(2),
-            Opening::Sign { .. } | Opening::Repeat => Some(1),
-            Opening::Fixed(_) => Some(0),
-            _ => None,
-        }
-    }
-
-    /// Returns the operand that counts the lines, or an empty one: the first one of ECHO, else the last one after the others.
-    fn count_in(self, operands: &[Field]) -> Field {
-        let count = match self {
-            Opening::Echo => operands.first(),
-            _ => match self.operands() {
-                Some(before) if operands.len() > before => operands.last(),
-                _ => None,
-            },
-        };
-        count.copied().unwrap_or(Field::none())
-    }
-}
+use pp_source::{
+    Argument, Fault, Field, Here, Lines, Opening, Operation, Outcome, Remote, Span, Statement,
+    Stop, operation_of,
+};
+use pp_statements::Base;
 
 /// The lines of a statement: those up to ELSE, those after it, and the line that ends them, if it is one of its own.
 #[derive(Clone, Copy)]
@@ -109,7 +51,7 @@ impl Pass {
     /// Returns the lines that belong to a statement, of the lines after it.
     fn block_of(&mut self, lines: &Lines, statement: Statement, kind: Opening) -> Outcome<Block> {
         let here = Here::new(lines, self.at);
-        self.plain_row(&here, false)?;
+        self.scope.plain_row(&here, false)?;
         let rest = Span::new(self.present.next, self.present.all.end);
         let name = statement.operation;
         let count = self.count_of(&here, statement, kind)?;
@@ -128,16 +70,16 @@ impl Pass {
                 .part(name)
                 .count(count),
         };
-        self.report(&here, name.first, fault)?;
+        self.scope.report(&here, name.first, fault)?;
         Ok(Block::new(rest, false))
     }
 
     /// Returns the operands of a statement.
     fn operands(&self, here: &Here, statement: Statement) -> Outcome<Vec<Field>> {
         if statement.operand.is_empty() {
-            return Ok(Vec::new(self.alloc));
+            return Ok(Vec::new(self.scope.alloc));
         }
-        self.items(here, statement, false)
+        self.scope.items(here, statement, false)
     }
 
     /// Returns how many lines a statement says that it has; 0 if their end is a line of its own.
@@ -146,7 +88,7 @@ impl Pass {
             let texts = texts_of(here, statement.operand);
             let count = texts.and_then(|texts| self.lines_count(here, texts.count));
             if let Err(stop) = count {
-                self.report_stop(here, stop)?;
+                self.scope.report_stop(here, stop)?;
             }
             return Ok(count.unwrap_or(0));
         }
@@ -166,10 +108,10 @@ impl Pass {
         if operand.is_empty() {
             return Ok(0);
         }
-        let base = self.base;
-        self.base = Some(Base::Decimal);
-        let count = self.count(here, operand, 0);
-        self.base = base;
+        let base = self.scope.base;
+        self.scope.base = Some(Base::Decimal);
+        let count = self.scope.count(here, operand, 0);
+        self.scope.base = base;
         Ok(usize::try_from(count?).unwrap_or(0))
     }
 
@@ -186,7 +128,7 @@ impl Pass {
         for index in rest.first..rest.end {
             if matches!(lines.part_of(index, Field::new(0, 1)), b"*") {
                 let fault = "warning: the notes among counted lines are not counted";
-                self.warn(here, name.first, Fault::new(fault))?;
+                self.scope.warn(here, name.first, Fault::new(fault))?;
                 continue;
             }
             left = left.saturating_sub(1);
@@ -293,35 +235,58 @@ impl Pass {
         self.jobs.push(Job::Show(block.end))?;
         let is_first = holds?;
         match kind {
-            Opening::Macro { has_names } => {
-                if !block.is_closed {
-                    self.pass_over(lines, block.first)?;
-                }
-                self.define_macro(&here, statement, has_names, block.first)?;
-                self.show(lines, block.first)
-            }
-            Opening::Remote => {
-                self.show(lines, block.first)?;
-                let name = self.vocabulary.keep(statement.location.of(here.text))?;
-                let lines = block.first;
-                Ok(self.vocabulary.remote.push(Remote { name, lines })?)
-            }
+            Opening::Macro { has_names } => { self.keep_macro(lines, statement, has_names, block) }
+            Opening::Remote => self.keep_remote(lines, statement, block.first),
             _ if !block.is_closed => self.push_run(block.first, 1, 0),
-            Opening::Repeat => {
-                let operands = self.operands(&here, statement)?;
-                let operand = operands.first().copied().unwrap_or(statement.operand);
-                let times = self.count(&here, operand, 0)?;
-                self.push_run(block.first, times, 0)
-            }
+            Opening::Repeat => self.repeat(&here, statement, block.first),
             Opening::Echo => Ok(()),
-            _ if is_first => {
-                self.jobs.push(Job::Show(block.second))?;
-                self.push_run(block.first, 1, 0)
-            }
-            _ => {
-                self.show(lines, block.first)?;
-                self.push_run(block.second, 1, 0)
-            }
+            _ => self.choose(lines, block, is_first),
         }
+    }
+
+    /// Keeps the lines of a macro.
+    fn keep_macro(
+        &mut self,
+        lines: &Lines,
+        statement: Statement,
+        has_names: bool,
+        block: Block,
+    ) -> Outcome {
+        if !block.is_closed {
+            self.pass_over(lines, block.first)?;
+        }
+        self.define_macro(
+            &Here::new(lines, self.at),
+            statement,
+            has_names,
+            block.first,
+        )?;
+        self.show(lines, block.first)
+    }
+
+    /// Keeps the lines of RMT.
+    fn keep_remote(&mut self, lines: &Lines, statement: Statement, body: Span) -> Outcome {
+        let here = Here::new(lines, self.at);
+        self.show(lines, body)?;
+        let name = self.vocabulary.keep(statement.location.of(here.text))?;
+        Ok(self.vocabulary.remote.push(Remote { name, lines: body })?)
+    }
+
+    /// DUP performs lines so many times.
+    fn repeat(&mut self, here: &Here, statement: Statement, body: Span) -> Outcome {
+        let operands = self.operands(here, statement)?;
+        let operand = operands.first().copied().unwrap_or(statement.operand);
+        let times = self.scope.count(here, operand, 0)?;
+        self.push_run(body, times, 0)
+    }
+
+    /// Performs the lines up to ELSE, or those after it.
+    fn choose(&mut self, lines: &Lines, block: Block, is_first: bool) -> Outcome {
+        if is_first {
+            self.jobs.push(Job::Show(block.second))?;
+            return self.push_run(block.first, 1, 0);
+        }
+        self.show(lines, block.first)?;
+        self.push_run(block.second, 1, 0)
     }
 }

@@ -1,51 +1,14 @@
 //! The conditions of IF and the operations like it.
-use crate::blocks::Opening;
-use crate::fields::{Statement, first_parts};
-use crate::message::{Fault, Field, Outcome, Stop};
-use crate::operations::{Operation, operation_of};
-use crate::pass::{Here, Pass};
-use crate::texts::{after_blanks, code_of, end_of_word};
+use crate::pass::Pass;
+use pp_source::{
+    Fault, Field, Here, Opening, Operation, Order, Outcome, Statement, Stop, after_blanks, code_of,
+    end_of_word, first_parts, operation_of,
+};
 
 const TEXTS_WANTED: &str = "IFC wants EQ, NE, GT, GE, LT or LE, a comma and *one text*other text*";
 
 const ATTRIBUTE_WANTED: &str =
     "IF wants DEF, SET, MIC, ABS, REL, EXT, COM, LCM, REG, SST or one of these after a minus, and a symbol";
-
-/// How two numbers or texts are compared.
-#[derive(Clone, Copy)]
-pub enum Order {
-    Equal,
-    NotEqual,
-    Greater,
-    NotLess,
-    Less,
-    NotGreater,
-}
-
-impl Order {
-    fn of(name: &[u8]) -> Option<Order> {
-        match name {
-            b"EQ" => Some(Order::Equal),
-            b"NE" => Some(Order::NotEqual),
-            b"GT" => Some(Order::Greater),
-            b"GE" => Some(Order::NotLess),
-            b"LT" => Some(Order::Less),
-            b"LE" => Some(Order::NotGreater),
-            _ => None,
-        }
-    }
-
-    pub fn holds(self, one: i64, other: i64) -> bool {
-        match self {
-            Order::Equal => one == other,
-            Order::NotEqual => one != other,
-            Order::Greater => one > other,
-            Order::NotLess => one >= other,
-            Order::Less => one < other,
-            Order::NotGreater => one <= other,
-        }
-    }
-}
 
 /// The operand of IFC: the condition, which a minus turns round, its two texts, and the count of lines.
 #[derive(Clone, Copy)]
@@ -128,10 +91,12 @@ impl Pass {
             return Err(Stop::of(fault, statement.operation));
         }
         match opening {
-            Opening::Sign { is_minus } => Ok((self.number(here, first, true)? < 0) == is_minus),
+            Opening::Sign { is_minus } => Ok(
+                (self.scope.number(here, first, true)? < 0) == is_minus,
+            ),
             Opening::Numbers(order) => {
-                let one = self.number(here, first, true)?;
-                Ok(order.holds(one, self.number(here, second, true)?))
+                let one = self.scope.number(here, first, true)?;
+                Ok(order.holds(one, self.scope.number(here, second, true)?))
             }
             _ => self.has_attribute(here, first, second),
         }
@@ -143,8 +108,12 @@ impl Pass {
         let word = attribute.of(here.text);
         let first = word.iter().position(|symbol| *symbol != b'-');
         let has = match word.get(first.unwrap_or(0)..).unwrap_or(b"") {
-            b"DEF" => self.symbols.seen(name).is_some(),
-            b"SET" => self.symbols.seen(name).is_some_and(|seen| seen.is_set),
+            b"DEF" => self.scope.symbols.seen(name).is_some(),
+            b"SET" => self
+                .scope
+                .symbols
+                .seen(name)
+                .is_some_and(|seen| seen.is_set),
             b"MIC" => self.vocabulary.micro_of(name).is_some(),
             b"ABS" => true,
             b"REL" | b"EXT" | b"COM" | b"LCM" | b"REG" | b"SST" => false,

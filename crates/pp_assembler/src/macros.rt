@@ -1,12 +1,10 @@
 //! Macros: their definitions, and the lines that their calls make. ECHO makes lines likewise.
-use crate::fields::{Statement, length_without_blanks};
-use crate::lines::{Call, Line, Lines, Span};
-use crate::message::{Argument, Fault, Field, Outcome, Stop};
-use crate::pass::{Here, Pass, too_many_statements};
-use crate::symbols::end_of_name;
-use crate::texts::{find, is_alphanumeric};
-use crate::vocabulary::{Macro, Meaning, Vocabulary};
-use pp_notation::put_octal;
+use crate::pass::Pass;
+use pp_source::{
+    Argument, Call, Fault, Field, Here, Line, Lines, Macro, Meaning, Outcome, Span, Statement,
+    Stop, cut, end_of_name, length_without_blanks, split,
+};
+use pp_statements::too_many_statements;
 use std::alloc::{AllocError, Global};
 
 /// How many symbols a line has that a macro makes.
@@ -62,25 +60,6 @@ fn operands_of(alloc: Global, line: &[u8], operand: Field) -> Result<Vec<Operand
     Ok(operands)
 }
 
-/// Returns the part of a text before a symbol, and the part after it, if it has the symbol.
-pub fn cut(text: &[u8], symbol: u8) -> (&[u8], Option<&[u8]>) {
-    match find(text, 0, symbol) {
-        Some(at) => (
-            text.get(..at).unwrap_or(text),
-            text.get(at.saturating_add(1)..),
-        ),
-        None => (text, None),
-    }
-}
-
-/// Returns the first item of a list that is kept, and the others, if there are some.
-fn split(kept: &[u8], list: Span) -> (Span, Option<Span>) {
-    let (item, others) = cut(list.of(kept), b',');
-    let end = list.first.saturating_add(item.len());
-    let others = others.map(|_| Span::new(end.saturating_add(1), list.end));
-    (Span::new(list.first, end), others)
-}
-
 /// Lines of a macro that are still to be made with the first values, and of IRP its name, with the items that it is in turn.
 #[derive(Clone, Copy)]
 pub struct Repetition {
@@ -99,7 +78,7 @@ impl Pass {
         has_names: bool,
         body: Span,
     ) -> Outcome {
-        let operands = operands_of(self.alloc, here.text, statement.operand)?;
+        let operands = operands_of(self.scope.alloc, here.text, statement.operand)?;
         let none = Field::none();
         let (name, label, operands) = match operands.as_slice() {
             all if !statement.location.is_empty() => (statement.location, none, all),
@@ -116,7 +95,7 @@ impl Pass {
             operands: self.keep_operands(here, operands, has_names)?,
             has_names,
             body,
-            from: self.performed,
+            from: self.scope.performed,
             until: u32::MAX,
         };
         Ok(self.vocabulary.macros.push(kept)?)
@@ -148,7 +127,8 @@ impl Pass {
     fn keep_name(&mut self, here: &Here, name: Field) -> Outcome<Span> {
         let text = name.of(here.text);
         if !text.is_empty() && end_of_name(text, 0) != Some(text.len()) {
-            self.report_stop(here, Stop::of("{} is no name", name))?;
+            self.scope
+                .report_stop(here, Stop::of("{} is no name", name))?;
         }
         Ok(self.vocabulary.keep(text)?)
     }
@@ -168,7 +148,11 @@ impl Pass {
         let name = here.span_of(statement.operation);
         let line = Line {
             joins: Span::none(),
-            call: Some(Call { column, name }),
+            call: Some(Call {
+                column,
+                name,
+                is_deck: false,
+            }),
             ..here.line
         };
         let made = self.expand(lines, statement.operation, line, called.body)?;
@@ -189,18 +173,18 @@ impl Pass {
             return Err(Stop::At(name.first, Fault::new(fault)));
         }
         if called.label.is_empty() {
-            self.label(here, statement)?;
-            return self.plain_row(here, has_label);
+            self.scope.label(here, statement)?;
+            return self.scope.plain_row(here, has_label);
         }
         let text = self.vocabulary.keep(statement.location.of(here.text))?;
         let name = called.label;
         self.vocabulary.values.push(Meaning { name, text })?;
-        self.plain_row(here, false)
+        self.scope.plain_row(here, false)
     }
 
     /// Gives the operands of a call to the names of a macro: to that in its place, or to that which it has.
     fn give_operands(&mut self, here: &Here, statement: Statement, called: Macro) -> Outcome {
-        let operands = operands_of(self.alloc, here.text, statement.operand)?;
+        let operands = operands_of(self.scope.alloc, here.text, statement.operand)?;
         let words = &mut self.vocabulary;
         let Span { first, end } = called.operands;
         let names = words.operands.get(first..end).unwrap_or(&[]);
@@ -215,7 +199,7 @@ impl Pass {
                 _ => None,
             };
             let Some((name, text)) = given else {
-                let fault = called.wrong(statement.operation, most, operands.len());
+                let fault = wrong_operands(called, statement.operation, most, operands.len());
                 return Err(Stop::At(operand.column, fault));
             };
             let text = words.keep(text)?;
@@ -368,7 +352,7 @@ impl Pass {
     fn give_lists(&mut self, here: &Here, statement: Statement) -> Outcome<usize> {
         self.vocabulary.lists.clear();
         let (mut least, mut most) = (usize::MAX, 0);
-        let operands = operands_of(self.alloc, here.text, statement.operand)?;
+        let operands = operands_of(self.scope.alloc, here.text, statement.operand)?;
         for operand in operands.get(1..).unwrap_or(&[]) {
             let (name, Some(list)) = cut(operand.text.of(here.text), b'=') else {
                 let fault = Fault::new("{} is no name, a = and a list").part(operand.text);
@@ -384,92 +368,20 @@ impl Pass {
         }
         if least < most {
             let fault = Fault::new(LISTS_DIFFER);
-            self.warn(here, statement.operation.first, fault)?;
+            self.scope.warn(here, statement.operation.first, fault)?;
         }
         Ok(least.min(most))
     }
 }
 
-impl Macro {
-    /// Returns that a call does not have the operands that it may have.
-    fn wrong(self, name: Field, most: usize, count: usize) -> Fault {
-        if self.has_names {
-            let fault = Fault::new("{} takes {} and nothing else").part(name);
-            return fault.with(Argument::Names(self.operands));
-        }
-        let fault = Fault::new("{} takes {} (decimal) operands, not {}").part(name);
-        fault.count(most).count(count)
+/// Returns that a call of a macro does not have the operands that it may have.
+fn wrong_operands(called: Macro, name: Field, most: usize, count: usize) -> Fault {
+    if called.has_names {
+        let fault = Fault::new("{} takes {} and nothing else").part(name);
+        return fault.with(Argument::Names(called.operands));
     }
-}
-
-impl Vocabulary {
-    /// Gives new names to those of LOCAL.
-    fn give_locals(&mut self, names: &[u8]) -> Outcome {
-        if names.is_empty() {
-            return Ok(());
-        }
-        for name in names.split(|symbol| *symbol == b',') {
-            let name = self.keep(name)?;
-            self.locals = self.locals.saturating_add(1);
-            let first = self.text.len();
-            self.text.extend_from_slice(b"Z.")?;
-            put_octal(&mut self.text, i64::from(self.locals), 4)?;
-            let text = Span::new(first, self.text.len());
-            self.values.push(Meaning { name, text })?;
-        }
-        Ok(())
-    }
-
-    /// Returns the name before the = of an operand, if the macro has it, and what is given to it.
-    fn named<'a>(&self, operand: &'a [u8]) -> Option<(Span, &'a [u8])> {
-        let (name, Some(value)) = cut(operand, b'=') else {
-            return None;
-        };
-        let mut values = self.values.iter();
-        let own = values.find(|own| self.text_of(own.name) == name)?;
-        match value {
-            [b'(', value @ .., b')'] => Some((own.name, value)),
-            value => Some((own.name, value)),
-        }
-    }
-
-    /// Gives the next item of each list to its name.
-    fn give_items(&mut self) -> Result<(), AllocError> {
-        self.values.clear();
-        for list in &mut self.lists {
-            let (text, rest) = split(&self.text, list.text);
-            list.text = rest.unwrap_or(Span::new(text.end, text.end));
-            let name = list.name;
-            self.values.push(Meaning { name, text })?;
-        }
-        Ok(())
-    }
-
-    /// Adds a text to the line that is made, with what is given for its names; a _ between names joins them. The B of 12B is no name,
-    /// the A of $A$ is one.
-    fn replace(&mut self, text: &[u8]) -> Result<(), AllocError> {
-        for word in text.chunk_by(|one, next| is_alphanumeric(*one) && is_alphanumeric(*next)) {
-            let given = match word {
-                [b'A'..=b'Z', ..] => self.meaning(&self.values, word),
-                _ => None,
-            };
-            let word = given.map_or(word, |given| given.of(&self.text));
-            for symbol in word.iter().filter(|symbol| **symbol != b'_') {
-                self.made.push(*symbol)?;
-            }
-        }
-        Ok(())
-    }
-
-    /// Adds a field to the line that is made, with blanks up to a size, and a blank.
-    fn replace_padded(&mut self, text: &[u8], size: usize) -> Result<(), AllocError> {
-        let end = self.made.len().saturating_add(size);
-        self.replace(text)?;
-        for _ in self.made.len()..end {
-            self.made.push(b' ')?;
-        }
-        Ok(self.made.push(b' ')?)
-    }
+    let fault = Fault::new("{} takes {} (decimal) operands, not {}").part(name);
+    fault.count(most).count(count)
 }
 
 /// Returns a text without the parentheses at its ends.

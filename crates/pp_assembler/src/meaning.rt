@@ -2,17 +2,16 @@
 ghost use Rattle.std.specs.Prelude.{◌≡◌, IfOk, IfSome};
 ghost use Rattle.pp_assembler.specs.Meaning.{ArePerformed, IsFound, IsWordsOf, read_at};
 
-use crate::directives::base_of;
-use crate::fields::{Parts, Statement as Fields};
-use crate::lines::{Lines, Span};
-use crate::message::{Fault, Message};
-use crate::operations::{Elsewhere, Operation, operation_of};
-use crate::pass::{CELLS, Here, Pass, Row};
+use crate::pass::Pass;
 use crate::program::Performed;
 use crate::terms::{Names, operand_of};
-use crate::texts::{is_blank, tail};
 use pp_meaning::{Operand, Operation as Meant, Refusal, Statement, Symbol, encode, program_of};
 use pp_notation::{Cell, Program};
+use pp_source::{
+    Elsewhere, Fault, Here, Lines, Message, Operation, Parts, Span, Statement as Fields, is_blank,
+    operation_of, tail,
+};
+use pp_statements::{CELLS, Row, base_of};
 use std::alloc::{AllocError, Global};
 
 /// The greatest word.
@@ -79,7 +78,7 @@ fn is_silent(operation: Operation) -> bool {
             | Operation::Micro
             | Operation::NumberMicro { .. }
             | Operation::Block(_)
-            | Operation::Lines(Elsewhere::Here | Elsewhere::Purge)
+            | Operation::Lines(Elsewhere::Deck | Elsewhere::Here | Elsewhere::Purge)
     )
 }
 
@@ -129,7 +128,7 @@ fn is_name(label: &[u8]) -> bool {
 /// Returns what the names of the listing stand for, if each statement has a meaning.
 fn names_of(alloc: Global, lines: &Lines, pass: &Pass) -> Result<Option<Names>, AllocError> {
     let mut names = Names::new(alloc);
-    for row in &pass.rows {
+    for row in &pass.scope.rows {
         let (fields, operation) = match part_of(pass, lines, row) {
             Part::Silent => continue,
             Part::Other => return Ok(None),
@@ -244,12 +243,12 @@ fn statements_of(
     pass: &Pass,
     names: Names,
 ) -> Result<Option<Performed>, AllocError>
-    ensures { IfOk result (λ made. IfSome made (λ performed. ArePerformed lines.now pass.now.rows.items performed)) }
+    ensures { IfOk result (λ made. IfSome made (λ performed. ArePerformed lines.now pass.now.scope.rows.items performed)) }
 {
     let mut names = names;
     let mut statements = Vec::new(alloc);
     let mut indices = Vec::new(alloc);
-    for row in &pass.rows {
+    for row in &pass.scope.rows {
         if !row.is_performed {
             continue;
         }
@@ -271,9 +270,9 @@ fn statements_of(
 
 /// Returns the statements that a pass has performed, if nothing is wrong and all have a meaning.
 fn performed_of(alloc: Global, lines: &Lines, pass: &Pass) -> Result<Option<Performed>, AllocError>
-    ensures { IfOk result (λ made. IfSome made (λ performed. ArePerformed lines.now pass.now.rows.items performed)) }
+    ensures { IfOk result (λ made. IfSome made (λ performed. ArePerformed lines.now pass.now.scope.rows.items performed)) }
 {
-    if !pass.messages.is_empty() || !pass.vocabulary.synonyms.is_empty() {
+    if !pass.scope.messages.is_empty() || !pass.vocabulary.synonyms.is_empty() {
         return Ok(None);
     }
     match names_of(alloc, lines, pass)? {
@@ -360,12 +359,12 @@ pub enum Found {
 /// # Errors
 /// Memory ran out.
 pub fn encode_performed(alloc: Global, lines: &Lines, pass: &Pass) -> Result<Found, AllocError>
-    ensures { IfOk result (IsFound lines.now pass.now.rows.items) }
+    ensures { IfOk result (IsFound lines.now pass.now.scope.rows.items) }
 {
     let Some(performed) = performed_of(alloc, lines, pass)? else {
         return Ok(Found::Nothing);
     };
-    let [unit] = pass.units.as_slice() else {
+    let [unit] = pass.scope.units.as_slice() else {
         return Ok(Found::Nothing);
     };
     let cells = lines_of_cells(alloc, unit.program.cells())?;
@@ -374,7 +373,7 @@ pub fn encode_performed(alloc: Global, lines: &Lines, pass: &Pass) -> Result<Fou
         statements,
         ..
     } = &performed;
-    match encoding_of(alloc, symbols, statements, &cells, pass.words.len()) {
+    match encoding_of(alloc, symbols, statements, &cells, pass.scope.words.len()) {
         Ok((program, words)) => Ok(Found::Words(Encoded {
             performed,
             program,

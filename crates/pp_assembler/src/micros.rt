@@ -1,14 +1,11 @@
 //! Micros: names of texts, which stand between two marks in a line in place of these.
-use crate::directives::{the_only, wants_operand};
-use crate::fields::{Statement, first_parts};
-use crate::lines::{Lines, Span};
-use crate::macros::cut;
-use crate::message::{Fault, Field, Outcome, Stop};
-use crate::pass::{Here, Pass};
-use crate::symbols::{Definition, end_of_name};
-use crate::values::Base;
-use crate::vocabulary::Meaning;
+use crate::pass::Pass;
 use pp_notation::put_digits;
+use pp_source::{
+    Definition, Fault, Field, Here, Lines, Meaning, Outcome, Span, Statement, Stop, cut,
+    end_of_name, first_parts,
+};
+use pp_statements::{Base, the_only, wants_operand};
 
 const MICRO_WANTED: &str =
     "MICRO wants a number, how many symbols, and a text between two equal symbols";
@@ -63,15 +60,15 @@ impl Pass {
             return Ok(Some(text));
         }
         let text: &[u8] = match word {
-            b"BASE" if matches!(self.base, Some(Base::Octal | Base::Mixed)) => b"O",
+            b"BASE" if matches!(self.scope.base, Some(Base::Octal | Base::Mixed)) => b"O",
             b"BASE" | b"CODE" => b"D",
             b"QUAL" => {
-                let text = self.vocabulary.keep(self.symbols.qualifier())?;
+                let text = self.vocabulary.keep(self.scope.symbols.qualifier())?;
                 return Ok(Some(text));
             }
             b"DATE" | b"JDATE" | b"TIME" | b"MODLEVEL" | b"PCOMMENT" => {
                 let fault = Fault::new("warning: the micro {} is blank here").part(name);
-                self.warn(here, name.first, fault)?;
+                self.scope.warn(here, name.first, fault)?;
                 BLANK.as_slice()
             }
             _ => return Ok(None),
@@ -103,7 +100,7 @@ impl Pass {
         wants_operand(statement)?;
         let found = first_parts(here.text, statement.operand, false)?;
         let [operand, size, _] = found.parts;
-        let number = self.number(here, operand, true)?;
+        let number = self.scope.number(here, operand, true)?;
         let size = if found.count > 1 {
             self.lines_count(here, size)?
         } else {
@@ -111,9 +108,9 @@ impl Pass {
         };
         let magnitude = number.unsigned_abs();
         let digits = if is_decimal {
-            format!(in self.alloc; "{magnitude}")?
+            format!(in self.scope.alloc; "{magnitude}")?
         } else {
-            format!(in self.alloc; "{magnitude:o}")?
+            format!(in self.scope.alloc; "{magnitude:o}")?
         };
         let number = if size > 0 {
             number.wrapping_abs()
@@ -139,7 +136,7 @@ impl Pass {
         }
         let name = self.vocabulary.keep(name)?;
         self.vocabulary.micros.push(Meaning { name, text })?;
-        self.plain_row(here, false)
+        self.scope.plain_row(here, false)
     }
 
     /// MICCNT names how many symbols a micro has.
@@ -157,8 +154,8 @@ impl Pass {
             is_set: true,
             ..Definition::default()
         };
-        self.define(here, statement.location, meaning)?;
-        self.value_row(here, count, true)
+        self.scope.define(here, statement.location, meaning)?;
+        self.scope.value_row(here, count, true)
     }
 }
 

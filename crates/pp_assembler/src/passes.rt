@@ -1,21 +1,19 @@
 //! A source in two passes: the first one finds what its names stand for, the second one makes its words and reports what is wrong.
-ghost use Rattle.std.specs.Prelude.{◌≡◌, ◌<◌, All, IfOk, IfSome, List, map};
+ghost use Rattle.std.specs.Prelude.{All, IfOk, IfSome, List, map};
 ghost use Rattle.pp_notation.specs.Cells.{IsProgram, IsStart};
 ghost use Rattle.pp_assembler.specs.Meaning.{AreMeant, IsFound, IsMeant};
-ghost use Rattle.pp_assembler.specs.declared.lines.Lines.{Lines as AllLines};
-ghost use Rattle.pp_assembler.specs.declared.pass.Row.{Row};
-ghost use Rattle.pp_assembler.specs.Places.{IsOfLine, length_of, line_lengths};
+ghost use Rattle.pp_source.specs.declared.lines.Lines.{Lines as AllLines};
+ghost use Rattle.pp_statements.specs.declared.scope.Row.{Row};
+ghost use Rattle.pp_source.specs.Places.{IsOfLine, length_of, line_lengths};
 
-use crate::lines::{Lines, Span, cut_lines, read_lines};
 use crate::meaning::{Found, encode_performed};
-use crate::message::{Fault, Message};
-use crate::pass::{CELLS, Pass, Slot};
-use crate::performing::Ending;
-use crate::places::complaints;
+use crate::pass::Pass;
 use crate::program::{Assembly, Performed};
-use crate::symbols::Symbols;
-use crate::units::{Blocks, Unit};
-use pp_notation::{Cell, Program};
+use crate::running::Ending;
+use pp_complaints::{Known, complaints};
+use pp_notation::Program;
+use pp_source::{Fault, Lines, Message, Span, Symbols, Text, cut_lines, read_lines};
+use pp_statements::{Blocks, Scope, Slot, Unit, program_of};
 use std::alloc::{AllocError, Global};
 
 /// How many passes there are, until each block is where the pass before has put it.
@@ -24,7 +22,7 @@ const MOST_PASSES: usize = 10;
 const UNSETTLED: &str =
     "the addresses of blocks are others in each pass, for they depend on one another";
 
-/// Returns what a source makes.
+/// Returns what a source makes that reads no common decks.
 ///
 /// # Errors
 /// Memory ran out.
@@ -36,12 +34,28 @@ pub fn assemble(alloc: Global, source: &[u8]) -> Result<Assembly, AllocError>
     // The words are what the statements mean.
     ensures meaning { IfOk result IsMeant }
 {
+    assemble_with(alloc, source, &[])
+}
+
+/// Returns what a source makes that may read common decks, by XTEXT or *CALL. Of two with one name the first one counts. A message
+/// about a line of a deck is about the line that reads it.
+///
+/// # Errors
+/// Memory ran out.
+pub fn assemble_with(alloc: Global, source: &[u8], texts: &[Text]) -> Result<Assembly, AllocError>
+    ensures cells { IfOk result (λ made. IsProgram made.program.cells.items) }
+    ensures start { IfOk result (λ made. IsStart made.program.start) }
+    ensures messages { IfOk result (λ made. All (IsOfLine (line_lengths source.now)) made.messages.items) }
+    ensures warnings { IfOk result (λ made. All (IsOfLine (line_lengths source.now)) made.warnings.items) }
+    // The words are what the statements mean.
+    ensures meaning { IfOk result IsMeant }
+{
     let spans = cut_lines(alloc, source)?;
-    let mut lines = read_lines(alloc, source, &spans)?;
+    let mut lines = read_lines(alloc, source, &spans, texts)?;
     let mut pass = last_pass(alloc, &mut lines)?;
     let found = encode_performed(alloc, &lines, &pass)?;
     if let Found::Refused(message) = &found {
-        pass.messages.push(*message)?;
+        pass.scope.messages.push(*message)?;
     }
     assembly_of(alloc, lines, pass, found, &spans)
 }
@@ -54,28 +68,28 @@ fn last_pass(alloc: Global, lines: &mut Lines) -> Result<Pass, AllocError> {
             pass = next_pass(alloc, pass)?;
         }
         match pass.run(lines) {
-            Ok(()) if number > 0 && pass.has_settled() => return Ok(pass),
+            Ok(()) if number > 0 && pass.scope.has_settled() => return Ok(pass),
             Ok(()) => {}
             Err(Ending::NoMemory) => return Err(AllocError),
             Err(Ending::At(message)) => {
-                pass.messages.clear();
-                pass.messages.push(message)?;
+                pass.scope.messages.clear();
+                pass.scope.messages.push(message)?;
                 return Ok(pass);
             }
         }
     }
     let message = Message::new(1, 1, usize::MAX, Fault::new(UNSETTLED));
-    pass.messages.push(message)?;
+    pass.scope.messages.push(message)?;
     Ok(pass)
 }
 
 /// Returns the pass after one, which knows what this one has found.
 fn next_pass(alloc: Global, pass: Pass) -> Result<Pass, AllocError> {
-    let Pass {
+    let Scope {
         mut symbols,
         blocks,
         ..
-    } = pass;
+    } = pass.scope;
     symbols.begin_pass();
     Pass::new(alloc, symbols, blocks.next(alloc), true)
 }
@@ -90,28 +104,33 @@ fn assembly_of(
 ) -> Result<Assembly, AllocError>
     ensures messages { IfOk result (λ made. All (IsOfLine (map length_of spans.now)) made.messages.items) }
     ensures warnings { IfOk result (λ made. All (IsOfLine (map length_of spans.now)) made.warnings.items) }
-    ensures meaning { IsFound lines pass.rows.items found → IfOk result IsMeant }
+    ensures meaning { IsFound lines pass.scope.rows.items found → IfOk result IsMeant }
 {
-    let mut units = pass.units;
-    let first = first_program(alloc, &mut units, &pass.cells, pass.start)?;
-    let (program, words, meaning) = output_of(found, first, pass.words);
+    let mut units = pass.scope.units;
+    let first = first_program(alloc, &mut units, &pass.scope.cells, pass.scope.start)?;
+    let (program, words, meaning) = output_of(found, first, pass.scope.words);
     let made = Assembly {
         program,
         meaning,
         others: units,
         lines,
-        symbols: pass.symbols,
+        symbols: pass.scope.symbols,
         vocabulary: pass.vocabulary,
         words,
-        rows: pass.rows,
+        rows: pass.scope.rows,
         messages: Vec::new(alloc),
         warnings: Vec::new(alloc),
     };
+    let known = Known {
+        lines: &made.lines,
+        symbols: &made.symbols,
+        vocabulary: &made.vocabulary,
+    };
     let messages = match made.meaning {
         Some(_) => Vec::new(alloc),
-        None => complaints(alloc, &made, &pass.messages, spans)?,
+        None => complaints(alloc, known, &pass.scope.messages, spans)?,
     };
-    let warnings = complaints(alloc, &made, &pass.warnings, spans)?;
+    let warnings = complaints(alloc, known, &pass.scope.warnings, spans)?;
     Ok(Assembly {
         messages,
         warnings,
@@ -143,52 +162,5 @@ fn output_of(
     match found {
         Found::Words(made) => (made.program, made.words, Some(made.performed)),
         _ => (program, words, None),
-    }
-}
-
-/// Returns the program of these cells.
-pub fn program_of(
-    alloc: Global,
-    cells: &[Slot],
-    start: Option<u16>,
-) -> Result<Program, AllocError> {
-    Ok(Program::new(cells_of(alloc, cells)?, address_of(start)))
-}
-
-/// Returns an address of twelve bits.
-fn address_of(start: Option<u16>) -> Option<u16>
-    ensures { IsStart result }
-{
-    match start {
-        Some(address) => Some(address & 0o7777),
-        None => None,
-    }
-}
-
-/// Returns the cells that have words, in the order of their addresses.
-fn cells_of(alloc: Global, slots: &[Slot]) -> Result<Vec<Cell>, AllocError>
-    ensures { IfOk result (λ cells. IsProgram cells.items) }
-{
-    let mut cells = Vec::new(alloc);
-    for address in 0..CELLS {
-        if let Some(slot) = slots.get(address) {
-            if slot.line != 0 {
-                cells.push(cell_of(address, *slot))?;
-            }
-        }
-    }
-    Ok(cells)
-}
-
-/// Returns the cell at an address.
-fn cell_of(address: usize, slot: Slot) -> Cell
-    requires { address < 0o10000 }
-    ensures address { result.address ≡ address }
-    ensures word { result.word < 0o10000 }
-{
-    Cell {
-        address: address as u16,
-        word: slot.word & 0o7777,
-        line: slot.line,
     }
 }

@@ -1,12 +1,8 @@
 //! All that is known of a source.
-use crate::lines::Lines;
-use crate::message::Complaint;
-use crate::pass::Row;
-use crate::symbols::Symbols;
-use crate::units::Unit;
-use crate::vocabulary::Vocabulary;
 use pp_meaning::{Statement, Symbol};
 use pp_notation::Program;
+use pp_source::{Complaint, Lines, Symbols, Vocabulary};
+use pp_statements::{Row, Unit};
 
 /// The statements of a source as they are performed, after macros, repetitions, conditions and micros, with the terms of their operands.
 #[derive(Drop)]

@@ -1,21 +1,44 @@
 //! Directives that perform lines from elsewhere, or give operations other names.
-use crate::directives::the_only;
-use crate::fields::Statement;
-use crate::lines::{Lines, Span};
-use crate::message::{Fault, Outcome, Stop};
-use crate::operations::Elsewhere;
-use crate::pass::{Here, Pass};
-use crate::vocabulary::{Macro, Meaning};
+use crate::pass::Pass;
+use pp_source::{
+    Argument, Call, Decks, Elsewhere, Fault, Field, Here, Line, Lines, Macro, Meaning, Outcome,
+    Span, Statement, Stop, after_blanks, end_of_word,
+};
+use pp_statements::{the_only, too_many_statements};
 
-/// Returns that the lines of a common deck are in a file, of which none is read here.
-fn no_deck(statement: Statement) -> Stop {
-    let fault = Fault::new("{} is a common deck: name the folder that has it by --text DIR");
-    let named = [statement.operand, statement.location, statement.operation];
-    let name = named.iter().find(|field| !field.is_empty());
-    Stop::At(
-        statement.operand.first,
-        fault.part(*name.unwrap_or(&statement.operation)),
-    )
+/// How many lines there are at most, with those that others make.
+const MOST_LINES: usize = 1_000_000;
+
+const CALL: &[u8; 6] = b"*CALL ";
+
+/// Returns that there is no common deck with a name.
+fn no_deck(decks: &Decks, name: Field) -> Fault {
+    let (text, nothing) = if decks.is_empty() {
+        (
+            "{} is a common deck: name the folder that has it by --text DIR",
+            "XTEXT",
+        )
+    } else {
+        (
+            "the folder of common decks has no {}",
+            "deck without a name",
+        )
+    };
+    let name = match name.is_empty() {
+        true => Argument::Text(nothing),
+        false => Argument::Part(name),
+    };
+    Fault::new(text).with(name)
+}
+
+/// Returns the name after *CALL, if a line is one, and there are common decks.
+pub fn name_after_call(lines: &Lines, index: usize) -> Option<Field> {
+    let text = Here::new(lines, index).text;
+    if lines.decks.is_empty() || !text.starts_with(CALL.as_slice()) {
+        return None;
+    }
+    let first = after_blanks(text, CALL.len());
+    Some(Field::new(first, end_of_word(text, first)))
 }
 
 impl Pass {
@@ -30,11 +53,15 @@ impl Pass {
             Elsewhere::Synonym => self.name_operation(&here, statement),
             Elsewhere::Purge => self.purge(&here, statement),
             Elsewhere::Deck => {
-                self.plain_row(&here, false)?;
-                Err(no_deck(statement))
+                let name = if statement.operand.is_empty() {
+                    statement.location
+                } else {
+                    statement.operand
+                };
+                self.read_deck(lines, name, statement.operand.first)
             }
             Elsewhere::Here => {
-                self.plain_row(&here, false)?;
+                self.scope.plain_row(&here, false)?;
                 let is_before = !statement.location.is_empty();
                 let name = if is_before {
                     statement.location
@@ -47,6 +74,36 @@ impl Pass {
                 self.push_run(Span::new(first, lines.all.len()), 1, 0)
             }
         }
+    }
+
+    /// Performs the lines of the common deck that a part of the present line names, next. A message is about a column.
+    pub fn read_deck(&mut self, lines: &mut Lines, name: Field, column: usize) -> Outcome {
+        let here = Here::new(lines, self.at);
+        self.scope.plain_row(&here, false)?;
+        let Some(deck) = lines.decks.find(name.of(here.text)) else {
+            return Err(no_deck(&lines.decks, name).at(column));
+        };
+        let number = here.line.number;
+        let call = Some(Call {
+            column: here.line.call.map_or(column, |outer| outer.column),
+            name: here.span_of(name),
+            is_deck: true,
+        });
+        let first = lines.all.len();
+        let size = deck.end.saturating_sub(deck.first);
+        self.push_run(Span::new(first, first.saturating_add(size)), 1, 0)?;
+        for index in deck.first..deck.end {
+            let line = Here::new(lines, index).line;
+            lines.all.push(Line {
+                number,
+                call,
+                ..line
+            })?;
+        }
+        if lines.all.len() > MOST_LINES {
+            return Err(too_many_statements());
+        }
+        Ok(())
     }
 
     /// Copies the lines of RMT with a name, which are then no longer kept.
@@ -82,21 +139,21 @@ impl Pass {
         let words = &mut self.vocabulary;
         let name = words.keep(statement.location.of(here.text))?;
         if let Some(one) = words.macro_of(old) {
-            let from = self.performed;
+            let from = self.scope.performed;
             words.macros.push(Macro { name, from, ..one })?;
         } else {
             let text = words.keep(old)?;
             words.synonyms.push(Meaning { name, text })?;
         }
-        self.plain_row(here, false)
+        self.scope.plain_row(here, false)
     }
 
     /// PURGMAC forgets macros.
     fn purge(&mut self, here: &Here, statement: Statement) -> Outcome {
         let names = statement.operand.of(here.text);
         for name in names.split(|symbol| *symbol == b',') {
-            self.vocabulary.purge(name, self.performed);
+            self.vocabulary.purge(name, self.scope.performed);
         }
-        self.plain_row(here, false)
+        self.scope.plain_row(here, false)
     }
 }

@@ -1,10 +1,11 @@
 //! The order in which lines are performed: those of a source, and those that other lines repeat, choose or make.
-use crate::fields::{Origin, Statement, statement_of};
-use crate::lines::{Join, Line, Lines, SUBR_LINES, Span};
-use crate::message::{Field, Outcome, Stop};
-use crate::operations::{Operation, operation_of};
-use crate::pass::{Here, MOST_STATEMENTS, Pass, too_many_statements};
-use crate::performing::{Ending, is_known};
+use crate::pass::Pass;
+use crate::remote::name_after_call;
+use pp_source::{
+    Field, Here, Join, Line, Lines, Message, Operation, Origin, Outcome, Span, Statement, Stop,
+    operation_of, statement_of,
+};
+use pp_statements::{MOST_STATEMENTS, is_known, too_many_statements};
 
 /// How many blocks and calls are within one another.
 const MOST_NESTED: u32 = 100;
@@ -48,20 +49,20 @@ impl Pass {
     /// Performs all lines. Returns what ends the pass early.
     pub fn run(&mut self, lines: &mut Lines) -> Result<(), Ending> {
         lines.forget_made();
-        let end = lines.own;
-        self.run_all(lines, Span::new(0, SUBR_LINES))?;
-        self.rows.clear();
-        self.run_all(lines, Span::new(SUBR_LINES, end))?;
-        if !self.has_ended {
+        let source = lines.source;
+        self.run_all(lines, Span::new(0, source.first))?;
+        self.scope.rows.clear();
+        self.run_all(lines, source)?;
+        if !self.scope.has_ended {
             match self.all_remote(lines) {
                 Ok(rest) => self.run_all(lines, rest)?,
                 Err(stop) => self.stopped(lines, stop)?,
             }
         }
-        if self.has_ended {
+        if self.scope.has_ended {
             return Ok(());
         }
-        let ended = self.end_unit(&Here::new(lines, self.at));
+        let ended = self.scope.end_unit(&Here::new(lines, self.at));
         ended.or_else(|stop| self.stopped(lines, stop))
     }
 
@@ -85,7 +86,7 @@ impl Pass {
     /// Keeps why a line has not been performed, or returns what ends the pass.
     fn stopped(&mut self, lines: &Lines, stop: Stop) -> Result<(), Ending> {
         let here = Here::new(lines, self.at);
-        match self.report_stop(&here, stop) {
+        match self.scope.report_stop(&here, stop) {
             Ok(()) => Ok(()),
             Err(Stop::Ends(column, fault)) => Err(Ending::At(here.message(column, fault))),
             Err(Stop::TooMuch(fault)) => Err(Ending::At(here.last_message(fault))),
@@ -98,7 +99,7 @@ impl Pass {
             Job::Show(span) => self.show(lines, span),
             Job::End(index, statement) => {
                 self.at = index;
-                self.end(&Here::new(lines, index), statement)
+                self.scope.end(&Here::new(lines, index), statement)
             }
             Job::Run(run) if run.next < run.all.end => {
                 self.at = run.next;
@@ -147,8 +148,8 @@ impl Pass {
     pub fn show(&mut self, lines: &Lines, span: Span) -> Outcome {
         for index in span.first..span.end {
             self.at = index;
-            self.plain_row(&Here::new(lines, index), false)?;
-            if let Some(row) = self.rows.last_mut() {
+            self.scope.plain_row(&Here::new(lines, index), false)?;
+            if let Some(row) = self.scope.rows.last_mut() {
                 row.is_performed = false;
             }
         }
@@ -160,7 +161,9 @@ impl Pass {
         for index in span.first..span.end {
             let here = Here::new(lines, index);
             if let Ok(Some(statement)) = self.statement(&here) {
-                self.symbols.pass_over(statement.location.of(here.text))?;
+                self.scope
+                    .symbols
+                    .pass_over(statement.location.of(here.text))?;
             }
         }
         Ok(())
@@ -168,7 +171,10 @@ impl Pass {
 
     /// Performs the present line.
     fn perform(&mut self, lines: &mut Lines) -> Outcome {
-        self.count_statement()?;
+        self.scope.count_statement()?;
+        if let Some(name) = name_after_call(lines, self.at) {
+            return self.read_deck(lines, name, 0);
+        }
         self.replace_micros(lines)?;
         let Some(statement) = self.present_statement(lines)? else {
             return Ok(());
@@ -187,7 +193,14 @@ impl Pass {
                 self.jobs.push(Job::End(self.at, statement))?;
                 self.push_run(rest, 1, 0)
             }
-            operation => self.one(&Here::new(lines, self.at), statement, operation),
+            Operation::Micro => self.name_text(&Here::new(lines, self.at), statement),
+            Operation::NumberMicro { is_decimal } => {
+                self.name_digits(&Here::new(lines, self.at), statement, is_decimal)
+            }
+            Operation::MicroCount => self.count_micro(&Here::new(lines, self.at), statement),
+            operation => self
+                .scope
+                .one(&Here::new(lines, self.at), statement, operation),
         }
     }
 
@@ -195,12 +208,12 @@ impl Pass {
     fn present_statement(&mut self, lines: &Lines) -> Outcome<Option<Statement>> {
         let here = Here::new(lines, self.at);
         match self.statement(&here)? {
-            Some(statement) if self.has_ended => self.after_end(&here, statement)?,
+            Some(statement) if self.scope.has_ended => self.scope.after_end(&here, statement)?,
             Some(statement) => {
                 is_known(&here, statement)?;
                 return Ok(Some(statement));
             }
-            None => self.plain_row(&here, false)?,
+            None => self.scope.plain_row(&here, false)?,
         }
         Ok(None)
     }
@@ -208,9 +221,9 @@ impl Pass {
     /// Returns the statement of a line, as it stands there.
     pub fn statement(&self, here: &Here) -> Outcome<Option<Statement>> {
         let origin = match here.line.call {
-            Some(_) => Origin::Made,
-            None if here.joins.is_empty() => Origin::Source,
-            None => Origin::Joined,
+            Some(call) if !call.is_deck => Origin::Made,
+            _ if here.joins.is_empty() => Origin::Source,
+            _ => Origin::Joined,
         };
         statement_of(here.text, origin, &self.vocabulary)
     }
@@ -230,18 +243,12 @@ impl Pass {
         words.add_kept(name)?;
         let (number, first) = here.place_of(statement.operation.first);
         let line = here.line;
-        let before = lines.joins.len();
-        for index in line.joins.first..line.joins.end {
-            if let Some(join) = lines.joins.get(index).copied() {
-                lines.joins.push(join)?;
-            }
-        }
-        lines.joins.push(Join {
+        let join = Join {
             column,
             number,
             first,
-        })?;
-        let joins = Span::new(before, lines.joins.len());
+        };
+        let joins = lines.add_joins(line.joins, join)?;
         self.at = lines.add_read(Line { joins, ..line }, &words.made)?;
         let operation = Field::new(column, words.made.len());
         Ok(Statement {
@@ -249,4 +256,13 @@ impl Pass {
             ..statement
         })
     }
+}
+
+/// Why a pass does not go on.
+#[derive(Clone, Copy)]
+pub enum Ending {
+    /// A fault after which nothing is assembled.
+    At(Message),
+    /// Memory ran out.
+    NoMemory,
 }

@@ -1,8 +1,6 @@
 //! The terms of operands, and the names that they have.
-use crate::symbols::end_of_name;
-use crate::texts::tail;
-use crate::values::{counter_of, number_of};
 use pp_meaning::{Atom, Factor, Label, Operand, Radix, Symbol, Term};
+use pp_source::{counter_of, end_of_name, number_of, tail};
 use std::alloc::{AllocError, Global};
 use std::collections::BTreeMap;
 

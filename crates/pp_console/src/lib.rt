@@ -10,8 +10,6 @@ mod progress;
 mod refusals;
 mod room;
 mod serving;
-#[cfg(test)]
-mod tests;
 mod text;
 mod watches;
 

@@ -13,9 +13,6 @@ ghost use Rattle.pp_console.specs.Commands.{State, Value};
 ghost use Rattle.pp_console.specs.Serving.{Origin, Breaks, Serves, Stops, CountsReads, CountsWrites, origin_of};
 ghost use Rattle.pp_console.specs.Inner.ServingSteps.{HasEnded, HasRead, Interrupts, IsNoReadFault};
 
-#[cfg(test)]
-mod limit_tests;
-
 use crate::commands::answer_line;
 use crate::progress::{BYTE_LIMIT, KEPT, LINE_LIMIT, Progress, Summary};
 use pp_history::Session;

@@ -14,9 +14,6 @@ use pp_arith::relative;
 use pp_notation::{Cell, Form, form_of};
 use std::alloc::{AllocError, Global};
 
-#[cfg(test)]
-mod tests;
-
 /// How many words of zero are a statement BSSZ, at least.
 const ZEROS: usize = 4;
 

@@ -77,6 +77,11 @@ module _ {M A R P H : Type 0} (rules : Ghosts M A R P H) where
       span = rw (same.halves log.kept log.ahead (omega (arith, run.full)) (omega (arith, run.full))) run.span;
     }
 
+  -- no step yet, and another block came into use
+  pub run_here : {machine : M} {log : Log A R H} → IsSession rules machine log → (heads : Heads H) (at : ℕ) → IsHeads heads → at ≤ 256 →
+      IsSame log.heads log.at heads at → IsRun machine log (λ v. v) machine (record log { heads = heads; at = at })
+  run_here {machine = machine} {log = log} is = run_turned (run_none machine log (λ v. v) (λ v. refl) is)
+
   module _ {start : M} {old : Log A R H} {now : M} {log : Log A R H} where
     -- one more step back
     module _ (count : ℕ) (run : IsRun start old (λ v. after_back v count) now log) (head : Option H)

@@ -2,7 +2,7 @@
 use Rattle.std.specs.Prelude.{◌≡◌, ◌≢◌, ℕ, ◌<◌, ◌≤◌, ◌==◌, ◌⊎◌, All, AllPairs, List, Some, ◌++◌, flat_map, if◌then◌else◌, length}
 use Rattle.pp_notation.specs.Cells.{IsCell, IsProgram, IsStart}
 use Rattle.pp_listing.specs.Listing.{listed_row}
-use Rattle.pp_assembler.specs.Places.{IsOfLine, line_lengths}
+use Rattle.pp_source.specs.Places.{IsOfLine, line_lengths}
 use Rattle.pp_disassembly.specs.SourceText.{source_text}
 use Rattle.pp_disassembly.specs.Statements.{addressed, assembled, cells_of}
 use Rattle.pp_listing.specs.Rows.{known_row, program_lines, unit_lines}

@@ -11,6 +11,14 @@ use pp_loading::load_lines;
 use pp_notation::{Cell, are_cells};
 use std::alloc::{AllocError, Global};
 
+/// A common deck as C has it: its name, in letters of either case, and its lines.
+#[repr(C)]
+#[derive(Clone, Copy)]
+pub struct CommonDeck<'a> {
+    pub name: &'a [u8],
+    pub lines: &'a [u8],
+}
+
 /// What is written of a source.
 const COMPLAINTS: u32 = 0;
 
@@ -42,6 +50,20 @@ fn text_of(alloc: Global, made: &Assembly, form: u32) -> Result<Vec<u8>, AllocEr
         ROWS => rows_text(alloc, made),
         _ => units_text(alloc, made),
     }
+}
+
+/// Returns common decks as the assembler has them.
+fn texts_of<'a>(alloc: Global, decks: &[CommonDeck<'a>]) -> Result<Vec<Text<'a>>, AllocError> {
+    let mut texts = Vec::new(alloc);
+    for deck in decks {
+        texts.push(
+            Text {
+                name: deck.name,
+                lines: deck.lines,
+            },
+        )?;
+    }
+    Ok(texts)
 }
 
 /// Returns whether a cell has this address.
@@ -87,7 +109,7 @@ pub extern "C" fn pp6600_assemble(
 pub extern "C" fn pp6600_assemble_with(
     alloc: Global,
     source: &[u8],
-    texts: &[Text],
+    decks: &[CommonDeck],
     form: u32,
     into: &mut [u8],
     count: &mut usize,
@@ -100,7 +122,10 @@ pub extern "C" fn pp6600_assemble_with(
     if form > UNITS {
         return REFUSED;
     }
-    let Ok(made) = assemble_with(alloc, source, texts) else {
+    let Ok(texts) = texts_of(alloc, decks) else {
+        return NO_MEMORY;
+    };
+    let Ok(made) = assemble_with(alloc, source, &texts) else {
         return NO_MEMORY;
     };
     let Ok(text) = text_of(alloc, &made, form) else {

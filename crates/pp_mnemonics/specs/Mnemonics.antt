@@ -1,5 +1,9 @@
--- The texts of the mnemonics in the instruction table. Codes 24 and 25 pass, as 00 does, and an assembler names them like it.
+-- The texts of the mnemonics in the instruction table, and the words of its rows. Codes 24 and 25 pass, as 00 does, and an assembler names
+-- them like it.
 use Rattle.std.specs.Prelude.{ℕ, List, codes, map}
+use Rattle.std.specs.List.{range_with_len}
+use Rattle.pp_notation.specs.Instructions.{form, size}
+use Rattle.pp_step.specs.Instruction.{Memory, Mode, Unindexed}
 use Rattle.pp_step.specs.InstructionTable.{rows}
 use Rattle.pp_step.specs.declared.code.Code.{Code}
 use Rattle.pp_step.specs.declared.code.Code.TheVariants as code
@@ -73,3 +77,16 @@ text_of code.Fnc = codes "FNC"
 -- The names that the instruction table has, in the order of its rows.
 abbrev pub names_of_table : List (List ℕ)
 names_of_table = map (λ row. text_of row.mnemonic) rows
+
+-- Those of the last two addressing modes have a second word.
+abbrev pub words_of : Mode → ℕ
+words_of Memory = 2
+words_of Unindexed = 2
+words_of _ = 1
+
+abbrev pub sizes_of_table : List ℕ
+sizes_of_table = map (λ row. words_of row.mode) rows
+
+-- How many words an assembler gives each code.
+abbrev pub sizes : List ℕ
+sizes = map (λ code. size (form code)) (range_with_len 0 0o100)

@@ -1,7 +1,8 @@
-//! Assembles the sources of standard input, each ended by a line `----`, and writes what each one makes.
+//! Assembles the sources of standard input, each ended by a line `----`, and writes what each one makes. A text whose first line has `++++`
+//! and a name is a common deck, which the sources after it may read.
 #![tactic(auto)]
 
-use pp_assembler::{Assembly, assemble};
+use pp_assembler::{Assembly, Text, assemble_with};
 use pp_disassembly::{disassemble, write_source};
 use pp_listing::{complaints_text, listing_text, words_text};
 use std::alloc::{AllocError, Global};
@@ -10,6 +11,8 @@ use std::io::{Read, Write};
 
 /// The line after a source, and after what it makes.
 const END: &[u8; 5] = b"----\n";
+/// What is before the name of a common deck.
+const DECK: &[u8; 4] = b"++++";
 
 /// Writes a source that assembles to the words of a program. Its code is what a processor reaches from the start.
 fn put_source(alloc: Global, out: &mut Vec<u8>, made: &Assembly) -> Result<(), AllocError> {
@@ -23,8 +26,8 @@ fn put_source(alloc: Global, out: &mut Vec<u8>, made: &Assembly) -> Result<(), A
 }
 
 /// Writes what a source makes.
-fn put(alloc: Global, out: &mut Vec<u8>, source: &[u8]) -> Result<(), AllocError> {
-    let made = assemble(alloc, source)?;
+fn put(alloc: Global, out: &mut Vec<u8>, source: &[u8], decks: &[Text]) -> Result<(), AllocError> {
+    let made = assemble_with(alloc, source, decks)?;
     out.extend_from_slice(complaints_text(alloc, &made)?.as_slice())?;
     out.extend_from_slice(words_text(alloc, &made)?.as_slice())?;
     out.extend_from_slice(listing_text(alloc, &made)?.as_slice())?;
@@ -34,15 +37,30 @@ fn put(alloc: Global, out: &mut Vec<u8>, source: &[u8]) -> Result<(), AllocError
     out.extend_from_slice(END.as_slice())
 }
 
+/// Returns the common deck that a text is, if it is one.
+fn deck_of(text: &[u8]) -> Option<Text<'_>> {
+    let named = text.strip_prefix(DECK.as_slice())?;
+    let end = named.iter().position(|byte| *byte == b'\n')?;
+    Some(Text {
+        name: named.get(..end)?,
+        lines: named.get(end.saturating_add(1)..)?,
+    })
+}
+
 /// Writes what each source makes.
 fn put_all(alloc: Global, input: &[u8]) -> Result<Vec<u8>, AllocError> {
     let mut out = Vec::new(alloc);
+    let mut decks = Vec::new(alloc);
     let mut first: usize = 0;
     for at in 0..input.len() {
         let end = at.saturating_add(END.len());
         let is_new = at == first || at > 0 && input.get(at.wrapping_sub(1)) == Some(&b'\n');
         if at >= first && is_new && input.get(at..end) == Some(END.as_slice()) {
-            put(alloc, &mut out, input.get(first..at).unwrap_or(b""))?;
+            let text = input.get(first..at).unwrap_or(b"");
+            match deck_of(text) {
+                Some(deck) => decks.push(deck)?,
+                None => put(alloc, &mut out, text, &decks)?,
+            }
             first = end;
         }
     }

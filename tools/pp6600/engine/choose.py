@@ -29,14 +29,14 @@ def engine_of(name: str, words: Sequence[str]) -> Engine:
     if path is None:
         from .plain_engine import PlainEngine
         return PlainEngine(words)
-    from .library import LibraryEngine
-    return LibraryEngine(path, words)
+    from .library import session_of
+    return session_of(path, words)
 
 
 def is_proved(engine: Engine) -> bool:
     """Returns whether an engine is the proved library."""
-    from .library import LibraryEngine
-    return isinstance(engine, LibraryEngine)
+    from .library import LibrarySession
+    return isinstance(engine, LibrarySession)
 
 
 @functools.lru_cache(maxsize=None)

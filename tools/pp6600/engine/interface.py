@@ -1,5 +1,4 @@
-"""What simulates, as the tools ask it: a session of the machine, by fifteen calls. Two engines have them, the proved library and the simulator
-in plain Python."""
+"""What simulates, as the tools ask it: a session of the machine. Two engines are one, the proved library and the simulator in plain Python."""
 
 from __future__ import annotations
 
@@ -45,11 +44,12 @@ class Rejection(Failure):
 
 
 class Counts(NamedTuple):
-    """How many actions are kept and ahead, and how many are kept at most."""
+    """How many actions can be undone, are ahead, and are kept at most; and whether the newest changed a watched number."""
 
     kept: int
     ahead: int
     capacity: int
+    changed: bool
 
 
 class Records(NamedTuple):
@@ -71,48 +71,41 @@ class Records(NamedTuple):
 class Engine(Protocol):
     """A session of the machine. Numbers of places are those of the flat order; `most` is at least 1."""
 
-    def answer(self, text: str) -> List[str]:
+    def answers(self, text: str) -> List[str]:
         """Performs lines of the console, and returns the lines of their answers."""
+
+    def perform(self, typed: bytes) -> None:
+        """Performs lines of actions, none of which is rejected."""
 
     def numbers(self, first: int, count: int) -> Sequence[int]:
         """Returns the numbers at places one after the other."""
 
     def counts(self) -> Counts: ...
 
-    def turns(self, most: int) -> Records:
-        """Makes turns, at most so many. It ends at a change of a watched number."""
+    def records(self, most: int, call: str = "turns") -> Records:
+        """Makes turns, at most so many. It ends at a change of a watched number. Or by "again" performs as many undone actions again."""
 
     def origins(self, most: int) -> Tuple[List[Origins], Records]:
-        """Makes turns as `turns` does. Returns also where each number that they wrote comes from."""
+        """Makes turns as `records` does. Returns also where each number that they wrote comes from."""
 
     def next_origins(self) -> Origins:
         """Returns the next turn, with where each number that its processor will write comes from. No turn is made."""
 
-    def looks(self, places: Sequence[int], most: int) -> Tuple[Sequence[int], int]:
-        """Makes turns as `turns` does. Returns the numbers at some places (1 to 16) after each of them, and how many turns they are."""
+    def looks(self, most: int, places: Sequence[int]) -> Tuple[List[List[int]], bool]:
+        """Makes turns as `records` does. Returns the numbers at some places (1 to 16) after each, and whether the last changed a watched one."""
 
-    def until(self, places: Sequence[int], numbers: Sequence[int], most: int, typed: bytes = b"") -> Tuple[int, Sequence[int]]:
-        """Performs lines, then makes turns as `turns` does, but up to the first after which the first of some places do not have these
-        numbers. Returns how many they are, and the numbers at all the places if that turn was made. More turns may have been made and
-        undone."""
-
-    def search(self, condition: Sequence[Form], most: int) -> Tuple[int, bool]:
+    def until(self, condition: Sequence[Form], most: int) -> Tuple[int, bool]:
         """Makes turns, at most so many, up to the first in which a condition comes to hold, whatever is watched. Returns how many they are,
         and whether it does in the last one."""
 
-    def search_back(self, condition: Sequence[Form]) -> int:
+    def back_until(self, condition: Sequence[Form]) -> int:
         """Goes back to the end of the last action before the newest in which a condition came to hold. Returns how many actions were
         undone; 0 if there is none that can be undone."""
 
-    def perform(self, typed: bytes) -> None:
-        """Performs lines of actions, none of which is rejected."""
+    def back(self, count: int) -> bool:
+        """Undoes actions, or by `forward` performs them again. Returns whether there were enough; if not, nothing is done."""
 
-    def again(self, count: int) -> Records:
-        """Performs undone actions again, and returns what each overwrote."""
-
-    def back(self, count: int) -> None: ...
-
-    def forward(self, count: int) -> None: ...
+    def forward(self, count: int) -> bool: ...
 
     def close(self) -> None: ...
 

@@ -1,5 +1,5 @@
-"""The proved simulator as a library of C, called in this process by ctypes: `LibrarySession` has its calls, and `LibraryEngine` is the engine of the
-tools over one. docs/LIBRARY.md and the header, pp6600.h, say what each call does."""
+"""The proved simulator as a library of C, called in this process by ctypes: `LibrarySession` has its calls. docs/LIBRARY.md and the header,
+pp6600.h, say what each call does."""
 
 from __future__ import annotations
 
@@ -11,13 +11,12 @@ from ctypes import byref, c_size_t, c_uint16, c_uint32, c_uint64
 from typing import Any, Dict, Iterator, List, NamedTuple, Optional, Sequence, Tuple
 
 from ..failure import Failure
-from . import interface
 from .choice import HOME, LIBRARIES, machine_here
-from .interface import Form, Records, Rejection
+from .interface import Counts, Form, Records, Rejection
 from .numbers_of_calls import checked, counted
 from .origins import LINK_BYTES, Origins, origins_of
 from .plain.lines import Rejected
-from .plain.program import FILE_BYTES, pieces, read_options, read_words
+from .plain.program import FILE_BYTES, USAGE, pieces, read_options, read_words
 
 DONE, ROOM, WATCHED, CLOSED, OPEN, NO_MEMORY, REFUSED, LIMIT, NOT_FOUND = range(9)
 MOST_OLDS = 76  # the most places that an action overwrites
@@ -42,14 +41,6 @@ class Answers(NamedTuple):
     lines: int
     refused: int
     taken: int
-
-
-class SessionCounts(NamedTuple):
-    """How many actions can be undone, are ahead, and are kept; and whether the newest changed a watched number."""
-    kept: int
-    ahead: int
-    capacity: int
-    changed: bool
 
 
 class Moment(NamedTuple):
@@ -91,7 +82,7 @@ class FormOfC(ctypes.Structure):
 
 
 CALLS = ("open", "answer", "numbers", "counts", "turns", "again", "looks", "back", "forward", "close")
-CALLS_OF_ORIGINS, CALLS_OF_SEARCHES = ("origins", "next_origins"), ("until", "back_until")  # which a library before 5.2 does not have
+LATER_CALLS = ("origins", "next_origins", "until", "back_until")  # which a library before 5.2 does not have
 
 
 def load(path: Optional[str] = None) -> Any:
@@ -148,14 +139,7 @@ def room_for(kind: Any, count: int) -> Any:
 
 def calls_of(library: Any) -> Sequence[str]:
     """Returns the names of the calls on a session that a library has."""
-    return (*CALLS, *(name for name in CALLS_OF_ORIGINS + CALLS_OF_SEARCHES if hasattr(library, f"pp6600_{name}")))
-
-
-def open_status(status: int) -> int:
-    """Returns the status of a call on a session that is open."""
-    if status == CLOSED:
-        raise Failure("the session is closed")
-    return status
+    return (*CALLS, *(name for name in LATER_CALLS if hasattr(library, f"pp6600_{name}")))
 
 
 class LibrarySession:
@@ -173,8 +157,6 @@ class LibrarySession:
         self.text: Any = ctypes.create_string_buffer(ANSWER_ROOM)  # kept from call to call, with what is said of an answer
         self.answered = c_size_t(), c_size_t(), c_uint32(), c_uint32()
         self.counted = tuple(map(byref, self.answered))
-        self.looked: Sequence[int] = ()  # the places of the latest looks, and for how many turns there is room
-        self.most_seen, self.is_watched = 0, False
         self.searched: Tuple[Form, ...] = ()  # the latest condition, and as C has it
         self.forms: Any = (FormOfC * 0)(), c_size_t()
         text, count, status = ctypes.create_string_buffer(TEXT_ROOM), c_size_t(), c_uint32()
@@ -188,7 +170,12 @@ class LibrarySession:
             raise Refused(text.raw[:count.value].decode("ascii"), status.value)
 
     def _call(self, name: str, *arguments: object) -> int:
-        return open_status(self.calls[name](*arguments))
+        if name not in self.calls:
+            raise Failure(f"the library is too old: it has no pp6600_{name}")
+        status: int = self.calls[name](*arguments)
+        if status == CLOSED:
+            raise Failure("the session is closed")
+        return status
 
     def __enter__(self) -> LibrarySession:
         return self
@@ -218,6 +205,19 @@ class LibrarySession:
             raise Failure("a line is too long for the library")
         return Answers(b"".join(texts), lines, refused, taken)
 
+    def answers(self, text: str) -> List[str]:
+        """Performs lines, also beyond the limits of a call. Returns the lines of their answers."""
+        typed, found = text.encode("latin-1"), b""
+        while typed:
+            answers = self.answer(typed, ANSWER_ROOM)
+            typed, found = typed[answers.taken:], found + answers.text
+        return found.decode("ascii").splitlines()
+
+    def perform(self, typed: bytes) -> None:
+        """Performs lines of actions. Fails if one is rejected."""
+        if self._call("answer", typed, c_size_t(len(typed)), self.text, c_size_t(ANSWER_ROOM), *self.counted) != DONE or self.answered[3].value:
+            raise Failure(f"the simulator refuses {typed.decode('latin-1')}")
+
     def numbers(self, first: int, count: int) -> List[int]:
         """Returns the numbers at consecutive places."""
         place, = checked("numbers", first)
@@ -227,40 +227,38 @@ class LibrarySession:
         numbers: List[int] = into[:]
         return numbers
 
-    def counts(self) -> SessionCounts:
+    def counts(self) -> Counts:
         """Counts the actions that the session keeps."""
         found = [c_uint32() for _ in range(4)]
         self._call("counts", *map(byref, found))
-        return SessionCounts(found[0].value, found[1].value, found[2].value, bool(found[3].value))
+        return Counts(found[0].value, found[1].value, found[2].value, bool(found[3].value))
 
     def turns(self, most: int) -> Tuple[List[Moment], bool]:
         """Performs turns, up to the first that changes a watched number. Returns them, and whether the last one did."""
-        _, made, records = self.recorded("turns", most, MOST_OLDS)
+        _, made, records = self._recorded("turns", most, MOST_OLDS)
         return moments_of(made, records), records.is_watched
 
     def again(self, count: int) -> Optional[List[Moment]]:
         """Performs undone actions again, and returns them; None if there are too few, and then none is performed."""
-        status, made, records = self.recorded("again", count, MOST_OLDS)
+        status, made, records = self._recorded("again", count, MOST_OLDS)
         return None if status == REFUSED else moments_of(made, records)
 
-    def records(self, most: int, pairs_of_turn: int = PAIRS_OF_TURN) -> Tuple[Sequence[int], Records]:
-        """As `turns`, in as few as the room of so many pairs for each turn makes it. Returns of each the processor and the number of places,
-        in turn, and what they overwrote."""
-        return self.recorded("turns", most, pairs_of_turn)[1:]
+    def records(self, most: int, call: str = "turns") -> Records:
+        """As `turns`, in as few as a usual room makes it, or by "again" as `again`. Returns what they overwrote."""
+        status, _, records = self._recorded(call, most, MOST_OLDS if call == "again" else PAIRS_OF_TURN)
+        if status == REFUSED:
+            raise Failure("the machine has fewer actions ahead")
+        return records
 
-    def recorded(self, call: str, most: int, pairs_of_turn: int) -> Tuple[int, Sequence[int], Records]:
-        """Makes a call that records actions, with room for so many pairs for each. Returns its status, and what `records` returns."""
+    def _recorded(self, call: str, most: int, pairs_of_turn: int) -> Tuple[int, Sequence[int], Records]:
+        """Makes a call that records actions, with room for so many pairs for each. Returns its status; of each action the processor and the
+        number of places, in turn; and what they overwrote."""
         at_most, = checked(call, most)
-        pairs = counted(pairs_of_turn) * most + MOST_OLDS
+        pairs = pairs_of_turn * counted(most) + MOST_OLDS
         made, olds, turns, used = room_for(c_uint32, 2 * most), room_for(c_uint64, 2 * pairs), c_size_t(), c_size_t()
         status = self._call(call, at_most, made, c_size_t(most), olds, c_size_t(pairs), byref(turns), byref(used))
         of_turns = array("I", memoryview(made).cast("B")[:8 * turns.value].tobytes())
         return status, of_turns, Records(of_turns[1::2], memoryview(olds).cast("B")[:16 * used.value].tobytes(), status == WATCHED)
-
-    @property
-    def has_origins(self) -> bool:
-        """Whether the library has the calls that say where numbers come from."""
-        return all(name in self.calls for name in CALLS_OF_ORIGINS)
 
     def origins(self, most: int) -> Tuple[List[Origins], Records]:
         """As `turns`, in as few as there is room for. Returns each with where the numbers that it wrote come from, and what they overwrote."""
@@ -283,31 +281,14 @@ class LibrarySession:
 
     def looks(self, most: int, places: Sequence[int]) -> Tuple[List[List[int]], bool]:
         """Performs turns as `turns` does. Returns the numbers at the places after each, and whether the last changed a watched number."""
-        turns, width = self.look(most, places), len(places)
-        numbers = self.seen[:turns * width].tolist()
-        return [numbers[at:at + width] for at in range(0, turns * width, width)], self.is_watched
-
-    def look(self, most: int, places: Sequence[int]) -> int:
-        """As `looks`, but returns how many turns; what was seen is in `seen`."""
-        checked("looks", most)
-        if most > self.most_seen or self.looked != tuple(places):
-            self._make_room(most, tuple(places))
-        self.most.value = most
-        status = self._looks()
-        if status > WATCHED:
-            open_status(status)
+        at_most, = checked("looks", most)
+        width, chosen = len(places), [one for place in places for one in checked("looks", place)]
+        into, turns = room_for(c_uint64, most * width), c_size_t()
+        status = self._call("looks", at_most, (c_uint32 * width)(*chosen), c_size_t(width), into, c_size_t(most * width), byref(turns))
+        if status == REFUSED:
             raise Failure("looks are at 1 to 16 places that the machine has")
-        self.is_watched = status == WATCHED
-        return int(self.answered[0].value)
-
-    def _make_room(self, most: int, places: Tuple[int, ...]) -> None:
-        """Makes room for the numbers at places after so many turns. What is passed in each call is converted once."""
-        for place in places:
-            checked("looks", place)
-        width, room = len(places), room_for(c_uint64, most * len(places))
-        self.looked, self.most_seen, self.most, self.seen = places, most, c_uint32(), memoryview(room).cast("B").cast("Q")
-        self._looks = functools.partial(self.calls["looks"], self.most, byref((c_uint32 * width)(*places)), c_size_t.from_param(width),
-                                        byref(room), c_size_t.from_param(most * width), self.counted[0])
+        numbers = memoryview(into).cast("B").cast("Q")[:turns.value * width].tolist()
+        return [numbers[at:at + width] for at in range(0, len(numbers), width)], status == WATCHED
 
     def until(self, condition: Sequence[Form], most: int) -> Tuple[int, bool]:
         """Performs turns, up to the first in which a condition comes to hold. Returns how many, and whether it does in the last one."""
@@ -321,8 +302,6 @@ class LibrarySession:
 
     def _search(self, call: str, condition: Sequence[Form], *most: object) -> bool:
         """Makes a call that searches. Returns whether it found something. The latest condition is converted once."""
-        if call not in self.calls:
-            raise Failure("the library has no searches: it is older than 5.2")
         if self.searched != tuple(condition):
             forms = [FormOfC(*(number.value for number in checked("form", *form))) for form in condition]
             self.searched, self.forms = tuple(condition), ((FormOfC * len(forms))(*forms), c_size_t(len(forms)))
@@ -340,91 +319,19 @@ class LibrarySession:
         return self._call("forward", *checked("forward", count)) == DONE
 
 
-class LibraryEngine:
-    """The proved engine of the tools: a session with the options of the program. It keeps its rooms from call to call."""
-
-    def __init__(self, path: str, words: Sequence[str]) -> None:
-        """The words are the options of the program."""
-        try:
-            given = read_words(words)
-            options: Dict[str, Any] = {**read_options(given)}
-            options.update((name, bytes_of(given[f"--{name}"], name.upper())) for name in ("deck", "panel") if f"--{name}" in given)
-        except Rejected as rejected:
-            status, text = rejected.args
-            raise Rejection(f"pp6600: {text}", status) from None
-        try:
-            self.session = LibrarySession(**options, path=path)
-        except Unloadable as failure:
-            raise Failure(f"{path} is not the library of the simulator: {failure.__cause__}") from failure
-        self.words, self.numbers, self.close = words, self.session.numbers, self.session.close
-        self._answer, self._refused, self._size = self.session.calls["answer"], self.session.answered[3], c_size_t()
-        self._answers = byref(self.session.text), c_size_t.from_param(ANSWER_ROOM), *self.session.counted
-
-    def answer(self, text: str) -> List[str]:
-        typed, found = text.encode("latin-1"), b""
-        while typed:  # beyond the limits of a call it goes on
-            answers = self.session.answer(typed, ANSWER_ROOM)
-            typed, found = typed[answers.taken:], found + answers.text
-        return found.decode("ascii").splitlines()
-
-    def perform(self, typed: bytes) -> None:
-        self._size.value = len(typed)
-        if self._answer(typed, self._size, *self._answers) != DONE or self._refused.value:
-            raise Failure(f"the simulator refuses {typed.decode('latin-1')}")
-
-    def counts(self) -> interface.Counts:
-        return interface.Counts(*self.session.counts()[:3])
-
-    def turns(self, most: int) -> Records:
-        return self.session.records(most)[1]
-
-    def origins(self, most: int) -> Tuple[List[Origins], Records]:
-        return self.session.origins(most)
-
-    def next_origins(self) -> Origins:
-        return self.session.next_origins()
-
-    def again(self, count: int) -> Records:
-        status, _, records = self.session.recorded("again", count, MOST_OLDS)
-        if status == REFUSED:
-            raise Failure("the machine has fewer actions ahead")
-        return records
-
-    def looks(self, places: Sequence[int], most: int) -> Tuple[Sequence[int], int]:
-        turns = self.session.look(most, places)
-        return array("Q", self.session.seen[:len(places) * turns].tobytes()), turns
-
-    def until(self, places: Sequence[int], numbers: Sequence[int], most: int, typed: bytes = b"") -> Tuple[int, Sequence[int]]:
-        if typed:
-            self.perform(typed)
-        made = same = self.session.look(most, places)
-        width, seen = len(places), self.session.seen
-        for at, number in enumerate(numbers):
-            column = seen[at:same * width:width].tolist()
-            alike = column.count(number)
-            if alike == same - 1 and column[alike] != number:  # mostly the last one
-                same = alike
-            elif alike < same:
-                same = next(turn for turn, one in enumerate(column) if one != number)
-        if same == made:
-            return made, ()
-        if same + 1 < made:
-            self.back(made - same - 1)
-        return same + 1, seen[same * width:same * width + width].tolist()
-
-    def search(self, condition: Sequence[Form], most: int) -> Tuple[int, bool]:
-        return self.session.until(condition, most)
-
-    def search_back(self, condition: Sequence[Form]) -> int:
-        return self.session.back_until(condition)
-
-    def back(self, count: int) -> None:
-        if not self.session.back(count):
-            raise Failure("the machine keeps fewer actions")
-
-    def forward(self, count: int) -> None:
-        if not self.session.forward(count):
-            raise Failure("the machine has fewer actions ahead")
+def session_of(path: str, words: Sequence[str]) -> LibrarySession:
+    """Begins a session with the options of the program."""
+    try:
+        given = read_words(words)
+        options: Dict[str, Any] = {**read_options(given)}
+        options.update((name, bytes_of(given[f"--{name}"], name.upper())) for name in ("deck", "panel") if f"--{name}" in given)
+    except Rejected as rejected:
+        status, text = rejected.args or (0, USAGE)  # if help is asked for
+        raise Rejection(f"pp6600: {text}", status) from None
+    try:
+        return LibrarySession(**options, path=path)
+    except Unloadable as failure:
+        raise Failure(f"{path} is not the library of the simulator: {failure.__cause__}") from failure
 
 
 def bytes_of(path: str, name: str) -> bytes:

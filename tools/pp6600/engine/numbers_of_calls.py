@@ -2,9 +2,10 @@
 
 from __future__ import annotations
 
+import functools
 import operator
 from ctypes import c_uint8, c_uint16, c_uint32, c_uint64
-from typing import Any, Dict, List
+from typing import Any, Dict, Tuple
 
 from ..failure import Failure
 
@@ -16,12 +17,13 @@ TYPES: Dict[int, Any] = {8: c_uint8, 16: c_uint16, 32: c_uint32, 64: c_uint64}
 MOST_OF_SIZE = 1 << 63  # no buffer has more elements
 
 
-def checked(call: str, *numbers: int) -> List[Any]:
+@functools.lru_cache(maxsize=1024, typed=True)
+def checked(call: str, *numbers: int) -> Tuple[Any, ...]:
     """Returns numbers of a call as C takes them. Fails if one has more bits than the call takes, or is less than 0."""
     for number, bits in zip(numbers, WIDTHS[call]):
         if not 0 <= operator.index(number) < 1 << bits:
             raise Failure(f"{number} is no number of {bits} bits")
-    return [TYPES[bits](number) for number, bits in zip(numbers, WIDTHS[call])]
+    return tuple(TYPES[bits](number) for number, bits in zip(numbers, WIDTHS[call]))
 
 
 def counted(count: int) -> int:

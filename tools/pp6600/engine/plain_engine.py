@@ -4,7 +4,7 @@ from __future__ import annotations
 
 import bisect
 from array import array
-from typing import Callable, Iterator, List, Optional, Sequence, Tuple
+from typing import Callable, Iterator, List, Optional, Sequence, Sized, Tuple
 
 from ..failure import Failure
 from . import interface as flat
@@ -51,7 +51,7 @@ class PlainEngine:
             raise Rejection(f"pp6600: {text}", status) from None
         self.machine = self.console.machine
 
-    def answer(self, text: str) -> List[str]:
+    def answers(self, text: str) -> List[str]:
         lines = text.encode("latin-1").split(b"\n")
         return [answer for line in (lines if lines[-1] else lines[:-1]) for answer in self.console.answer(line.removesuffix(b"\r"))]
 
@@ -66,9 +66,15 @@ class PlainEngine:
         return found
 
     def counts(self) -> Counts:
-        return Counts(len(self.machine.history), len(self.machine.ahead), self.machine.history.maxlen or 0)
+        history = self.machine.history
+        changed = bool(history) and self.console.hit(history[-1], self.console.watches()) is not None
+        return Counts(len(history), len(self.machine.ahead), history.maxlen or 0, changed)
 
-    def turns(self, most: int) -> Records:
+    def records(self, most: int, call: str = "turns") -> Records:
+        if call == "again":
+            self.forward(most)
+            history = self.machine.history
+            return records_of([history[at] for at in range(len(history) - most, len(history))], False)
         made = list(self._made(most))
         return records_of(made, self.is_watched)
 
@@ -86,29 +92,19 @@ class PlainEngine:
     def next_origins(self) -> Origins:
         return of_flat_places(origins.next_turn(self.machine))
 
-    def looks(self, places: Sequence[int], most: int) -> Tuple[Sequence[int], int]:
+    def looks(self, most: int, places: Sequence[int]) -> Tuple[List[List[int]], bool]:
         own, numbers = [own_place(place) for place in places], self.machine.numbers
-        found = array("Q")
-        for _ in self._made(most):
-            found.extend([numbers[place] for place in own])
-        return found, len(found) // len(places)
+        found = [[numbers[place] for place in own] for _ in self._made(most)]
+        return found, self.is_watched
 
-    def until(self, places: Sequence[int], numbers: Sequence[int], most: int, typed: bytes = b"") -> Tuple[int, Sequence[int]]:
-        self.perform(typed)
-        own, machine = [own_place(place) for place in places], self.machine.numbers
-        for made, _ in enumerate(self._made(most), 1):
-            if any(machine[place] != number for place, number in zip(own, numbers)):
-                return made, [machine[place] for place in own]
-        return made, []
-
-    def search(self, condition: Sequence[Form], most: int) -> Tuple[int, bool]:
+    def until(self, condition: Sequence[Form], most: int) -> Tuple[int, bool]:
         alternatives = alternatives_of(condition)
         for made in range(1, most + 1):
             if comes_to_hold(alternatives, self._done(self.machine.turn())):
                 return made, True
         return most, False
 
-    def search_back(self, condition: Sequence[Form]) -> int:
+    def back_until(self, condition: Sequence[Form]) -> int:
         alternatives, last = alternatives_of(condition), len(self.machine.history) - 1
         for undone in range(1, last + 1):
             self.machine.back()
@@ -138,21 +134,21 @@ class PlainEngine:
 
     def perform(self, typed: bytes) -> None:
         text = typed.decode("latin-1")
-        if not all(answer == "OK" for answer in self.answer(text)):
+        if not all(answer == "OK" for answer in self.answers(text)):
             raise Failure(f"the simulator refuses {text}")
 
-    def back(self, count: int) -> None:
-        for _ in range(count):
-            self.machine.back()
+    def back(self, count: int) -> bool:
+        return self._move(count, self.machine.history, self.machine.back)
 
-    def forward(self, count: int) -> None:
-        for _ in range(count):
-            self.machine.forward()
+    def forward(self, count: int) -> bool:
+        return self._move(count, self.machine.ahead, self.machine.forward)
 
-    def again(self, count: int) -> Records:
-        self.forward(count)
-        history = self.machine.history
-        return records_of([history[at] for at in range(len(history) - count, len(history))], False)
+    @staticmethod
+    def _move(count: int, actions: Sized, move: Callable[[], object]) -> bool:
+        is_enough = count <= len(actions)
+        for _ in range(count if is_enough else 0):
+            move()
+        return is_enough
 
     def close(self) -> None:
         """Nothing is to be given back."""

@@ -159,20 +159,31 @@ def parsed(text: str, symbols: Any = AllSymbols()) -> Condition:
     """Returns the condition of a text. An address may be a label of its processor."""
     condition, rest = first_of(text.split(), symbols)
     if rest:
-        raise Failure(f"{' '.join(rest)} is too much: {FORM}")
+        raise located(Failure(f"{' '.join(rest)} is too much: {FORM}"), text.split(), rest)
     return condition
+
+
+def located(failure: Failure, words: Sequence[str], rest: Sequence[str]) -> Failure:
+    """Returns what is wrong with the words of a condition, of which these are left, with the column (decimal) of the word that it begins with,
+    or else of the first one left."""
+    wrong = str(failure).split()[0]
+    at = len(words) - len(rest) + (rest.index(wrong) if wrong in rest else 0)
+    return Failure(f"{failure}, at column {len(' '.join([*words[:at], '']) if at else '') + 1}")
 
 
 def first_of(words: List[str], symbols: Any = AllSymbols()) -> Tuple[Condition, List[str]]:
     """Returns the condition that the words begin with, and the words after it."""
     alternatives: List[List[AnyTest]] = []
-    words = ["or", *words]
+    given, words = words, ["or", *words]
     while words and words[0].lower() in ("or", "and"):
         if words[0].lower() == "or":
             alternatives.append([])
-        if len(alternatives[-1]) == MOST_TESTS:
-            raise Failure(f"at most {MOST_TESTS:o} tests are joined by and")
-        test, words = first_test(words[1:], symbols)
+        try:
+            if len(alternatives[-1]) == MOST_TESTS:
+                raise Failure(f"at most {MOST_TESTS:o} tests are joined by and")
+            test, words = first_test(words[1:], symbols)
+        except Failure as failure:
+            raise located(failure, given, words[1:]) from None
         alternatives[-1].append(test)
     return Condition(alternatives), words
 

@@ -62,7 +62,7 @@ class Console:
         """Returns the lines of the answer to any line of a script, without their ends. A rejected line has the one line ERR .."""
         if self.is_ended:
             raise Failure("the simulator has ended")
-        answer = self.engine.answer(f"{line}\n")
+        answer = self.engine.answers(f"{line}\n")
         self.has_refused = self.has_refused or is_refusal(answer)
         return answer
 
@@ -72,7 +72,7 @@ class Console:
 
     def ask_all(self, lines: Iterable[str]) -> List[str]:
         """Returns the lines of the answers to all lines, one after the other."""
-        return self.engine.answer("".join(f"{line}\n" for line in lines))
+        return self.engine.answers("".join(f"{line}\n" for line in lines))
 
     def demand(self, line: str) -> List[str]:
         """Returns the answer to a line that must not be refused."""

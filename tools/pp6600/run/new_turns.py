@@ -8,15 +8,14 @@ from __future__ import annotations
 from typing import Dict, List, Optional, Sequence, Tuple
 
 from ..engine import interface as flat
-from ..engine.interface import Engine
+from ..engine.interface import CHANGES, OUTSIDE, Engine, Form
+from .conditions import joined
 from .device import Channel, Event, Reply, Value, called, looked
 from .forms import CHANNELS, Place
 from .past import Past
 from .tape import Action, Position, Tape
 
 MOST_AT_ONCE = 4096  # turns
-MOST_LOOKED = 16  # places
-NOTHING_SEEN: Sequence[int] = ()
 Channels = Sequence[Channel]
 
 
@@ -33,9 +32,6 @@ class NewTurns:
         self.new: List[Tuple[List[int], List[Value]]] = [([], []) for _ in pasts]  # those that came, with their positions
         self.gap, self.changed = 1, self.turn  # turns between the last two changes of a channel, and the turn of the last one
         self.channels = [past.device.channel for past in pasts]
-        states = [flat.STATES + channel for channel in self.channels] or [flat.SLOT]
-        registers = [flat.REGISTERS + channel for channel in self.channels]
-        self.looked = [*states, *registers] if 2 * len(states) <= MOST_LOOKED else states
         self.states = [value.seen[0] for value in self.values]  # of the channels, as the devices left them
         self._see_dues()
 
@@ -51,50 +47,57 @@ class NewTurns:
         is_new = self._now() != [value.seen for value in self.values]  # after a SET or a DEADSTART there is something to see
         while self.turn < end and hit is None:
             is_regular = len(self.pasts) == 1 and self.changed == self.turn and self.due is None and not (is_new or watched)
-            row = self._regular_words(end) if is_regular else self._turns(1 if is_new else min(self._expected(), end - self.turn))
+            now = self._regular_words(end) if is_regular else self._turns(1 if is_new else min(self._expected(), end - self.turn), watched)
             hit = self._hit(watched) if watched else None
-            if row or is_new or self.due is not None and self.due <= self.turn:
-                now = self._changed(row) if row else self._now()
+            if now:
+                self.gap, self.changed = min(self.turn - self.changed, self.room), self.turn
+            if now or is_new or self.due is not None and self.due <= self.turn:
+                now = now or self._now()
                 self._look(now)
                 hit = self._hit_with_replies(watched, hit, now) if watched else None
             is_new = False
         return hit
 
-    def _turns(self, most: int) -> Sequence[int]:
-        """Makes turns up to the first that changes the state of a channel, or to a HIT, at most so many. Returns the numbers looked at if
-        one did."""
-        count, row = self.engine.until(self.looked, self.states, most)
+    def _turns(self, most: int, watched: Sequence[Place]) -> Optional[Channels]:
+        """Makes turns up to the first that changes the state of a channel, or a watched number, at most so many. Returns the channels if one
+        changed a state. An instruction that changes a channel changes its state."""
+        leaves = [[is_another(channel, state)] for channel, state in zip(self.channels, self.states)]
+        count, is_found = self.engine.until(joined([*leaves, *([Form(CHANGES, place.number, 1)] for place in watched)]), most)
         self.turn += count
-        return row
+        now = self._now() if is_found else ()
+        return now if any(state != old for (state, _), old in zip(now, self.states)) else None
 
-    def _regular_words(self, end: int) -> Sequence[int]:
-        """Makes turns and the replies of the one device, as long as a reply comes after as many turns as the one before. Returns the numbers
-        looked at if a state changed otherwise."""
-        past, gap, value, turn = self.pasts[0], self.gap, self.values[0], self.turn
-        device, until, looked_at, states = past.device, self.engine.until, self.looked, self.states
+    def _regular_words(self, end: int) -> Optional[Channels]:
+        """Makes turns and the replies of the one device, as long as a reply comes after as many turns as the one before. Returns its channel
+        if its state changed otherwise."""
+        past, gap, value, turn, engine, channel = self.pasts[0], self.gap, self.values[0], self.turn, self.engine, self.channels[0]
+        device, (state,) = past.device, self.states
         values: List[Value] = []
         replies: List[Action] = []
-        typed, row = b"", NOTHING_SEEN
+        typed, now = b"", None
         try:
             while turn < end:
-                count, row = until(looked_at, states, gap if turn + gap < end else end - turn, typed)
+                self._perform(typed)
+                count, is_found = engine.until((is_another(channel, state),), min(gap, end - turn))
                 typed, turn = b"", turn + count
-                if count != gap or not row:
+                if not is_found:
                     break
-                state, word = row
-                new, reply = looked(device, value, (state, word), turn)
+                numbers = engine.numbers(flat.STATES + channel, CHANNELS + 1)
+                now = [(numbers[0], numbers[CHANNELS])]
+                new, reply = looked(device, value, now[0], turn) if count == gap else (value, None)
                 if reply is None or new.due is not None:
                     break  # the device is asked once more
-                value, row = new, NOTHING_SEEN
+                value, now = new, None
                 action, typed = past.action(reply)
                 values.append(value)
                 replies.append(action)
-                states[0] = value.seen[0]
+                state = value.seen[0]
         finally:
             self.turn = turn
             self._perform(typed)
+            self.states[0] = state
             self._note_words(gap, replies, values)
-        return row
+        return now
 
     def _note_words(self, gap: int, replies: Sequence[Action], values: Sequence[Value]) -> None:
         """Notes replies that came after so many turns each."""
@@ -112,12 +115,6 @@ class NewTurns:
         quiet = self.turn - self.changed
         expected = self.gap - quiet if self.gap > quiet else min(quiet + 1, self.room)
         return expected if self.due is None else min(expected, max(self.due - self.turn, 1))
-
-    def _changed(self, row: Sequence[int]) -> Channels:
-        """Returns the channels after a turn that has changed the state of one. An instruction that changes a channel changes its state."""
-        self.gap, self.changed = min(self.turn - self.changed, self.room), self.turn
-        devices = len(self.channels)
-        return list(zip(row[:devices], row[devices:])) if len(row) > devices else self._now()
 
     def _now(self) -> Channels:
         """Returns the channels of the devices."""
@@ -194,6 +191,11 @@ class NewTurns:
 
     def _digits(self, places: Sequence[Place]) -> List[str]:
         return [f"{self.engine.numbers(place.number, 1)[0]:0{place.digits}o}" for place in places]
+
+
+def is_another(channel: int, state: int) -> Form:
+    """Returns the test whether a channel has another state."""
+    return Form(OUTSIDE, flat.STATES + channel, state, state)
 
 
 def value_told(past: Past, value: Value, what: object, now: Channel, turn: int) -> Tuple[Value, Optional[Reply]]:

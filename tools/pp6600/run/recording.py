@@ -29,7 +29,7 @@ def overwritten(records: Records) -> Dict[int, int]:
 
 def next_turn(run: Session) -> Tuple[Dict[int, int], Numbers]:
     """Makes the next turn of the tape. Returns what it overwrote, and the numbers after it."""
-    was = overwritten(run.engine.turns(1))
+    was = overwritten(run.engine.records(1))
     run.history.performed(1)
     return was, Numbers(run)
 
@@ -37,7 +37,7 @@ def next_turn(run: Session) -> Tuple[Dict[int, int], Numbers]:
 def next_changes(run: Session, count: int = 1) -> Dict[int, int]:
     """Returns the present numbers at the places where they are others after the next actions, so many, which the engine has undone. They are
     performed again, and undone."""
-    was, now = overwritten(run.engine.again(count)), Numbers(run)
+    was, now = overwritten(run.engine.records(count, "again")), Numbers(run)
     found = {place: number for place, number in was.items() if number != now[place]}
     run.engine.back(count)
     return found

@@ -33,7 +33,7 @@ Forms = Sequence[Form]
 def first_turn(run: Session, condition: Forms, most: int) -> bool:
     """Makes turns of a run, at most so many and as many as it keeps, up to the first in which a condition comes to hold. Returns whether it
     does."""
-    made, is_found = run.engine.search(condition, min(most, run.history.room))
+    made, is_found = run.engine.until(condition, min(most, run.history.room))
     run.history.performed(made)
     return is_found
 
@@ -170,7 +170,7 @@ def last_kept(run: Session, condition: Forms, first: Position) -> bool:
     most = run.position - first
     if most <= 0 or holds_in_latest(run, condition):
         return most > 0
-    undone = run.engine.search_back(condition)
+    undone = run.engine.back_until(condition)
     if undone >= most:
         run.engine.forward(undone)
         return False

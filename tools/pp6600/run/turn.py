@@ -1,4 +1,4 @@
-"""The instruction table, and what is read from it.
+"""What is read from the instruction table: names and words are those of the second simulator, which the tests compare with the library's.
 
 `Processor` is a processor before a turn: which instruction it will perform, whether that waits as the channels are, and where its operand
 is. No number is computed here but addresses: each is read from the simulator. What a turn wrote, and from what, the engines say.
@@ -9,13 +9,12 @@ from __future__ import annotations
 from typing import Callable, Dict, List, NamedTuple, Optional, Sequence, Tuple
 
 from ..engine import interface as flat
+from ..engine.plain.instructions import CODES, TWO_WORDS
 from .forms import CELLS, CLOCK, PROCESSORS, Place, Registers
 
 Cell = Callable[[int], int]  # the number in a cell of a processor, by its address
 
-NAMES = ("PSN LJM RJM UJN ZJN NJN PJN MJN SHN LMN LPN SCN LDN LCN ADN SBN LDC ADC LPC LMC PSN PSN EXN RPN LDD ADD SBD LMD STD RAD AOD SOD "
-         "LDI ADI SBI LMI STI RAI AOI SOI LDM ADM SBM LMM STM RAM AOM SOM CRD CRM CWD CWM AJM IJM FJM EJM IAN IAM OAN OAM ACN DCN FAN FNC").split()
-TWO_WORDS = (0o01, 0o02, *range(0o20, 0o24), *range(0o50, 0o60), 0o61, 0o63, *range(0o64, 0o70), 0o71, 0o73, 0o77)
+NAMES = [name[3:] for name, _, _ in CODES]
 # The states of channel d in which an instruction completes, or a later turn of a block goes on or ends; all others never wait.
 COMPLETES = {0o70: "F", 0o72: "E", 0o74: "I", 0o75: "EFX", 0o76: "I", 0o77: "I"}
 BLOCK_GOES_ON = {0o71: "IF", 0o73: "IE"}

@@ -55,10 +55,10 @@ class Side:
             run.goto(start)
             while run.position < end:
                 first, own = run.turn + 1, (number - run.next_slot) % PROCESSORS
-                addresses, made = run.engine.looks([P + number], min(end - run.position, run.history.room))
-                run.history.performed(made)
-                for at in range(own, made, PROCESSORS):
-                    yield first + at, names and address_name(names, addresses[at]) or addresses[at]
+                rows, _ = run.engine.looks(min(end - run.position, run.history.room), [P + number])
+                run.history.performed(len(rows))
+                for at in range(own, len(rows), PROCESSORS):
+                    yield first + at, names and address_name(names, *rows[at]) or rows[at][0]
 
 
 class Comparison:

@@ -134,7 +134,7 @@ class Touches:
         those of them that may have touched the channel."""
         run = self.run
         run.goto(begin)
-        records = run.engine.turns(min(end - begin, run.history.room))
+        records = run.engine.records(min(end - begin, run.history.room))
         run.history.performed(len(records.counts))
         end = run.position
         places = array("I", records.olds)[::4].tobytes().decode("utf-32-le", "surrogatepass")  # a character each, so that few are looked at

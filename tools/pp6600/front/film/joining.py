@@ -1,4 +1,4 @@
-"""Joins ES modules into scripts: each becomes a function that returns what it exports, after those that it imports.
+"""Joins ES modules into one script: each becomes a function that returns what it exports, after those that it imports.
 
 A module imports by `import { a, b } from "./other.js";` on one line, and exports by `export` before a const, a class or a function. A
 cycle, another form, or the import of a name that is not exported is an error."""
@@ -7,12 +7,10 @@ from __future__ import annotations
 
 import os
 import re
-from typing import Dict, List, Mapping, NamedTuple, Tuple
+from typing import Dict, List, NamedTuple, Tuple
 
 IMPORT = re.compile(r'^import \{ ([^}]+) \} from "(\.[^"]+)";\n', re.M)
 EXPORT = re.compile(r"^export ((?:async )?function|class|const) (\w+)(.*)$", re.M)
-COMMENT = re.compile(r"^\s*//.*\n| +// [^\"'`\n]*$", re.M)  # a line that is one, or behind code and without a quote; a joined script has none
-INDENT = re.compile(r"^( +)\1", re.M)  # of which a joined script has half
 MORE_NAMES = re.compile(r", ([A-Z][A-Z_0-9]*) = ")  # of `const A = 1, B = 2;`
 UNKNOWN = re.compile(r"^(?:import|export)\b.*$", re.M)
 
@@ -29,28 +27,17 @@ class JoinError(ValueError):
     """The modules can't be joined."""
 
 
-def joined(paths: Mapping[str, str]) -> Dict[str, str]:
-    """Returns the scripts of several first modules by their names, each of the modules that it imports; and as `shared` the script of those
-    that more than one of them imports, which comes before."""
-    all_modules = {name: in_order(path) for name, path in paths.items()}
-    every = {path: module for modules in all_modules.values() for path, module in modules.items()}
-    root = os.path.commonpath([os.path.dirname(path) for path in every])
-    shared = {path for path in every if sum(path in modules for modules in all_modules.values()) > 1}
-    script = lambda modules: '"use strict";\n' + "".join(function_of(path, module, root) for path, module in modules.items())
-    own = {name: script({path: module for path, module in modules.items() if path not in shared}) for name, modules in all_modules.items()}
-    return {**own, "shared": script({path: module for path, module in every.items() if path in shared})}
-
-
-def in_order(path: str) -> Dict[str, Module]:
-    """Returns a module and all that it imports by their paths, each behind those that it imports."""
+def joined(path: str) -> str:
+    """Returns the script of a module and of all that it imports."""
     order: Dict[str, Module] = {}
     add(os.path.normpath(path), order, ())
-    return order
+    root = os.path.commonpath([os.path.dirname(one) for one in order])
+    return '"use strict";\n' + "".join(function_of(one, module, root) for one, module in order.items())
 
 
 def function_of(path: str, module: Module, root: str) -> str:
     heads = "".join(f"const {{ {', '.join(names)} }} = {name_of(other, root)};\n" for other, names in module.imports.items())
-    body = INDENT.sub(r"\1", COMMENT.sub("", EXPORT.sub(r"\1 \2\3", IMPORT.sub("", module.text)))).strip("\n") + "\n"
+    body = EXPORT.sub(r"\1 \2\3", IMPORT.sub("", module.text)).strip("\n") + "\n"
     return f"const {name_of(path, root)} = (() => {{\n{heads}{body}return {{ {', '.join(module.exports)} }};\n}})();\n"
 
 

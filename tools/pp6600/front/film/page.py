@@ -25,7 +25,7 @@ from ..keys import for_page
 from .joining import joined
 
 WEB = os.path.join(os.path.dirname(os.path.abspath(__file__)), "web")
-FIRST = {"engine": os.path.join(WEB, "engine", "worker.js"), "view": os.path.join(WEB, "page", "main.js")}  # modules of the worker and of the page
+FIRST = {"engine": ("engine", "worker.js"), "view": ("page", "main.js")}  # modules of the worker and of the page
 
 
 class Files(NamedTuple):
@@ -40,10 +40,11 @@ def page(title: str, module: bytes, about: Dict[str, Any]) -> str:
     """Returns the page; `module` is the simulator, and `about` what the page has to know, as JSON takes it. What the browser keeps of it
     is kept under the checksum of `about`."""
     data = json.dumps({**about, "title": title}, separators=(",", ":")).encode("ascii")
-    scripts = {name: f"\n{text}" for name, text in joined(FIRST).items()}
-    engine = packed(scripts.pop("engine").encode("utf-8"))
-    parts = {"title": html.escape(title), "sum": hashlib.sha256(data).hexdigest()[:16], "style": web("page.css"), "film": packed(data),
-             "simulator": packed(module), "engine": engine, **scripts, "scripts": " ".join(f"'sha256-{checksum(scripts[name])}'" for name in ("shared", "view"))}
+    scripts = {name: joined(os.path.join(WEB, *place)) for name, place in FIRST.items()}
+    first = f"\n{web('first.js')}\n"
+    parts = {"title": html.escape(title), "sum": hashlib.sha256(data).hexdigest()[:16], "style": web("page.css"), "first": first,
+             "checksums": " ".join(f"'sha256-{checksum(script)}'" for script in (first, scripts["view"])), "film": packed(data),
+             "simulator": packed(module), **{name: packed(script.encode("utf-8")) for name, script in scripts.items()}}
     return re.sub(r"<!--(\w+)-->|/\*--(\w+)--\*/", lambda mark: parts[mark[1] or mark[2]], web("page.html")) + "\n"
 
 
@@ -66,7 +67,7 @@ def packed(data: bytes) -> str:
 
 def tables() -> Dict[str, Any]:
     """Returns what it has to know of every machine: the one table of instructions, and the sentences about turns."""
-    return {"names": NAMES, "two_words": TWO_WORDS, "relative_jumps": list(RELATIVE_JUMPS), "symbols": SYMBOLS,
+    return {"names": NAMES, "two_words": sorted(TWO_WORDS), "relative_jumps": list(RELATIVE_JUMPS), "symbols": SYMBOLS,
             "modes": {"reader": MODES["CR MODE"], "printer": MODES["LP MODE"]},
             "states": list(zip(STATES, ("inactive", "empty", "full", "function"))), "waits_for": WAITS_FOR,
             "goes_on_in": {"instruction": COMPLETES, "block": BLOCK_GOES_ON},

@@ -1,29 +1,20 @@
-"""The panel: a session, what is looked at, and what a key does: it sends lines, moves the cursor, begins a count or a line, or
-opens a page."""
+"""The keys of the panel: a key sends lines, moves the cursor, begins a count or a line, or opens a page."""
 
 import os
 import re
 import time
 
 from ...failure import Failure
-from ...language.calls import calls, sentence
-from ...language.origin_text import MOST_STEPS, origin_rows
-from ...run.device import DeviceFailure
 from ...run.forms import KINDS
 from ...run.names import AllSymbols
-from ...run.searches import Stopped, last_before, next_found, turn_of_line_before, turn_of_next_line
-from ...run.session import REPLAYED
+from ...run.searches import last_before, next_found, turn_of_line_before, turn_of_next_line
 from ...run.state import Memory
 from ...shell.keyboard import FIRST_WORDS, card
 from ..keys import ARROWS, PAGES, PANEL
-from .key_lines import LINES, help_lines, to_turn
-from .picture_page import PicturePage, devices_that
+from .display import Display
+from .key_lines import LINES, to_turn
+from .picture_page import devices_that
 from .prompt import Prompt
-from .remarks import in_width, remarks
-from .screen import LEAST_COLUMNS, LEAST_ROWS, ScreenContent, folded_processors, is_too_small, layout, log_lines, screen
-from .text import MarkedLine
-from .text_page import TextPage
-from .view import View
 
 MOST_COUNT_DIGITS = 10
 LONG_ANSWER = 2  # lines; a longer answer is shown on a page
@@ -31,84 +22,16 @@ MOVES = {*ARROWS.values(), *PAGES}  # actions that move the cursor
 NEW_ACTIONS = (["SET"], ["STEP"], ["WATCH"], ["UNWATCH"], ["DEADSTART"])  # the first words of their lines
 
 
-class Panel:
+class Panel(Display):
+    """What a key does. Before it a count may be typed, and after it a line."""
+
     def __init__(self, session, symbols=AllSymbols()):
-        """The symbols are the labels and the texts of listings, for each processor."""
-        self.session, self.symbols = session, symbols
-        self.view = View(processor=next((number for number, _ in symbols.sources()), 0))
-        self.columns, self.rows = LEAST_COLUMNS, LEAST_ROWS
-        self.count = self.message = ""
-        self.prompt = self.page = None
+        super().__init__(session, symbols)
+        self.count = ""
         self.typed = {action: [] for action in PROMPTS}
         self.typed["back-until"] = self.typed["until"]
         self.asked = []  # lines that would discard what is ahead
         self.is_asked_to_quit = self.is_ended = False
-        self.show = lambda: None  # draws the screen
-        self.is_stopped = lambda: False  # by the operator
-        self.shown_at, self.between_reports = 0.0, 0.2  # seconds
-        self.see()
-
-    def perform_script(self, lines, turn=None):
-        """Performs the lines of a script, and goes to the turn if there is one."""
-        try:
-            whole = self.session.perform_script(lines, self.stops)
-            self.message = "" if whole else f"the script was stopped after {len(self.session.sent)} (decimal) lines"
-            if whole and turn is not None:
-                self.go_to_turn(f"{turn:o}")
-        except DeviceFailure as failure:
-            self.take_failure(failure)
-        self.see()
-
-    def stops(self, done, total):
-        """Shows now and then how many lines are done. Returns whether the operator stops them."""
-        self.report(f"{done} of {total} (decimal) lines are done; Ctrl-C stops after the next one")
-        return self.is_stopped()
-
-    def report(self, text):
-        """Shows a text, if the last one was shown a while ago. Returns whether it did."""
-        if time.monotonic() - self.shown_at <= self.between_reports:
-            return False
-        self.message = text
-        self.show()
-        self.shown_at = time.monotonic()
-        return True
-
-    def report_search(self, turn, whole=""):
-        """Shows now and then how far a search is, and ends it if the operator stops it; of one back it is said how many turns
-        the `whole` run has."""
-        if self.report(f"searched {whole and 'back '}to turn {turn:o}{whole}; Ctrl-C stops") and self.is_stopped():
-            raise Stopped
-
-    # ---- what is shown
-
-    def resize(self, columns, rows):
-        self.columns, self.rows = columns, rows
-        self.see()
-
-    def memory_rows(self):
-        folded = folded_processors(self.columns, self.session.state, self.session.before, self.view)
-        return layout(self.columns, self.rows, self.view.is_by_rows, len(folded)).memory
-
-    def source(self, is_needed=True):
-        """Returns the source of the chosen processor, if it has one; else None, or a failure if an action needs it."""
-        number, sources = self.view.processor, dict(self.symbols.sources())
-        if is_needed and number not in sources:
-            raise Failure(f"PP {number:02o} has no source: the option --source {number:o} FILE loads one")
-        return sources.get(number)
-
-    def see(self):
-        """Moves the windows to their cursors."""
-        if not is_too_small(self.columns, self.rows):
-            self.view.source = self.source(False) if self.view.as_source else None
-            self.view.scroll(self.session.state, self.memory_rows(), self.session.size)
-
-    def screen(self):
-        if self.page:
-            return self.page.screen(self.columns, self.rows)
-        session, history = self.session, self.session.history
-        content = ScreenContent(session.state, session.before, self.view, history.turns, history.kept, history.to_redo, session.size,
-                                session.log, self.message, self.prompt and self.prompt.shown(), self.symbols)
-        return screen(content, self.columns, self.rows)
 
     # ---- keys
 
@@ -127,12 +50,6 @@ class Panel:
         except Failure as failure:
             self.take_failure(failure)
         self.see()
-
-    def take_failure(self, failure):
-        """Shows why something can't be done. If a device failed, the machine is where it was."""
-        self.message = str(failure)
-        if isinstance(failure, DeviceFailure):
-            self.session.look_again()
 
     def press_alone(self, key):
         """Performs a key outside a line and a page."""
@@ -171,58 +88,6 @@ class Panel:
         self.is_asked_to_quit = True
         self.message = "the session is not saved: w FILE saves what was sent, q again quits"
 
-    # ---- keys that send nothing
-
-    def toggle_source(self):
-        """Shows the source, or the cells."""
-        self.view.as_source = bool(self.source()) and not self.view.as_source
-
-    def toggle_central(self):
-        """Shows central memory beside the source, or no longer."""
-        if self.source() and self.view.source is None:
-            raise Failure("central memory is beside the cells; m shows the source")
-        self.view.toggle_central()
-
-    def show_log(self):
-        self.page = TextPage("All lines and answers", log_lines(self.session.log), at_end=True)
-
-    def show_keys(self):
-        self.page = TextPage("The keys of the panel", list(map(MarkedLine, help_lines())))
-
-    def show_origin(self):
-        """Opens the page of where the number at the cursor came from. Enter goes to before the action that wrote the number of a step."""
-        history, place, position = self.session.history, self.view.cursor, self.session.simulator.position
-
-        def searched(reached):
-            self.report_search(history.tape.turn(reached), f" of {history.turns:o}")
-
-        with self.session.search() as run:
-            rows = origin_rows(run, place, position, MOST_STEPS, False, searched, symbols=self.symbols)
-
-        def go_before(at):
-            self.page, (step, text) = None, rows[at]
-            if not (step and step.position):
-                raise Failure(f"nothing wrote it: {text.strip()}")
-            self.send([f"BACK {history.over(position - step.position + 1):o}"])
-
-        title, lines = f"Where the number at {place.text} came from", [MarkedLine(text) for _, text in rows]
-        self.page = TextPage(title, lines, choose=go_before, closes="c")
-
-    def show_calls(self):
-        """Opens the page of the subroutines that the chosen processor is in."""
-        number, source = self.view.processor, self.source()
-        with self.session.search() as run:
-            found = calls(run, number, source, self.session.simulator.position)
-            lines = [MarkedLine(sentence(run, number, call, self.symbols)) for call in found]
-        none = [MarkedLine("none that was called and has not returned")]
-        self.page = TextPage(f"The subroutines that PP {number:02o} is in", lines or none)
-
-    def show_pictures(self):
-        page = PicturePage(self)
-        if not page.devices:
-            raise Failure("no device shows a picture; --device console_display@10 is one that does")
-        self.page = page
-
     # ---- lines that are sent
 
     def send(self, lines):
@@ -232,11 +97,6 @@ class Panel:
             self.asked = lines
             raise Failure(f"{lines[0]} discards the {ahead:o} actions ahead: y sends it, any other key does not")
         self.send_at_once(lines)
-
-    def send_at_once(self, lines):
-        """Sends lines, and shows what is to be said about them."""
-        outcome = self.session.perform(lines, self.stops)
-        self.message = in_width(remarks(self.session, outcome, self.view.cursor, self.symbols), self.columns)
 
     def press_when_asked(self, key):
         """Performs the key that says whether what is ahead may be discarded."""
@@ -274,22 +134,6 @@ class Panel:
         elif words:
             place = self.symbols.place_in_digits([words[0].upper(), *words[1:]])
             self.view.go_to(text if place[1:] == words[1:] else " ".join(place), self.session.size)
-
-    def go_to_turn(self, text):
-        """Goes to a turn that was made."""
-        if not re.fullmatch("[0-7]{1,20}", text):
-            raise Failure(f"{text or 'nothing'} is no turn: give an octal number, as 405")
-        turn, last = int(text, 8), self.session.history.last_turn
-        if turn > last:
-            raise Failure(f"there is no turn {turn:o} yet: the last one is {last:o}")
-        self.show_turn(turn)
-
-    def show_turn(self, turn, *said):
-        """Goes to a turn, and shows what is to be said of it."""
-        replays = self.session.simulator.replays
-        self.session.to_turn(turn)
-        more = [f"{REPLAYED} in a fresh simulator"] if self.session.simulator.replays > replays else []
-        self.message = in_width([*said, *more], self.columns)
 
     def go_to_found(self, text, find=next_found):
         """Goes to the next turn at which a condition comes to hold, or the last one before; without a text, that typed before."""

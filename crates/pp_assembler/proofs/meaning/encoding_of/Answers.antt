@@ -1,5 +1,4 @@
-use Rattle.std.proofs.Common.{rules, ◌≡◌}
-use Rattle.pp_assembler.specs.Meaning.{IsWordsOf}
+use Rattle.std.proofs.Common.{rules}
 use Rattle.pp_assembler.proofs.meaning.encoding_of.Goals as goal
 
 pub returns-in-Some-2 : goal.returns-in-Some-2

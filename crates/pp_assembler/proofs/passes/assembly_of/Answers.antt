@@ -1,7 +1,7 @@
 use Rattle.std.proofs.Common.{rules, ◌≡◌, IfSome, Option, Some, None, List, []}
-use Rattle.pp_assembler.specs.declared.message.Complaint.{Complaint}
+use Rattle.pp_source.specs.declared.message.Complaint.{Complaint}
 use Rattle.pp_assembler.specs.declared.program.Performed.{Performed}
-use Rattle.pp_assembler.specs.Meaning.{AreMeant, IsMeantBy}
+use Rattle.pp_assembler.specs.Meaning.{AreMeant}
 use Rattle.pp_assembler.proofs.passes.assembly_of.Goals as goal
 use Rattle.pp_assembler.proofs.passes.assembly_of.Goals.{in-Some, in-None+in_ok-messages-in-None}
 
@@ -14,8 +14,8 @@ pub returns-clause-meaning : goal.returns-clause-meaning
 returns-clause-meaning c found =
     elim c.match-made.branch [
       | in-Some w ↦
-          without_messages (AreMeant c.args.lines c.args.pass.rows.items c.output_of-program.result.0 c.output_of-program.result.1.items)
+          without_messages (AreMeant c.args.lines c.args.pass.scope.rows.items c.output_of-program.result.0 c.output_of-program.result.1.items)
           c.match-made.messages.items c.output_of-program.result.2 (search rules)
-          (c.output_of-program.ensures c.args.lines c.args.pass.rows.items found)
+          (c.output_of-program.ensures c.args.lines c.args.pass.scope.rows.items found)
       | in-None+in_ok-messages-in-None w ↦ rw w.in-None.is (search rules)
     ]

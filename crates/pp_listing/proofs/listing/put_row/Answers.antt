@@ -2,7 +2,7 @@ use Rattle.std.proofs.Common.{◌≡◌, ◌∙◌, ◌<◌, ◌≤◌, ◌∷�
 use Rattle.pp_listing.specs.Listing.{address_fields, further_lines, listed_row, text_of, two_on, value_field, without_tabs, words_field}
 use Rattle.pp_notation.specs.Columns.{ended}
 use Rattle.pp_listing.specs.Texts.{row_words}
-use Rattle.pp_assembler.specs.declared.pass.Row.{Row}
+use Rattle.pp_statements.specs.declared.scope.Row.{Row}
 use Rattle.pp_assembler.specs.declared.program.Assembly.{Assembly}
 use Rattle.pp_listing.proofs.listing.put_row.Goals as goal
 

@@ -37,8 +37,7 @@ function returnsOf({ n, entries }) {
   const stored = new Map(), jumpOf = new Map(entries.map(([jump, cell]) => [cell + 1, jump]));
   return (session) => {
     session.back(1);
-    const { address, word, kind } = session.nextOrigins();
-    session.forward(1);
+    const [, address, word, kind] = session.recorded(1).made;
     const now = Number(session.numbers(register(n, 0), 1)[0]), jump = jumpOf.get(now), wanted = stored.get(address);
     if (kind === IN_BLOCK) return false;
     if (word >> 6 === RJM && jump !== undefined && now !== address) stored.set(jump, (address + 2) % CELLS);

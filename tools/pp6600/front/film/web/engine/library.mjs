@@ -5,8 +5,8 @@ const REASONS = ["", "no room", "", "the session is closed", "the session is ope
 
 // The kinds of the forms of a condition.
 export const FORM = { INSIDE: 0, OUTSIDE: 1, CHANGES: 2, WRITES: 3, PERFORMS: 4, WAITS: 5, OR: 6 };
-const FORM_BYTES = 24, MADE_BYTES = 16, LINK_BYTES = 24;
-const MOST_LINKS = 33, MOST_CONTROL = 7; // of the next turn
+export const MADE_BYTES = 16, LINK_BYTES = 24; // of a turn and of a link that are written
+const FORM_BYTES = 24;
 
 // A call failed. If an option or a file was rejected, the text is the program's line, and `exit` is the program's exit status.
 export class LibraryError extends Error {
@@ -79,19 +79,6 @@ class Rooms {
   // Returns where a call puts the numbers that it returns beside its status; and those, of which each has 32 bits.
   outs = (count) => [0n, 8n, 16n, 24n].slice(0, count).map((more) => this.room("results", 32) + more);
   results = (count) => [0, 2, 4, 6].slice(0, count).map((at) => this.view(Uint32Array, this.room("results", 32), 8)[at]);
-}
-
-// Returns turns that a call wrote, each with its links. The source of a link is undefined if a number is read nowhere.
-function turnsIn(made, links) {
-  let next = 0;
-  const link = () => {
-    const [place, , source, isNone, how] = links.subarray(next, next += LINK_BYTES / 4);
-    return { place, source: isNone ? undefined : source, operation: how & 0xff, field: (how >> 8) & 0xff, further: how >>> 16 };
-  };
-  return Array.from({ length: 2 * made.length / MADE_BYTES }, (_, turn) => {
-    const [processor, address, word, kind, count, own, low, high] = made.subarray(MADE_BYTES / 2 * turn);
-    return { processor, address, word, kind, links: Array.from({ length: count }, link), own, olds: low + 0x10000 * high };
-  });
 }
 
 // A session. Places and numbers of the machine are 64 bits wide too. Arrays are copies.
@@ -172,23 +159,6 @@ export class LibrarySession extends Rooms {
     const written = (Kind, at, bytes) => this.view(Kind, at, bytes / Kind.BYTES_PER_ELEMENT).slice();
     return { status, made: written(Uint16Array, made, MADE_BYTES * turns), links: written(Uint32Array, links, LINK_BYTES * linked),
       olds: written(BigUint64Array, olds, 16 * used) };
-  }
-
-  // Makes turns as `turns` does. Returns the status; for each turn its processor, the address and the word of its instruction, its kind, its
-  // links, of which the first `own` are its processor's, and how many old numbers it has; and these.
-  origins(...how) {
-    const { status, made, links, olds } = this.recorded(...how);
-    return { status, made: turnsIn(made, links), olds };
-  }
-
-  // Returns what the next turn is, with the links of its processor alone, and the control places. No turn is made.
-  nextOrigins() {
-    const made = this.room("made", MADE_BYTES), links = this.room("links", LINK_BYTES * MOST_LINKS), control = this.room("control", 8 * MOST_CONTROL);
-    const outs = this.outs(2);
-    this.call("next_origins", made, links, BigInt(MOST_LINKS), outs[0], control, BigInt(MOST_CONTROL), outs[1]);
-    const [linked, count] = this.results(2), words = this.view(Uint32Array, links, LINK_BYTES / 4 * linked);
-    const [turn] = turnsIn(this.view(Uint16Array, made, MADE_BYTES / 2), words);
-    return { ...turn, control: [...this.view(BigUint64Array, control, count)].map(Number) };
   }
 
   // Puts a condition into the memory: forms, each with a kind of FORM and the place and the numbers that this kind names. Returns its address

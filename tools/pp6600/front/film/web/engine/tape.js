@@ -79,16 +79,17 @@ export class Searcher {
     return session;
   }
 
-  // After how many actions a condition first comes to hold, in a turn of parts from a position on, or null; and up to where one has looked.
+  // After how many actions a condition first comes to hold, in a turn of parts from a position on, or null; and up to where one has looked. What
+  // the library does not judge depends on turns before: a return is wrong if its call stored another address.
   async firstOf(condition, from, parts) {
-    const session = await this.sessionAt(from);
-    let at = from, found = null;
+    const begin = condition.isOfLibrary ? from : 0, session = await this.sessionAt(begin), all = [...this.tape.between(begin, from), ...parts];
+    let at = begin, found = null;
     const isEnough = ({ count, isFound }) => {
       at += count;
-      if (isFound) found = at;
-      return isFound || this.control.isStopped();
+      if (isFound && at > from) found = at;
+      return found !== null || this.control.isStopped();
     };
-    await this.replay(session, parts, (left) => condition.next(session, Math.min(left, MOST_AT_ONCE)), isEnough);
+    await this.replay(session, all, (left) => condition.next(session, Math.min(left, MOST_AT_ONCE)), isEnough);
     session.close();
     return { found, end: at };
   }

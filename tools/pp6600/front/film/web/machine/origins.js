@@ -43,7 +43,6 @@ function sourcesOf({ place, isMoved, sources }, wanted) {
   return sources.map((one) => ({ ...one, parts: one.parts ? one.parts & wanted : wanted })).filter(({ parts }) => parts);
 }
 
-const isOfP = (place) => place >= layout.P && place < layout.Q;
 const isTurnStep = (film, { moment, write }) => moment > 0 && film.isTurn(moment) && write !== null;
 export const isOfDevice = (film, step) => isTurnStep(film, step) && step.write.isOfDevice;
 
@@ -111,7 +110,7 @@ export function constantText(film, moment, { constant }) {
 function causeText(film, sources, step) {
   const { moment, write } = step, when = whenText(film, Math.max(0, moment));
   if (moment < 0) return "written in turns that were not recorded, or never";
-  if (moment === 0) return isOfP(step.place) && film.numbers[step.place] ? "never written, it only went on" : "never written";
+  if (moment === 0) return film.changeBefore(film.momentsThatChanged([step.place]), film.at) ? "never written, it only went on" : "never written";
   if (film.kinds[moment] === LINE) return `${when}, ${lineCause(film, moment, write)}`;
   if (!write) return `${when}, the clock`;
   const column = columnOf(film, step);

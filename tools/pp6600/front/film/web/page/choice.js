@@ -7,6 +7,9 @@ import { headsOf, topWith } from "../machine/program.js";
 const CENTRAL_ROWS = 8;
 export const rowsOf = ({ room }) => room.memoryRows || 16;
 
+// How memory is shown: as it was chosen, else as numbers, but for a class that sees no source as instructions.
+export const formOf = ({ memory, look, sources }) => memory.as || (look === "projector" && !sources.size ? "instructions" : "numbers");
+
 // The processor that memory follows: that of the latest turn that did more than pass, of those that do not only wait; or one that a line
 // has set.
 function followed({ film }, before) {
@@ -23,9 +26,10 @@ function windowWith(state, n, address) {
 }
 
 // The address that memory shows: the cell that changed, else where the processor is; or the chosen cell.
-function addressSeen({ film, memory, chosen }, n) {
+function addressSeen(state, n) {
+  const { film, memory, chosen } = state;
   if (!memory.follows && chosen && chosen.kind === "M") return chosen.numbers[1];
-  const changed = memory.as === "numbers" && film.changesOf(film.at).find(({ place }) => place.kind === "M" && place.numbers[0] === n);
+  const changed = formOf(state) === "numbers" && film.changesOf(film.at).find(({ place }) => place.kind === "M" && place.numbers[0] === n);
   return changed ? changed.place.numbers[1] : film.number("P", n);
 }
 
@@ -33,8 +37,9 @@ function addressSeen({ film, memory, chosen }, n) {
 export function viewAt(state) {
   const { film, memory } = state, n = memory.follows ? followed(state, memory.n) : memory.n, address = addressSeen(state, n);
   if (memory.isHeld) return { span: spanAt(state) };
-  const heads = memory.as === "numbers" ? [] : headsOf(film, n), next = { ...memory, n, first: windowWith(state, n, address) };
-  if (memory.as !== "numbers") next.top = topWith(film, n, memory.top, memory.follows ? heads[1] ?? address : address, rowsOf(state), heads);
+  const isNumbers = formOf(state) === "numbers", heads = isNumbers ? [] : headsOf(film, n);
+  const next = { ...memory, n, first: windowWith(state, n, address) };
+  if (!isNumbers) next.top = topWith(film, n, memory.top, memory.follows ? heads[1] ?? address : address, rowsOf(state), heads);
   return { memory: next, span: spanAt(state) };
 }
 
@@ -83,15 +88,16 @@ export const showAs = (state, as) => viewAt({ ...state, memory: { ...state.memor
 
 // Memory from another row on, as a wheel asks for it.
 export function scrolled(state, rows) {
-  const { memory } = state, far = memory.as === "numbers" ? 8 * rows : rows;
+  const { memory } = state, far = formOf(state) === "numbers" ? 8 * rows : rows;
   return { memory: { ...memory, follows: false, isHeld: true, first: (memory.first + far + CELLS) & 0o7770,
     top: (memory.top + far + CELLS) % CELLS } };
 }
 
 // A number beside the chosen one: of a cell or a central word that with the address beside; null of another.
-export function placeBeside({ chosen, memory, film }, right, down) {
+export function placeBeside(state, right, down) {
+  const { chosen, memory, film } = state;
   if (!chosen) return placeWith("M", memory.n, film.number("P", memory.n));
-  const { kind, numbers } = chosen, far = kind === "M" && memory.as === "numbers" ? 8 : 1, size = KINDS[kind].sizes.at(-1);
+  const { kind, numbers } = chosen, far = kind === "M" && formOf(state) === "numbers" ? 8 : 1, size = KINDS[kind].sizes.at(-1);
   if (kind !== "M" && kind !== "C") return null;
   return placeWith(kind, ...numbers.slice(0, -1), (numbers.at(-1) + right + far * down + size) % size);
 }

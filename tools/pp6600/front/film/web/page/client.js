@@ -6,13 +6,11 @@ const LONGEST_SILENCE = 20000; // milliseconds after which the page says that th
 
 export class Client {
   // `hears` has grown(moments) of what came with a reply, moments(words) and working() of news, busy(is), silent(), fault(text), and isHeld(),
-  // which says whether the film is to stay as it is for a while. `engine` is the worker's own script, behind what it shares with the page.
+  // which says whether the film is to stay as it is for a while. `engine` is the worker's script.
   constructor(hears, engine) {
     if (!window.Worker) throw new Error("this browser has no workers");
-    const texts = [document.getElementById("shared").textContent, engine],
-      address = URL.createObjectURL(new Blob(texts, { type: "text/javascript" }));
     Object.assign(this, { hears, waiting: new Map(), latest: 0, chain: Promise.resolve() });
-    this.worker = new Worker(address);
+    this.worker = new Worker(URL.createObjectURL(new Blob([engine], { type: "text/javascript" })));
     this.worker.onmessage = ({ data }) => this.received(data);
     this.worker.onerror = ({ message }) => this.failed(`the simulator has stopped: ${message || "this browser does not start it"}`);
   }

@@ -67,9 +67,16 @@ export class Exercises extends Part {
     const turn = film.turn[film.at], parts = film.partsInEffect(film.at).filter(isPart);
     const { answer, said } = await this.session.client.ask("look", { given: this.session.files(), parts, text: check });
     if (!answer) return this.say(said, true);
-    const wanted = expected.split("\n").slice(0, -1), found = answer.slice(-wanted.length);
-    const wrong = wanted.flatMap((line, at) => (line === found[at] ? [] : [{ wanted: isHidden ? "another line" : line, found: found[at] ?? "" }]));
+    const wrong = differences(expected.split("\n").slice(0, -1), answer, isHidden);
     this.update({ checked: { wrong, turn }, solved: wrong.length ? solved : { ...solved, [exercise]: true } });
     return this.session.keepNow();
   }
+}
+
+// What is expected at the end of an answer and is not there. If the answer has another number of lines, the two may begin together instead.
+function differences(wanted, answer, isHidden) {
+  const from = (first) => wanted.flatMap((line, at) =>
+    (line === answer[first + at] ? [] : [{ wanted: isHidden ? "another line" : line, found: answer[first + at] ?? "" }]));
+  const atEnd = from(answer.length - wanted.length), together = from(0);
+  return together.length && together.length < atEnd.length ? together : atEnd;
 }

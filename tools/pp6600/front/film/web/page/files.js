@@ -1,35 +1,17 @@
-// ---- files and links: the page with a session in it, the script alone, and the part of an address after #
+// ---- files and links: the page with a session in it, the script alone, and the part of an address after #. What is packed is unpacked by first.js
 
 import { CELLS, octalIn } from "../machine/places.js";
 import { bytesOfText } from "../machine/lines.js";
 
 const LONGEST_LINK = 8000, MOST_ODD = 0.02; // letters; the part of the bytes of a text that may be no text
-const original = `<!DOCTYPE html>\n${document.documentElement.outerHTML}`; // as it was before anything was drawn
-
-const through = async (stream, bytes) => new Uint8Array(await new Response(new Blob([bytes]).stream().pipeThrough(stream)).arrayBuffer());
 export const textOfBytes = (bytes) => new TextDecoder("latin1").decode(bytes);
 
-// ---- packed texts
-
-async function inflated(letters, format) {
-  if (!window.DecompressionStream) throw new Error("this browser is too old, one of 2023 or later can");
-  return through(new DecompressionStream(format), bytesOfText(atob(letters.replace(/\s/g, ""))));
-}
-
 async function deflated(bytes, format) {
-  const all = await through(new CompressionStream(format), bytes);
+  const stream = new Blob([bytes]).stream().pipeThrough(new CompressionStream(format));
+  const all = new Uint8Array(await new Response(stream).arrayBuffer());
   let letters = "";
   for (let at = 0; at < all.length; at += 8192) letters += String.fromCharCode(...all.subarray(at, at + 8192));
   return btoa(letters);
-}
-
-// The bytes of a text that is packed in the page.
-export async function unpacked(id) {
-  try {
-    return await inflated(document.getElementById(id).textContent, "deflate");
-  } catch (error) {
-    throw window.DecompressionStream ? new Error("it is damaged: a part of it is missing") : error;
-  }
 }
 
 // ---- files
@@ -37,7 +19,7 @@ export async function unpacked(id) {
 // The page with another film in it.
 export async function pageWith(about) {
   const text = await deflated(new TextEncoder().encode(JSON.stringify(about)), "deflate");
-  return original.replace(/(<script type="text\/plain" id="film">)[^<]*/, (_, begin) => `${begin}\n${text}\n`);
+  return firstScript.original.replace(/(<script type="text\/plain" id="film">)[^<]*/, (_, begin) => `${begin}\n${text}\n`);
 }
 
 export function saveBytes(bytes, download) {
@@ -78,8 +60,11 @@ export async function linkTo(files, shown) {
 export async function filesOfAddress() {
   const words = new URLSearchParams(location.hash.slice(1)), files = {};
   for (const kind of ["script", "deck", "panel"].filter((one) => words.has(one))) {
-    const cut = () => { throw new Error(`the link is cut short: its ${kind} can't be read`); };
-    files[kind] = textOfBytes(await inflated(words.get(kind).replace(/-/g, "+").replace(/_/g, "/"), "deflate-raw").catch(cut));
+    try {
+      files[kind] = textOfBytes(await firstScript.inflated(words.get(kind).replace(/-/g, "+").replace(/_/g, "/"), "deflate-raw"));
+    } catch {
+      throw new Error(`the link is cut short: its ${kind} can't be read`);
+    }
   }
   return files;
 }

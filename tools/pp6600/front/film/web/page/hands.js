@@ -81,6 +81,7 @@ export class Hands extends Part {
     const { exercise, exercises } = this.state;
     keep("look", look);
     this.update({ look, lookBefore: this.state.look });
+    this.update(viewAt(this.state));
     return look === "class" && !exercise && exercises.length ? this.exercises.goTo(exercises[0].name) : null;
   }
 
@@ -165,7 +166,8 @@ export class Hands extends Part {
 
   // Opens a field over the chosen number, or if this is not seen over the line that has it.
   openField() {
-    const { chosen, film } = this.state, one = this.seen().find(({ place }) => place === chosen)?.element || document.querySelector(".chosen");
+    const { chosen, film } = this.state, all = this.seen().filter(({ place }) => place === chosen).map(({ element }) => element);
+    const one = all.find((element) => element.matches("td")) || all[0] || document.querySelector(".chosen"); // a cell is set in memory
     const box = one.getBoundingClientRect(), width = 16 + 8.6 * (film.text(chosen).length + 8);
     this.update({ setting: { left: Math.max(0, Math.min(box.left, innerWidth - width)), top: Math.max(0, box.top), text: film.text(chosen) } });
     setTimeout(() => byId("set-to")?.select());
@@ -271,8 +273,8 @@ export class Hands extends Part {
 
   // In a toolbar arrows lead from button to button; Tab leaves it.
   rove(event) {
-    const all = [...event.target.closest(GROUPS).querySelectorAll("button:not(:disabled)")], at = all.indexOf(event.target);
-    const next = all[(at + ARROWS[event.key] + all.length) % all.length];
+    const buttons = event.target.closest(GROUPS).querySelectorAll("button:not(:disabled)"), all = [...buttons].filter((one) => one.checkVisibility());
+    const next = all[(all.indexOf(event.target) + ARROWS[event.key] + all.length) % all.length];
     event.preventDefault();
     if (next.closest(".tools")) this.update({ tool: next.dataset.action });
     next.focus();

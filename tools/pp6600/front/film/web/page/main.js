@@ -9,7 +9,7 @@ import { Client } from "./client.js";
 import { render } from "./dom.js";
 import { Editor } from "./editor.js";
 import { Exercises } from "./exercises.js";
-import { filesOfAddress, unpacked } from "./files.js";
+import { filesOfAddress } from "./files.js";
 import { opening } from "./found.js";
 import { Hands } from "./hands.js";
 import { addSessions, holdTab, kept, latestOfClosed } from "./kept.js";
@@ -30,7 +30,7 @@ function foldedIn({ columns }) {
 // The one state of the page: the session, what is shown of it, what is chosen, the window, and what is typed.
 function stateOf(about) {
   const size = windowNow(), { exercises = [], keys } = about, isClass = exercises.length > 0;
-  const memory = { n: 0, follows: true, isHeld: false, first: 0, top: 0, as: "numbers" };
+  const memory = { n: 0, follows: true, isHeld: false, first: 0, top: 0, as: "" };
   const editor = { n: 0, text: "", messages: [], rows: [], listing: "", texts: [] };
   return {
     isOpen: false, film: null, transcript: [], sentLast: null, tree: newTree(), said: { text: "", isWrong: false }, isBusy: false, offer: null,
@@ -90,11 +90,11 @@ async function callsOf(module) {
 }
 
 async function build() {
-  const [film, module, engine] = await Promise.all(["film", "simulator", "engine"].map(unpacked)), address = await filesOfAddress();
-  const textOf = (bytes) => new TextDecoder().decode(bytes), about = JSON.parse(textOf(film));
+  const [film, module, engine] = await Promise.all(["film", "simulator", "engine"].map(firstScript.unpacked)), address = await filesOfAddress();
+  const about = JSON.parse(new TextDecoder().decode(film));
   const store = new Store(stateOf(about)), parts = {};
   store.draw = drawer(store);
-  const session = new Session(store, new Client(hearing(store, parts), textOf(engine)), about, module), editor = new Editor(store, { session });
+  const session = new Session(store, new Client(hearing(store, parts), engine), about, module), editor = new Editor(store, { session });
   const exercises = new Exercises(store, { session, editor }), sharing = new Sharing(store, { session, exercises });
   Object.assign(parts, { session, editor, exercises, sharing });
   return { about, address, store, parts, module };
@@ -176,9 +176,4 @@ async function open() {
   document.body.dataset.open = "yes";
 }
 
-open().catch((error) => {
-  const box = document.getElementById("fault");
-  box.hidden = false;
-  root.hidden = true;
-  box.textContent = `This film can't be shown: ${error.message}`;
-});
+open().catch(firstScript.fault);

@@ -5,7 +5,7 @@ import { countUpTo } from "../machine/film.js";
 import { SKIP } from "../machine/moments.js";
 import { hasOrigin, originLines } from "../machine/origins.js";
 import { lineOfNext } from "../machine/sources.js";
-import { changesAround, choose, chooseNone, chooseProcessor, follow, placeBeside, showAs, sourceSeen, viewAt } from "./choice.js";
+import { changesAround, choose, chooseNone, chooseProcessor, follow, formOf, placeBeside, showAs, sourceSeen, viewAt } from "./choice.js";
 import { canSet } from "./setting.js";
 import { Part } from "./store.js";
 
@@ -206,9 +206,7 @@ export class Moves extends Part {
     this.update(help ? { help: false } : setting ? { setting: null } : chooseNone(this.state));
   }
 
-  project() { this.update({ look: this.state.look === "projector" ? this.state.lookBefore || "debug" : "projector",
-    lookBefore: this.state.look }); }
-  as(form, other) { this.update(showAs(this.state, this.state.memory.as === form ? other : form)); }
+  as(form, other) { this.update(showAs(this.state, formOf(this.state) === form ? other : form)); }
 
   // ---- the table of actions, by the names of the table of keys
 
@@ -235,7 +233,7 @@ export class Moves extends Part {
         slower: () => this.faster(-1),
       "script-line-before": () => this.toScriptLine(-1), "next-script-line": () => this.toScriptLine(1),
       "run-to": () => this.runTo(false), "run-back": () => this.runTo(true), set: () => canSet(state.chosen) && hands.openField(),
-      barrel: () => hands.fold(`${state.look} barrel`), projector: () => this.project(),
+      barrel: () => hands.fold(`${state.look} barrel`), projector: () => hands.look(state.look === "projector" ? state.lookBefore || "debug" : "projector"),
     };
   }
 }

@@ -1,6 +1,6 @@
 // ---- how much room the window has: columns, rows of memory, and what is drawn by measure
 
-const PHONE = 700, THREE = 1180, FOUR = 1680, LOW = 740, MOST_ROWS = 64; // pixels; rows of memory
+const PHONE = 700, THREE = 1180, FOUR = 1680, LOW = 740, LEAST_ROWS = 3, MOST_ROWS = 64; // pixels; rows of memory
 
 export function windowNow() {
   const width = innerWidth;
@@ -13,7 +13,7 @@ export function roomNow() {
   const cells = part("#cells"), barrel = part('[data-room="barrel"]'), row = cells && cells.querySelector("tbody tr"),
     head = cells && cells.querySelector("thead");
   const rows = row ? Math.floor((cells.clientHeight - 6 - (head ? head.offsetHeight : 0)) / row.offsetHeight) : 16;
-  return { unit, timeline: part("#lanes")?.clientWidth, memory: cells?.clientWidth, memoryRows: Math.max(4, Math.min(MOST_ROWS, rows)),
+  return { unit, timeline: part("#lanes")?.clientWidth, memory: cells?.clientWidth, memoryRows: Math.max(LEAST_ROWS, Math.min(MOST_ROWS, rows)),
     barrel: barrel && barrel.clientWidth - 16, barrelHigh: barrel && barrel.clientHeight - 6 };
 }
 

@@ -20,7 +20,7 @@ export const NO_ROOM = "this browser keeps nothing more: save this file";
 export class Session extends Part {
   // `given` has the files of the run, its options, the exercise if it is one's, and the sources and labels that were loaded.
   constructor(store, client, about, module) {
-    super(store, { client, about, given: null, opening: null, first: { module: module.buffer, about } });
+    super(store, { client, about, given: null, opening: null, first: { module, about } });
   }
 
   // ---- what comes from the worker

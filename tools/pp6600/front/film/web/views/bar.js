@@ -60,7 +60,7 @@ function fields({ film, chosen, wrong }) {
 
 function kept({ offer }) {
   return h("div.files",
-    offer ? h("button.offer", { "data-action": "restore", title: offer.title }, "Go on from ", h("b", offer.text)) : null,
+    offer ? h("button.offer", { "data-action": "restore", title: offer.title }, h("span", "Go on from "), h("b", offer.text)) : null,
     h("button.tool", { "data-action": "save", title: "save this page with the session (Ctrl+S)" }, icon("save"), h("span", "Save")),
     h("button.tool", { "data-action": "help", tabindex: -1, title: "all keys (?)" }, icon("help"), h("span", "Keys")));
 }

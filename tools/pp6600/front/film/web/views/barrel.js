@@ -6,7 +6,7 @@ import { deviceOf } from "../machine/words.js";
 import { turning } from "../machine/turns.js";
 import { pane } from "./parts.js";
 
-const BOX = { w: 50, h: 50 }, PILL = { w: 106, h: 26 }, LEAST_HIGH = 168, MOST_HIGH = 240, HALF = PROCESSORS / 2;
+const BOX = { w: 50, h: 50 }, PILL = { w: 106, h: 26 }, LEAST_WIDE = 396, LEAST_HIGH = 168, MOST_HIGH = 240, HALF = PROCESSORS / 2;
 
 // Five above from left to right, five below back: the direction in which the slot moves.
 function sizes(width, height, count) {
@@ -73,10 +73,10 @@ function channelsShown(film, moved, waits, high) {
   return all.filter((c) => chosen.includes(c));
 }
 
-// On a projector the picture fills its pane.
+// In a narrow pane the picture is smaller, and on a projector it fills its pane.
 function unitOf({ room, look }) {
-  const unit = room.unit || 1, most = Math.min((room.barrel || 430) / 470, (room.barrelHigh || 200) / 176);
-  return look === "projector" ? Math.max(unit, Math.min(most, 2 * unit)) : unit;
+  const unit = room.unit || 1, width = room.barrel || 430, least = Math.min(unit, width / LEAST_WIDE);
+  return look === "projector" ? Math.max(least, Math.min(width / 470, (room.barrelHigh || 200) / 176, 2 * unit)) : least;
 }
 
 export function barrelPane(state, marks) {

@@ -22,7 +22,7 @@ export function branchesPane(state) {
   const row = ({ id, name, from, lines }) => h("li", { class: classes({ here: id === tree.now }) },
     h("button", { "data-branch": id, "aria-current": id === tree.now ? "true" : null, title: name },
     inShort(name.trim(), 28), h("span.soft",
-      `  ${from === null ? "" : `from turn ${octal(from)}, `}${id === tree.now ? film.lines.length : lines} lines`)));
+      ` ${from === null ? "" : `from turn ${octal(from)}, `}${id === tree.now ? film.lines.length : lines} lines`)));
   const undo = all.length > 1 && (parent !== null || tree.now) ? h("button",
     { id: "undo", "data-action": "undo", title: "to the session before; this one stays here" }, "undo the branch") : null;
   return pane(state, "branches", "Branches", [all.length > 1 ? `${all.length}` : "one", undo], h("div.box.natural.tree",

@@ -23,25 +23,26 @@ function processor({ film, memory }, marks, n) {
     h("td", number(film, marks, "A", n)), h("td", number(film, marks, "Q", n)), h("td.wait", waits ? `H ${waits}` : ""));
 }
 
-// In a narrow or low window the processors that only pass or wait are one line.
+// In a narrow or low window the processors that only pass or wait are one line, and beside the picture of a device.
 function processorsShown({ film, columns, memory, look, isPhone, isLow, tab }) {
   const isLoud = (n) => n === memory.n || !isQuiet(film.processorLanes[n]);
   if (look === "projector") {
     const all = [memory.n, ...range(10).filter((n) => n !== memory.n && isLoud(n))].slice(0, MOST_PROJECTED);
     return all.sort((one, other) => one - other);
   }
-  const hasRoom = isPhone ? tab === "processors" : columns > 2 && !isLow;
-  return range(10).filter((n) => hasRoom || isLoud(n) || n === film.number("SLOT"));
+  const hasRoom = isPhone ? tab === "processors" : columns > (film.about.pictures ? 3 : 2) && !isLow;
+  return range(10).filter((n) => hasRoom || isLoud(n));
 }
 
 export function processorsPane(state, marks) {
   const { film } = state, all = processorsShown(state), left = range(10).filter((n) => !all.includes(n)),
     isWaiting = (n) => film.processorLanes[n].seen.has(WAITING);
   const rest = [[left.filter((n) => !isWaiting(n)), "only passing"], [left.filter(isWaiting), "waiting"]].filter(([some]) => some.length);
+  const slot = film.number("SLOT"), next = left.includes(slot) ? `, next is ${two(slot)}` : "";
   const heads = ["", "PP", "P", "next", "A", "Q", "waits for"].map((text) => h("th", { scope: "col" }, text));
   return pane(state, "processors", "Processors", "", h("div.box.natural", h("table", h("thead", h("tr", heads)),
     h("tbody", all.map((n) => processor(state, marks, n)),
-      left.length ? h("tr.idle.rest", h("td", { colspan: 7 }, rest.map(([some, text]) => `${namesOf(some)}: ${text}`).join("; ")))
+      left.length ? h("tr.idle.rest", h("td", { colspan: 7 }, rest.map(([some, text]) => `${namesOf(some)}: ${text}`).join("; ") + next))
         : null))));
 }
 

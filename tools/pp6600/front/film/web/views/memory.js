@@ -1,12 +1,12 @@
 // ---- memory of a processor as numbers or as instructions; the chosen number
 
 import { h, classes } from "../page/dom.js";
-import { CELLS, four, placeWith, range, two } from "../machine/places.js";
+import { CELLS, four, range, two } from "../machine/places.js";
 import { NOT_RECORDED } from "../machine/film.js";
 import { headsOf, rowsFrom } from "../machine/program.js";
 import { turning } from "../machine/turns.js";
 import { addressName, displayCode, instructionText, lineText, makerText, meaningOf, textOfListing, whenText } from "../machine/words.js";
-import { changesAround, rowsOf } from "../page/choice.js";
+import { changesAround, formOf, rowsOf } from "../page/choice.js";
 import { hasOrigin } from "../machine/origins.js";
 import { canSet } from "../page/setting.js";
 import { markClass, pane, select } from "./parts.js";
@@ -30,7 +30,7 @@ function numbers(state, marks) {
 
 // A click on an address sets a breakpoint. The present instruction has a sign, and where a block transfer goes on another one.
 function instructions(state, marks) {
-  const { film, memory, breakpoints } = state, { n, top, as } = memory, p = film.number("P", n), [, ...block] = headsOf(film, n);
+  const { film, memory, breakpoints } = state, { n, top } = memory, p = film.number("P", n), [, ...block] = headsOf(film, n);
   const rows = rowsFrom(film, n, top, rowsOf(state), [p, ...block]);
   return h("table.program", h("tbody", rows.map(({ address, words }) => {
     const text = instructionText(film, address, words), sign = address === p ? "▶" : address === block.at(-1) ? "r" : "";
@@ -40,7 +40,7 @@ function instructions(state, marks) {
       range(2).map((at) => (at < words.length ? cellOf(film, marks, n, (address + at) % CELLS, p) : h("td"))),
       h("td.text", { title: meaningOf(film.about, text.slice(0, 3)) }, h("b", text)),
       h("td.soft", textOfListing(film, n, address, words[0]) || addressName(film, n, address)),
-      as === "text" ? h("td.code", words.map((word) => displayCode(film, word)).join("")) : null);
+      formOf(state) === "text" ? h("td.code", words.map((word) => displayCode(film, word)).join("")) : null);
   })));
 }
 
@@ -61,29 +61,26 @@ function textOfChosen(state) {
 function chosenBox(state) {
   const { film, chosen, origin } = state;
   if (!chosen) return h("p.chosen.soft", "Click a number, or move with the arrows: who changed it, and when?");
-  return h("p.chosen", { "aria-live": "polite" }, h("b", chosen.name), " is ", h("b", film.text(chosen)), ". ", textOfChosen(state),
-    " ",
+  return h("p.chosen", { "aria-live": "polite" },
+    canSet(chosen) ? h("button", { tabindex: -1, "data-action": "set", title: "another number, or an instruction (e, a double click)" }, "set")
+      : null,
     hasOrigin(chosen) ? h("button", { tabindex: -1, "data-action": "origin", "aria-expanded": String(Boolean(origin)),
       title: "where it came from (c)" }, "came from") : null,
-    canSet(chosen) ? h("button", { tabindex: -1, "data-action": "set", title: "another number, or an instruction (e, a double click)" }, "set")
-      : null);
+    h("b", chosen.name), " is ", h("b", film.text(chosen)), ". ", textOfChosen(state));
 }
 
 const FORMS = [["numbers", "numbers"], ["instructions", "instructions"], ["text", "instructions and text"]];
 const PROCESSORS_OF = range(10).map((n) => [n, `PP ${two(n)}`]);
 
 export function memoryPane(state, marks) {
-  const { memory, film, look, sources } = state, { n } = memory, isProjected = look === "projector" && !sources.size;
-  const as = isProjected && memory.as === "numbers" ? "instructions" : memory.as,
-    one = as === memory.as ? state : { ...state, memory: { ...memory, as, top: film.number("P", n) } };
+  const { memory, film, chosen } = state, { n } = memory, as = formOf(state);
   const more = [select("memory-of", "processor", n, PROCESSORS_OF),
     h("button", { "data-action": "follow", class: "small", "aria-pressed": String(memory.follows), title: "memory follows the turns (o)" }, "follow"),
-    select("memory-as", "memory as", memory.as, FORMS)];
-  const active = state.chosen && state.chosen.kind === "M" ? { "aria-activedescendant": `c${placeWith("M", ...state.chosen.numbers).places[0]}` }
-    : {};
+    select("memory-as", "memory as", as, FORMS)];
+  const active = chosen && chosen.kind === "M" ? { "aria-activedescendant": `c${chosen.places[0]}` } : {};
   return pane(state, "memory", "Memory", more, [
     h("div.box", { id: "cells", "data-room": "memory", role: "grid", tabindex: 0, "aria-label": `memory of PP ${two(n)}`, ...active },
-      as === "numbers" ? numbers(one, marks) : instructions(one, marks)),
+      as === "numbers" ? numbers(state, marks) : instructions(state, marks)),
     as === "numbers" ? null : h("p.sentence", `PP ${two(n)} ${turning.sentence(film.next(n))}`),
     chosenBox(state)]);
 }

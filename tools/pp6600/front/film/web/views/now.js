@@ -40,7 +40,7 @@ export function now(state, marks) {
   const { film, said, isBusy, playing } = state, { who, what, says, isBlock, waits } = deedOf(film, film.at), line = film.lineAt[film.at];
   return h("div", { class: classes({ now: true, waits }) },
     h("div.turn", h("b", octal(film.turn[film.at])), h("span", `turn of ${octal(film.highestTurn)}`),
-      h("span.line", line >= 0 ? `line ${line + 1} · ${inShort(film.lines[line].text.trim(), 18)}` : "the beginning")),
+      h("span.line", line >= 0 ? `line ${line + 1} · ${inShort(film.lines[line].text.trim(), 18)}` : film.at ? ".." : "the beginning")),
     h("div.deed", { "aria-live": playing ? "off" : "polite" },
       h("p.what", who ? h("span.who", who) : null, h("strong", what, isBlock ? h("small", " block") : null),
         h("span.says", says), where(state)),

@@ -41,11 +41,11 @@ export function numberAt(film, marks, place) {
 export const select = (id, label, value, options) => h("select", { id, "aria-label": label, value: String(value) },
   options.map(([one, text]) => h("option", { value: String(one), selected: one === value }, text)));
 
-// A pane with its heading, which folds it.
-export function pane({ folded, look }, name, title, more, body) {
-  const isFolded = folded.has(`${look} ${name}`);
+// A pane with its heading, which folds it; but on a phone a tab is chosen to see its panes.
+export function pane({ folded, look, isPhone }, name, title, more, body) {
+  const isFolded = !isPhone && folded.has(`${look} ${name}`);
+  const head = isPhone ? h("span.fold", title) : h("button.fold", { "data-fold": `${look} ${name}`, "aria-expanded": String(!isFolded) },
+    icon(isFolded ? "unfold" : "fold"), title);
   return h("section", { class: classes({ pane: true, [name]: true, folded: isFolded }), "aria-label": title },
-    h("h2", h("button.fold", { "data-fold": `${look} ${name}`, "aria-expanded": String(!isFolded) },
-      icon(isFolded ? "unfold" : "fold"), title), h("span.more", more)),
-    isFolded ? null : body);
+    h("h2", head, h("span.more", more)), isFolded ? null : body);
 }

@@ -1,5 +1,0 @@
-use Rattle.pp_notation.proofs.Programs.{IsBelow}
-use Rattle.pp_assembler.proofs.passes.cells_of.Given as goal
-
-abbrev pub invariant-loop-address : goal.invariant-loop-address
-invariant-loop-address l = IsBelow l.cells.items l.address

@@ -1,0 +1,273 @@
+//! The statements of a source and of its common decks: their lines, each with those that continue it, and those that SUBR makes.
+ghost use Rattle.std.specs.Prelude.{◌≡◌, IfOk, map};
+ghost use Rattle.pp_source.specs.Places.{length_of, line_lengths};
+
+use crate::decks::{Decks, Text, up_to_endx};
+use crate::scan::{in_columns, is_empty, length_without_blanks, tail};
+use crate::spans::Span;
+use std::alloc::{AllocError, Global};
+
+/// How many lines continue one.
+const MOST_JOINS: usize = 9;
+/// What some editors put before a text.
+const MARK: &[u8; 3] = b"\xef\xbb\xbf";
+/// The macro SUBR, before the lines of a source: a subroutine's exit, whose second word is its entry.
+static SUBR: [&[u8]; SUBR_LINES] = [
+    b"          MACRO  SUBR,A",
+    b" A_X      LJM    *",
+    b" A        EQU    *-1",
+    b"          ENDM",
+];
+/// How many lines it has.
+const SUBR_LINES: usize = 4;
+
+/// The column, from 0, at which another line of the source goes on, its number, and its column there, from 1.
+#[derive(Clone, Copy)]
+pub struct Join {
+    pub column: usize,
+    pub number: u32,
+    pub first: usize,
+}
+
+/// The call of a macro that made a line, or the XTEXT of the common deck that has it: its column, from 0, and where the name is.
+#[derive(Clone, Copy)]
+pub struct Call {
+    pub column: usize,
+    pub name: Span,
+    pub is_deck: bool,
+}
+
+/// A line with those that continue it, or a line that another one made.
+#[derive(Clone, Copy, Default)]
+pub struct Line {
+    /// The number of its first line, from 1.
+    pub number: u32,
+    /// Where its text is, as the listing has it.
+    pub text: Span,
+    /// Where it is in capitals, with what its micros stand for.
+    pub read: Span,
+    /// Where its joins are.
+    pub joins: Span,
+    pub call: Option<Call>,
+}
+
+/// The lines of a source and of its common decks, with their text and the same in capitals.
+#[derive(Drop)]
+pub struct Lines {
+    pub text: Vec<u8>,
+    pub capitals: Vec<u8>,
+    pub joins: Vec<Join>,
+    pub all: Vec<Line>,
+    /// The lines of the source.
+    pub source: Span,
+    /// How many lines no other one made: those of SUBR, of the source and of its decks.
+    pub own: usize,
+    pub decks: Decks,
+}
+
+impl Lines {
+    fn new(alloc: Global) -> Self {
+        Lines {
+            text: Vec::new(alloc),
+            capitals: Vec::new(alloc),
+            joins: Vec::new(alloc),
+            all: Vec::new(alloc),
+            source: Span::none(),
+            own: 0,
+            decks: Decks::new(alloc),
+        }
+    }
+
+    /// Returns the text of a line in capitals.
+    pub fn capitals_of(&self, line: Line) -> &[u8] {
+        line.read.of(&self.capitals)
+    }
+
+    /// Returns the text of a line.
+    pub fn text_of(&self, line: Line) -> &[u8] {
+        line.text.of(&self.text)
+    }
+
+    /// Returns the joins of a line.
+    pub fn joins_of(&self, line: Line) -> &[Join] {
+        let Span { first, end } = line.joins;
+        self.joins.get(first..end).unwrap_or(&[])
+    }
+
+    /// Returns a part of the line with an index, in capitals.
+    pub fn part_of(&self, index: usize, part: Span) -> &[u8] {
+        let line = self.all.get(index).copied().unwrap_or_default();
+        part.of(self.capitals_of(line))
+    }
+
+    fn add_text(&mut self, bytes: &[u8]) -> Result<(), AllocError> {
+        self.text.extend_from_slice(bytes)?;
+        for byte in bytes {
+            self.capitals.push(byte.to_ascii_uppercase())?;
+        }
+        Ok(())
+    }
+
+    /// Adds a line with another text, and returns its index.
+    pub fn add(&mut self, mut line: Line, bytes: &[u8]) -> Result<usize, AllocError> {
+        let first = self.text.len();
+        self.add_text(bytes)?;
+        line.text = Span::new(first, self.text.len());
+        line.read = line.text;
+        self.all.push(line)?;
+        Ok(self.all.len().wrapping_sub(1))
+    }
+
+    /// Adds a line that is read otherwise than the listing has it, and returns its index.
+    pub fn add_read(&mut self, line: Line, bytes: &[u8]) -> Result<usize, AllocError> {
+        let index = self.add(line, bytes)?;
+        if let Some(last) = self.all.last_mut() {
+            last.text = line.text;
+        }
+        Ok(index)
+    }
+
+    /// Adds joins, and one more behind them, and returns where they are.
+    pub fn add_joins(&mut self, joins: Span, last: Join) -> Result<Span, AllocError> {
+        let first = self.joins.len();
+        for index in joins.first..joins.end {
+            if let Some(join) = self.joins.get(index).copied() {
+                self.joins.push(join)?;
+            }
+        }
+        self.joins.push(last)?;
+        Ok(Span::new(first, self.joins.len()))
+    }
+
+    fn add_line(&mut self, number: u32, bytes: &[u8]) -> Result<(), AllocError> {
+        let mut line = Line::default();
+        line.number = number;
+        line.joins = Span::new(self.joins.len(), self.joins.len());
+        self.add(line, bytes)?;
+        Ok(())
+    }
+
+    /// Forgets the lines that others made.
+    pub fn forget_made(&mut self) {
+        self.all.truncate(self.own);
+        if let Some(last) = self.all.last().copied() {
+            self.text.truncate(last.text.end);
+            self.capitals.truncate(last.text.end);
+            self.joins.truncate(last.joins.end);
+        }
+    }
+
+    /// Returns the last line of a text, whose first one has an index, if another one may continue it.
+    fn continued(&self, first: usize) -> Option<Line> {
+        let line = *self.all.get(first..)?.last()?;
+        let text = self.text_of(line);
+        let is_note = text.first() == Some(&b'*') || is_empty(text);
+        (!is_note && self.joins_of(line).len() < MOST_JOINS).then_some(line)
+    }
+
+    /// Adds a line that continues the last one, which goes on after its last symbol.
+    fn join(&mut self, number: u32, last: Line, bytes: &[u8]) -> Result<(), AllocError> {
+        let text = self.text_of(last);
+        let column = if last.joins.is_empty() {
+            length_without_blanks(in_columns(text))
+        } else {
+            text.len()
+        };
+        let end = last.text.first.saturating_add(column);
+        self.text.truncate(end);
+        self.capitals.truncate(end);
+        let more = tail(in_columns(bytes), 1);
+        self.add_text(Span::new(0, length_without_blanks(more)).of(more))?;
+        let first = 2; // its comma is in column 1
+        self.joins.push(Join {
+            column,
+            number,
+            first,
+        })?;
+        if let Some(line) = self.all.last_mut() {
+            line.joins.end = self.joins.len();
+            line.text.end = self.text.len();
+            line.read = line.text;
+        }
+        Ok(())
+    }
+
+    /// Adds the lines of a text, each with those that continue it, and returns where they are.
+    fn add_lines(&mut self, source: &[u8], spans: &[Span]) -> Result<Span, AllocError> {
+        let first = self.all.len();
+        let mut number: u32 = 0;
+        for span in spans {
+            number = number.saturating_add(1);
+            let mut bytes = without_returns(span.of(source));
+            if number == 1 {
+                bytes = without_mark(bytes);
+            }
+            match self.continued(first) {
+                Some(last) if bytes.first() == Some(&b',') => self.join(number, last, bytes)?,
+                _ => self.add_line(number, bytes)?,
+            }
+        }
+        Ok(Span::new(first, self.all.len()))
+    }
+
+    /// Adds a common deck.
+    fn add_deck(&mut self, alloc: Global, deck: &Text) -> Result<(), AllocError> {
+        let text = without_mark(deck.lines);
+        let spans = cut_lines(alloc, text)?;
+        let lines = self.add_lines(text, up_to_endx(text, &spans))?;
+        self.decks.add(deck.name, lines)
+    }
+}
+
+/// Returns a text without what some editors put before it.
+fn without_mark(text: &[u8]) -> &[u8] {
+    text.strip_prefix(MARK.as_slice()).unwrap_or(text)
+}
+
+/// Returns a line without the carriage returns at its end.
+pub fn without_returns(line: &[u8]) -> &[u8] {
+    match line.iter().rposition(|byte| *byte != b'\r') {
+        Some(last) => line.get(..=last).unwrap_or(line),
+        None => b"",
+    }
+}
+
+/// Returns where the lines of a source are, each without its line feed.
+pub fn cut_lines(alloc: Global, source: &[u8]) -> Result<Vec<Span>, AllocError>
+    ensures { IfOk result (λ spans. map length_of spans.items ≡ line_lengths source.now) }
+{
+    let mut spans = Vec::new(alloc);
+    let mut first: usize = 0;
+    for at in 0..source.len() {
+        if source[at] == b'\n' {
+            spans.push(Span { first, end: at })?;
+            first = at + 1;
+        }
+    }
+    if first < source.len() {
+        spans.push(Span {
+            first,
+            end: source.len(),
+        })?;
+    }
+    Ok(spans)
+}
+
+/// Returns the lines of SUBR, those of a source and those of its common decks, each with those that continue it.
+pub fn read_lines(
+    alloc: Global,
+    source: &[u8],
+    spans: &[Span],
+    decks: &[Text],
+) -> Result<Lines, AllocError> {
+    let mut lines = Lines::new(alloc);
+    for line in &SUBR {
+        lines.add_line(0, line)?;
+    }
+    lines.source = lines.add_lines(source, spans)?;
+    for deck in decks {
+        lines.add_deck(alloc, deck)?;
+    }
+    lines.own = lines.all.len();
+    Ok(lines)
+}

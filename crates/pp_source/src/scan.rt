@@ -1,0 +1,91 @@
+//! Parts of a line: its blanks, words and digits.
+/// The column after the last one of a statement; what is there is a sequence number.
+pub const LAST_COLUMN: usize = 72;
+
+/// Returns a line from a column on.
+pub fn tail(line: &[u8], from: usize) -> &[u8] {
+    line.get(from..).unwrap_or(b"")
+}
+
+/// Returns whether a symbol is a blank within a line.
+pub fn is_blank(symbol: u8) -> bool {
+    matches!(symbol, b' ' | b'\t')
+}
+
+/// Returns whether a symbol is a letter or digit that goes on with a name or a number.
+pub fn is_alphanumeric(symbol: u8) -> bool {
+    symbol.is_ascii_uppercase() || symbol.is_ascii_digit()
+}
+
+/// Returns the column of the first symbol at or after a column that passes a test, or the length of the line.
+pub fn next_where<F: FnMut(&u8) -> bool>(line: &[u8], from: usize, test: F) -> usize
+    requires { (state : F) (x : _) → F.pre state x }
+{
+    match tail(line, from).iter().position(test) {
+        Some(distance) => from.saturating_add(distance),
+        None => line.len(),
+    }
+}
+
+/// Returns the column of the first blank at or after a column, or the length of the line.
+pub fn end_of_word(line: &[u8], from: usize) -> usize {
+    next_where(line, from, |symbol| is_blank(*symbol))
+}
+
+/// Returns the first column at or after one that has a symbol, or the length of the line.
+pub fn after_blanks(line: &[u8], from: usize) -> usize {
+    next_where(line, from, |symbol| !is_blank(*symbol))
+}
+
+/// Returns the column of a symbol at or after a column.
+pub fn find(line: &[u8], from: usize, symbol: u8) -> Option<usize> {
+    let distance = tail(line, from).iter().position(|one| *one == symbol)?;
+    distance.checked_add(from)
+}
+
+/// Returns the number of decimal digits that a text begins with, up to a most, and their value.
+pub fn digits_of(text: &[u8], most: usize) -> (usize, u32) {
+    let mut count: usize = 0;
+    let mut value: u32 = 0;
+    for symbol in text.iter().take(most) {
+        if !symbol.is_ascii_digit() {
+            break;
+        }
+        let digit = u32::from(symbol.wrapping_sub(b'0'));
+        value = value.wrapping_mul(10).wrapping_add(digit);
+        count = count.wrapping_add(1);
+    }
+    (count, value)
+}
+
+/// Returns whether a symbol is a blank, as at the end of a line.
+pub fn is_space(symbol: u8) -> bool {
+    matches!(symbol, b' ' | 0x09..=0x0d | 0x1c..=0x1f)
+}
+
+/// Returns whether a text has nothing but blanks.
+pub fn is_empty(text: &[u8]) -> bool {
+    text.iter().all(|symbol| is_space(*symbol))
+}
+
+/// Returns the length of a text without the blanks at its end.
+pub fn length_without_blanks(text: &[u8]) -> usize {
+    let last = text.iter().rposition(|symbol| !is_space(*symbol));
+    last.map_or(0, |last| last.saturating_add(1))
+}
+
+/// Returns the columns of a line that a statement has.
+pub fn in_columns(line: &[u8]) -> &[u8] {
+    line.get(..LAST_COLUMN).unwrap_or(line)
+}
+
+/// Returns the part of a text before a symbol, and the part after it, if it has the symbol.
+pub fn cut(text: &[u8], symbol: u8) -> (&[u8], Option<&[u8]>) {
+    match find(text, 0, symbol) {
+        Some(at) => (
+            text.get(..at).unwrap_or(text),
+            text.get(at.saturating_add(1)..),
+        ),
+        None => (text, None),
+    }
+}

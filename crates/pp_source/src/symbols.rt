@@ -1,0 +1,269 @@
+//! The names of a source: labels, and names of numbers.
+use crate::index::{Index, number_of_name};
+use crate::message::{Argument, Fault, Field, Outcome, Stop};
+use crate::scan::next_where;
+use crate::spans::Span;
+use std::alloc::{AllocError, Global};
+
+/// How many characters a symbol has.
+const LONGEST: usize = 8;
+
+/// What a name stands for. It has no value if its definition is wrong.
+#[derive(Clone, Copy, PartialEq, Eq, Default)]
+pub struct Definition {
+    pub value: Option<i64>,
+    /// From 1.
+    pub line: u32,
+    pub is_address: bool,
+    /// By SET, so that another SET may change it.
+    pub is_set: bool,
+    /// By EQU *.
+    pub is_here: bool,
+}
+
+impl Definition {
+    /// Returns what a name of an address stands for.
+    pub fn address(address: i64) -> Self {
+        Definition {
+            value: Some(address),
+            is_address: true,
+            ..Definition::default()
+        }
+    }
+}
+
+/// What a name stands for in the pass before and in this one. Its key is the name, or with a qualifier /Q/NAME.
+#[derive(Clone, Copy)]
+pub struct Symbol {
+    pub key: Span,
+    pub before: Option<Definition>,
+    pub seen: Option<Definition>,
+}
+
+/// The names that a pass has met, and those that the pass before met.
+#[derive(Drop)]
+pub struct Symbols {
+    /// The text of all keys and other names.
+    pub text: Vec<u8>,
+    pub all: Vec<Symbol>,
+    index: Index,
+    /// The labels of lines that are left out.
+    passed_over: Vec<Span>,
+    /// The qualifiers that QUAL names, the present one last, and their text: each between slashes.
+    qualifiers: Vec<Span>,
+    qualifier_text: Vec<u8>,
+}
+
+/// Where a name is looked up, the column of a message about it, and whether only names of the lines above count.
+#[derive(Clone, Copy)]
+pub struct Place {
+    pub name: Field,
+    pub column: usize,
+    pub is_from_above: bool,
+}
+
+/// Returns the column after the name that begins at a column, if one does.
+pub fn end_of_name(text: &[u8], at: usize) -> Option<usize> {
+    let first = *text.get(at)?;
+    let begins = first.is_ascii_uppercase() || b".#%@&!?<>[];\\':".contains(&first);
+    begins.then_some(next_where(text, at.saturating_add(1), |symbol| {
+        symbol.is_ascii_lowercase() || b" \t\n\x0b\x0c\r+-*/,^\"()_".contains(symbol)
+    }))
+}
+
+impl Symbols {
+    pub fn new(alloc: Global) -> Self {
+        Symbols {
+            text: Vec::new(alloc),
+            all: Vec::new(alloc),
+            index: Index::new(alloc),
+            passed_over: Vec::new(alloc),
+            qualifiers: Vec::new(alloc),
+            qualifier_text: Vec::new(alloc),
+        }
+    }
+
+    /// Keeps a text.
+    pub fn keep(&mut self, text: &[u8]) -> Result<Span, AllocError> {
+        let first = self.text.len();
+        self.text.extend_from_slice(text)?;
+        Ok(Span::new(first, self.text.len()))
+    }
+
+    /// Returns a text that is kept.
+    pub fn text_of(&self, text: Span) -> &[u8] {
+        text.of(&self.text)
+    }
+
+    /// Begins the next pass.
+    pub fn begin_pass(&mut self) {
+        for symbol in &mut self.all {
+            symbol.before = symbol.seen.take();
+        }
+        self.qualifiers.clear();
+    }
+
+    /// Returns whether each name stands for the same as in the pass before.
+    pub fn have_settled(&self) -> bool {
+        self.all.iter().all(|symbol| symbol.before == symbol.seen)
+    }
+
+    /// Qualifies the names that are defined from here on; * goes back to the qualifier before.
+    pub fn qualify(&mut self, name: &[u8]) -> Result<(), AllocError> {
+        if matches!(name, b"*") {
+            let _ = self.qualifiers.pop();
+            return Ok(());
+        }
+        let first = self.qualifier_text.len();
+        let slash: &[u8] = if name.is_empty() { b"" } else { b"/" };
+        for part in [slash, name, slash] {
+            self.qualifier_text.extend_from_slice(part)?;
+        }
+        let qualifier = Span::new(first, self.qualifier_text.len());
+        Ok(self.qualifiers.push(qualifier)?)
+    }
+
+    /// Returns what is before a name with the present qualifier.
+    fn prefix(&self) -> &[u8] {
+        let qualifier = self.qualifiers.last().copied().unwrap_or_default();
+        qualifier.of(&self.qualifier_text)
+    }
+
+    /// Returns the present qualifier, which is empty if there is none.
+    pub fn qualifier(&self) -> &[u8] {
+        match self.prefix() {
+            [b'/', name @ .., b'/'] => name,
+            _ => b"",
+        }
+    }
+
+    /// Keeps the label of a line that is left out.
+    pub fn pass_over(&mut self, label: &[u8]) -> Result<(), AllocError> {
+        let label = self.keep(label)?;
+        Ok(self.passed_over.push(label)?)
+    }
+
+    /// Returns whether a name is the label of a line that is left out, or that label and an X, as of a subroutine's exit.
+    pub fn is_passed_over(&self, name: &[u8]) -> bool {
+        self.passed_over.iter().any(|label| {
+            let label = self.text_of(*label);
+            label == name || name.strip_suffix(b"X") == Some(label)
+        })
+    }
+
+    /// Returns the index of the symbol whose key is a name after a prefix.
+    fn index_of(&self, prefix: &[u8], name: &[u8]) -> Option<usize> {
+        let mut next = self.index.last(number_of_name(prefix, name));
+        for _ in 0..self.all.len() {
+            let at = next?;
+            let key = self.text_of(self.all.get(at)?.key);
+            if key.strip_prefix(prefix) == Some(name) {
+                return next;
+            }
+            next = self.index.before(at);
+        }
+        None
+    }
+
+    fn symbol(&self, prefix: &[u8], name: &[u8]) -> Option<Symbol> {
+        self.all.get(self.index_of(prefix, name)?).copied()
+    }
+
+    /// Returns the symbol that a name means: with its qualifier, or else with the present one, or else without.
+    pub fn meant(&self, name: &[u8]) -> Option<Symbol> {
+        if name.first() == Some(&b'/') {
+            return self.symbol(b"", name.strip_prefix(b"//").unwrap_or(name));
+        }
+        match self.symbol(self.prefix(), name) {
+            Some(symbol) if symbol.is_known() => Some(symbol),
+            _ => self.symbol(b"", name),
+        }
+    }
+
+    /// Returns whether a line above or the pass before has defined a name.
+    pub fn is_named(&self, name: &[u8]) -> bool {
+        let is_later = |symbol: Symbol| symbol.before.is_some();
+        self.seen(name).is_some() || self.symbol(b"", name).is_some_and(is_later)
+    }
+
+    /// Gives a name of a line its meaning.
+    pub fn define(&mut self, line: &[u8], field: Field, definition: Definition) -> Outcome {
+        let name = field.of(line);
+        if end_of_name(name, 0) != Some(name.len()) {
+            let text = match name.first() {
+                Some(b'$' | b'=' | b'0'..=b'9') => {
+                    "{} is no symbol: a symbol begins with no digit, $ or ="
+                }
+                _ => "{} is no symbol: a symbol has none of + - * / , ^ ( ) _ \"",
+            };
+            return Err(Stop::of(text, field));
+        }
+        if name.len() > LONGEST {
+            return Err(Stop::of("the symbol {} is longer than 8 characters", field));
+        }
+        let Some(index) = self.index_of(self.prefix(), name) else {
+            return self.add(name, definition);
+        };
+        let Some(symbol) = self.all.get_mut(index) else {
+            return Ok(());
+        };
+        if let Some(old) = symbol.seen
+            && !(definition.is_set && old.is_set)
+        {
+            let fault = Fault::new("{} is defined twice: line {} (decimal) has it too");
+            return Err(fault.part(field).decimal(old.line).at(field.first));
+        }
+        symbol.seen = Some(definition);
+        Ok(())
+    }
+
+    /// Adds a name with the present qualifier.
+    fn add(&mut self, name: &[u8], definition: Definition) -> Outcome {
+        let first = self.text.len();
+        let qualifier = self.qualifiers.last().copied().unwrap_or_default();
+        let prefix = qualifier.of(&self.qualifier_text);
+        self.index.add(number_of_name(prefix, name))?;
+        self.text.extend_from_slice(prefix)?;
+        let key = Span::new(first, self.keep(name)?.end);
+        let symbol = Symbol {
+            key,
+            before: None,
+            seen: Some(definition),
+        };
+        Ok(self.all.push(symbol)?)
+    }
+
+    /// Returns what a name stands for by a line above.
+    pub fn seen(&self, name: &[u8]) -> Option<Definition> {
+        self.meant(name)?.seen
+    }
+
+    /// Returns what a name stands for. Only a name of a line above counts if that is asked, and of SET in any case. In the first pass
+    /// a name may stand for nothing yet.
+    pub fn look_up(&self, name: &[u8], at: Place, is_last: bool) -> Outcome<Definition> {
+        let symbol = self.meant(name);
+        if let Some(seen) = symbol.and_then(|symbol| symbol.seen) {
+            return Ok(seen);
+        }
+        match symbol.and_then(|symbol| symbol.before) {
+            Some(later) if !at.is_from_above && !later.is_set => Ok(later),
+            Some(later) => {
+                let fault = Fault::new("{} is defined only later, in line {} (decimal)");
+                Err(fault.part(at.name).decimal(later.line).at(at.column))
+            }
+            None if !at.is_from_above && !is_last => Ok(Definition::address(0)),
+            None if self.is_passed_over(name) => Err(Stop::Follows),
+            None => {
+                let fault = Fault::new("{} is not defined{}").part(at.name);
+                Err(fault.with(Argument::NearestSymbol(at.name)).at(at.column))
+            }
+        }
+    }
+}
+
+impl Symbol {
+    /// Returns whether this pass or the one before has met the name.
+    pub fn is_known(&self) -> bool {
+        self.seen.is_some() || self.before.is_some()
+    }
+}

@@ -1,0 +1,261 @@
+//! The directives that name numbers, move the counters or say how the rest is meant.
+use crate::encoding::bits_of;
+use crate::scope::{CELLS, Scope};
+use crate::values::{Base, Value};
+use pp_source::{
+    Argument, Definition, Fault, Field, Here, Operation, Order, Outcome, Parts, Statement, Stop,
+    find, first_parts,
+};
+
+const BASE_WANTED: &str = "BASE takes OCTAL, DECIMAL, MIXED or, after one of these, *; not {}";
+
+/// Returns that an operation has no operand, if it has none.
+pub fn wants_operand(statement: Statement) -> Outcome {
+    if statement.operand.is_empty() {
+        let text = "{} wants an operand; in column 30 or later is a comment";
+        return Err(Stop::of(text, statement.operation));
+    }
+    Ok(())
+}
+
+/// Returns the operand, of which there must be one and no more.
+pub fn the_only(here: &Here, statement: Statement) -> Outcome<Field> {
+    wants_operand(statement)?;
+    let found = first_parts(here.text, statement.operand, false)?;
+    let [first, second, _] = found.parts;
+    if found.count > 1 {
+        let fault = Fault::new("{} takes one operand").part(statement.operation);
+        return Err(fault.at(second.first));
+    }
+    Ok(first)
+}
+
+impl Scope {
+    /// Returns the operands, of which there must be one.
+    pub fn items(
+        &self,
+        here: &Here,
+        statement: Statement,
+        is_delimited: bool,
+    ) -> Outcome<Vec<Field>> {
+        wants_operand(statement)?;
+        let mut items = Vec::new(self.alloc);
+        let mut parts = Parts::new(statement.operand, is_delimited);
+        for _ in 0..=here.text.len() {
+            let Some(part) = parts.next(here.text)? else {
+                break;
+            };
+            items.push(part)?;
+        }
+        Ok(items)
+    }
+
+    /// BSS leaves cells, backwards if their number is minus.
+    pub fn space(&mut self, here: &Here, statement: Statement) -> Outcome {
+        let operand = the_only(here, statement)?;
+        let count = self.count(here, operand, -(CELLS as i64))?;
+        self.plain_row(here, true)?;
+        let location = self.location.wrapping_add(count);
+        self.move_to(self.origin.wrapping_add(count), location);
+        if count < 0 {
+            let fault = Fault::new("warning: BSS goes back by {} (octal) cells");
+            let fault = fault.octal(count.wrapping_neg());
+            self.warn(here, statement.operand.first, fault)?;
+            self.over_from = Some(self.origin);
+        }
+        Ok(())
+    }
+
+    /// ORG sets both counters, in the nominal block; its label has the address after it.
+    pub fn set_origin(&mut self, here: &Here, statement: Statement) -> Outcome {
+        let operand = the_only(here, statement)?;
+        let number = self.count(here, operand, 0)?;
+        if let Some(block) = self.named_block() {
+            let fault = Fault::new("warning: ORG in the block {} goes on in the nominal block");
+            let fault = fault.with(Argument::Kept(block));
+            self.warn(here, statement.operation.first, fault)?;
+            self.use_block(b"")?;
+        }
+        self.move_to(number, number);
+        self.over_from = Some(self.origin);
+        self.plain_row(here, true)?;
+        self.label(here, statement)
+    }
+
+    /// LOC sets the location counter alone.
+    pub fn set_location(&mut self, here: &Here, statement: Statement) -> Outcome {
+        let operand = the_only(here, statement)?;
+        let number = self.count(here, operand, 0)?;
+        self.move_to(self.origin, number);
+        self.plain_row(here, true)?;
+        self.label(here, statement)
+    }
+
+    /// USE goes on with a block: 0 or none is the nominal one, * the one before.
+    pub fn set_block(&mut self, here: &Here, statement: Statement) -> Outcome {
+        let name = statement.operand.of(here.text);
+        self.use_block(if matches!(name, b"0") { b"" } else { name })?;
+        self.plain_row(here, true)?;
+        self.label(here, statement)
+    }
+
+    /// QUAL qualifies the names that are defined from here on; * goes back, and without a name they have no qualifier.
+    pub fn set_qualifier(&mut self, here: &Here, statement: Statement) -> Outcome {
+        let name = without_marks(statement.operand.of(here.text));
+        self.symbols.qualify(name)?;
+        self.plain_row(here, false)
+    }
+
+    /// LIT puts words among the literals; its label is the address of the first one.
+    pub fn literals(&mut self, here: &Here, statement: Statement) -> Outcome {
+        let words = self.data(here, statement)?;
+        let address = self.literals.address_of(&words)?;
+        if !matches!(statement.location.of(here.text), b"" | b"-") {
+            self.define(here, statement.location, Definition::address(address))?;
+        }
+        self.value_row(here, Some(address), false)
+    }
+
+    /// EQU, =, SET, MAX and MIN name the number of an expression; a name whose expression is wrong has none.
+    pub fn equate(&mut self, here: &Here, statement: Statement, operation: Operation) -> Outcome {
+        if statement.location.is_empty() {
+            return Err(Stop::of("{} wants a symbol before it", statement.operation));
+        }
+        let chosen = match operation {
+            Operation::Greatest => self.chosen(here, statement, true),
+            Operation::Least => self.chosen(here, statement, false),
+            _ => self.value(here, statement.operand, true),
+        };
+        let meaning = chosen.map(|value| (Some(value.number), value.addresses == 1));
+        let (value, is_address) = self.reported(here, meaning, (None, false))?;
+        let is_set = !matches!(operation, Operation::Equate);
+        let definition = Definition {
+            value,
+            is_address,
+            is_set,
+            is_here: matches!(statement.operand.of(here.text), b"*" | b"*L" | b"*O"),
+            ..Definition::default()
+        };
+        self.define(here, statement.location, definition)?;
+        self.value_row(here, value, is_set)
+    }
+
+    /// Returns the greatest or the least of several expressions, with what the first one says of addresses.
+    fn chosen(&mut self, here: &Here, statement: Statement, is_greatest: bool) -> Outcome<Value> {
+        let mut chosen: Option<Value> = None;
+        for item in &self.items(here, statement, false)? {
+            let value = self.value(here, *item, true)?;
+            let before = chosen.unwrap_or(value);
+            let is_before = (before.number > value.number) == is_greatest;
+            let number = if is_before {
+                before.number
+            } else {
+                value.number
+            };
+            chosen = Some(Value::new(number, before.addresses));
+        }
+        chosen.ok_or(Stop::Follows)
+    }
+
+    /// ERR is an error, ERRNZ and the others if their expression is so.
+    pub fn error(&mut self, here: &Here, statement: Statement, order: Option<Order>) -> Outcome {
+        self.plain_row(here, false)?;
+        let is_error = match order {
+            Some(order) => order.holds(self.number(here, statement.operand, false)?, 0),
+            None => true,
+        };
+        if is_error && self.is_last {
+            let text = "{}: the source says that this is an error";
+            return Err(Stop::of(text, statement.operation));
+        }
+        Ok(())
+    }
+
+    /// IDENT names a program; a second one begins another program of the same source.
+    pub fn name_program(&mut self, here: &Here, statement: Statement) -> Outcome {
+        let operand = statement.operand.of(here.text);
+        let end = find(operand, 0, b',').unwrap_or(operand.len());
+        let name = operand.get(..end).unwrap_or(b"");
+        if self.has_name {
+            self.end_unit(here)?;
+            self.begin_unit(name)?;
+        }
+        self.has_name = true;
+        self.unit_name = Vec::from_slice(self.alloc, name)?;
+        self.plain_row(here, false)
+    }
+
+    /// BASE says what numbers without a letter are; * goes back.
+    pub fn set_base(&mut self, here: &Here, statement: Statement) -> Outcome {
+        let word = statement.operand.of(here.text);
+        let before = if matches!(word, b"*") {
+            self.bases.pop()
+        } else {
+            None
+        };
+        match (before, base_of(word)) {
+            (Some(base), _) => self.base = base,
+            (None, Some(base)) => {
+                self.bases.push(self.base)?;
+                self.base = Some(base);
+            }
+            (None, None) => {
+                let fault = Fault::new(BASE_WANTED).part_or_nothing(statement.operand);
+                return Err(fault.at(statement.operand.first));
+            }
+        }
+        self.plain_row(here, false)
+    }
+
+    /// END says where the program begins, if it has an operand.
+    pub fn end(&mut self, here: &Here, statement: Statement) -> Outcome {
+        if !statement.operand.is_empty() {
+            let start = self.field(here, statement.operand, 12, None)?;
+            self.start = Some(bits_of(start, 0o7777));
+        }
+        self.end_unit(here)?;
+        self.has_ended = true;
+        self.plain_row(here, false)
+    }
+
+    /// LDK and ADK are an instruction of one word if their operand is known to be small.
+    pub fn shortest(&mut self, here: &Here, statement: Statement, operation: Operation) -> Outcome {
+        let Operation::Shortest(small, minus, other) = operation else {
+            return Ok(());
+        };
+        let operand = the_only(here, statement)?;
+        let number = match self.number(here, operand, true) {
+            Ok(number) => number,
+            Err(Stop::At(..) | Stop::Follows) => CELLS as i64,
+            Err(stop) => return Err(stop),
+        };
+        if number < 0 && number > -0o100 {
+            let d = u16::try_from(number.wrapping_neg()).unwrap_or(0);
+            return self.put_instruction(here, minus, [u16::from(minus).wrapping_mul(0o100) | d, 0]);
+        }
+        let is_small = (0..0o100).contains(&number);
+        self.instruction(here, statement, if is_small { small } else { other })
+    }
+}
+
+/// Returns a text without the slashes at its ends.
+fn without_marks(text: &[u8]) -> &[u8] {
+    let mut rest = text;
+    for _ in 0..text.len() {
+        rest = match rest {
+            [b'/', rest @ ..] | [rest @ .., b'/'] => rest,
+            _ => break,
+        };
+    }
+    rest
+}
+
+/// Returns the base that a word, or its beginning, names.
+pub fn base_of(word: &[u8]) -> Option<Base> {
+    match word.first()? {
+        b'O' if b"OCTAL".starts_with(word) => Some(Base::Octal),
+        b'D' if b"DECIMAL".starts_with(word) => Some(Base::Decimal),
+        b'M' if b"MIXED".starts_with(word) => Some(Base::Mixed),
+        _ => None,
+    }
+}

@@ -1,0 +1,173 @@
+//! The words of statements, and how they are put into cells.
+use crate::scope::{CELLS, Scope, Slot};
+use pp_notation::{Form, form_of, size_of};
+use pp_source::{
+    Argument, Fault, Field, FirstParts, Here, Outcome, Statement, Stop, first_parts, is_empty, tail,
+};
+
+/// How many words a source makes, though only as many as a memory has can be right.
+const MOST_WORDS: usize = 100_000;
+/// How many cells a relative jump reaches, either way.
+const NEAR: i64 = 0o37;
+
+const SIZE: i64 = CELLS as i64;
+
+/// Returns the least and the most operands of a form, and what it takes.
+fn wanted(form: Form) -> (usize, usize, &'static str) {
+    match form {
+        Form::Alone => (0, 1, "one operand at most"),
+        Form::D => (1, 1, "one operand"),
+        Form::Target => (1, 1, "the address to which it jumps"),
+        Form::Constant => (1, 1, "one operand of 18 (decimal) bits"),
+        Form::Indexed => (1, 2, "an address and, if it is indexed, a comma and a cell"),
+        Form::Both => (2, 2, "an address and, after a comma, a channel or a cell"),
+    }
+}
+
+/// Returns the index of a cell, which is none of a memory if there is no such cell.
+pub fn index_of(cell: i64) -> usize {
+    usize::try_from(cell).unwrap_or(CELLS)
+}
+
+impl Scope {
+    /// Makes the words of an instruction. There are always as many, also if the statement is wrong.
+    pub fn instruction(&mut self, here: &Here, statement: Statement, code: u8) -> Outcome {
+        let words = self.words_of(here, statement, code);
+        let words = self.reported(here, words, [0, 0])?;
+        self.put_instruction(here, code, words)
+    }
+
+    /// Puts the words of an instruction, of which it may have the first one alone.
+    pub fn put_instruction(&mut self, here: &Here, code: u8, words: [u16; 2]) -> Outcome {
+        self.put(here, words.get(..size_of(code)).unwrap_or(&[]))
+    }
+
+    /// Returns the words of an instruction; the second one is 0 if it has one alone.
+    fn words_of(&mut self, here: &Here, statement: Statement, code: u8) -> Outcome<[u16; 2]> {
+        let FirstParts { count, parts } = operands_of(here, statement, code)?;
+        let [first, second, _] = parts;
+        let (d, m) = match form_of(code) {
+            _ if count == 0 => (0, 0),
+            Form::Constant => {
+                let number = self.field(here, first, 18, None)?;
+                (number / 0o10000, number)
+            }
+            Form::Indexed | Form::Both if count == 2 => {
+                let d = self.field(here, second, 6, None)?;
+                (d, self.field(here, first, 12, None)?)
+            }
+            Form::Indexed | Form::Both => (0, self.field(here, first, 12, None)?),
+            Form::Target => (self.distance(here, first, code)?, 0),
+            Form::Alone | Form::D => (self.field(here, first, 6, Some(code))?, 0),
+        };
+        let upper = u16::from(code).wrapping_mul(0o100);
+        Ok([upper | bits_of(d, 0o77), bits_of(m, 0o7777)])
+    }
+
+    /// Returns d of a relative jump to a target; addresses go round after 7777.
+    fn distance(&mut self, here: &Here, target: Field, code: u8) -> Outcome<u64> {
+        let number = self.number(here, target, false)?;
+        if number <= -SIZE || number >= 2 * SIZE {
+            let fault = Fault::new("{} (octal) is no address").octal(number);
+            return Err(fault.at(target.first));
+        }
+        let cells = number.wrapping_sub(self.location).wrapping_add(SIZE / 2) & (SIZE - 1);
+        let cells = cells.wrapping_sub(SIZE / 2);
+        if self.is_last && !(-NEAR..=NEAR).contains(&cells) {
+            let fault = Fault::new(if cells > 0 {
+                "{} is {} (octal) cells on, and {} reaches 37; {}"
+            } else {
+                "{} is {} (octal) cells back, and {} reaches 37; {}"
+            });
+            let fault = fault.part(target).octal(cells.wrapping_abs());
+            let fault = fault.with(Argument::Instruction(code));
+            let fault = fault.with(Argument::Reaching(target, code));
+            return Err(fault.at(target.first));
+        }
+        let d = cells.wrapping_add(if cells < 0 { 0o77 } else { 0 });
+        Ok(u64::try_from(d & 0o77).unwrap_or(0))
+    }
+
+    /// Puts words into the cells from here on. Of lines that follow one another only the first is reported if they can't be.
+    pub fn put(&mut self, here: &Here, words: &[u16]) -> Outcome {
+        self.made = self.made.saturating_add(words.len());
+        if self.made > MOST_WORDS {
+            return Err(Stop::too_much("more than 100000 (decimal) words"));
+        }
+        self.add_row(here, words, true, None, false)?;
+        for word in words {
+            self.put_word(here, *word)?;
+            self.origin = self.origin.wrapping_add(1);
+            self.location = self.location.wrapping_add(1);
+        }
+        Ok(())
+    }
+
+    /// Puts a word into the present cell, or reports why that can't be.
+    fn put_word(&mut self, here: &Here, word: u16) -> Outcome {
+        if !self.is_last {
+            return Ok(());
+        }
+        let cell = self.origin;
+        if let Some(fault) = self.why_not_into(here, cell)? {
+            if self.wrong_from != Some(cell) {
+                self.report(here, 0, fault)?;
+            }
+            self.wrong_from = Some(cell.wrapping_add(1));
+        } else if let Some(slot) = self.cells.get_mut(index_of(cell)) {
+            slot.word = word;
+            slot.line = here.line.number;
+        }
+        Ok(())
+    }
+
+    /// Returns why no word can be put into a cell. Words that begin over others, after ORG or BSS, may be there.
+    fn why_not_into(&mut self, here: &Here, cell: i64) -> Outcome<Option<Fault>> {
+        let Some(Slot { line, .. }) = self.cells.get(index_of(cell)).copied() else {
+            return Ok(Some(Fault::new("this goes past cell 7777")));
+        };
+        if line == 0 {
+            return Ok(None);
+        }
+        let is_warning = self.over_from == Some(cell);
+        let fault = Fault::new(if is_warning {
+            "warning: cell {} is filled by line {} (decimal) too"
+        } else {
+            "cell {} is filled by line {} (decimal) too"
+        });
+        let address = u16::try_from(cell).unwrap_or(0);
+        let fault = fault.with(Argument::Cell(address)).decimal(line);
+        if !is_warning {
+            return Ok(Some(fault));
+        }
+        self.warn(here, 0, fault)?;
+        self.over_from = Some(cell.wrapping_add(1));
+        Ok(None)
+    }
+}
+
+/// Returns the lower bits of a number.
+pub fn bits_of(number: u64, mask: u16) -> u16 {
+    u16::try_from(number & u64::from(mask)).unwrap_or(0)
+}
+
+/// Returns the operands, as many as the instruction may have.
+fn operands_of(here: &Here, statement: Statement, code: u8) -> Outcome<FirstParts> {
+    let operand = statement.operand;
+    let is_literal = operand.of(here.text).first() == Some(&b'=');
+    let found = first_parts(here.text, operand, is_literal)?;
+    let (least, most, takes) = wanted(form_of(code));
+    if (least..=most).contains(&found.count) {
+        return Ok(found);
+    }
+    let name = statement.operation;
+    let is_far = found.count == 0 && !is_empty(tail(here.text, name.end));
+    let fault = Fault::new(if is_far {
+        "{} takes {}; what begins in column 30 or later is a comment"
+    } else {
+        "{} takes {}"
+    });
+    let first_left = found.parts.get(most).filter(|_| found.count > most);
+    let column = first_left.unwrap_or(&name).first;
+    Err(fault.part(name).with(Argument::Text(takes)).at(column))
+}

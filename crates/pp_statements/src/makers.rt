@@ -1,0 +1,192 @@
+//! The directives that make words.
+use crate::encoding::{bits_of, index_of};
+use crate::scope::{OpenWord, Scope};
+use pp_source::{
+    DisplayText, Fault, Field, Here, Outcome, Statement, Stop, are_in_code, before_mark, code_of,
+    digits_of, no_code, tail, text_at,
+};
+
+const WORD_BITS: u32 = 12;
+
+const MOST_BITS: u32 = 60;
+/// How many words DIS has at most.
+const LAST: u32 = 0o7777;
+
+impl Scope {
+    /// CON has expressions.
+    pub fn expressions(&mut self, here: &Here, statement: Statement) -> Outcome<Vec<u16>> {
+        let mut words = Vec::new(self.alloc);
+        for item in &self.items(here, statement, false)? {
+            let word = self.field(here, *item, WORD_BITS, None)?;
+            words.push(bits_of(word, 0o7777))?;
+        }
+        Ok(words)
+    }
+
+    /// BSSZ has words of zero.
+    pub fn zeros(&mut self, here: &Here, operand: Field) -> Outcome<Vec<u16>> {
+        let count = usize::try_from(self.count(here, operand, 0)?).unwrap_or(0);
+        Ok(vec![in self.alloc; 0; count]?)
+    }
+
+    /// DATA has numbers and texts.
+    pub fn data(&mut self, here: &Here, statement: Statement) -> Outcome<Vec<u16>> {
+        let mut words = Vec::new(self.alloc);
+        for item in &self.items(here, statement, true)? {
+            if let Err(stop) = self.datum(here, *item, &mut words) {
+                self.report_stop(here, stop)?;
+                words.push(0)?;
+            }
+        }
+        Ok(words)
+    }
+
+    /// Adds the words of a number or a text.
+    pub fn datum(&mut self, here: &Here, item: Field, words: &mut Vec<u16>) -> Outcome {
+        let text = item.of(here.text);
+        let Some(found) = text_at(text, 0, true)? else {
+            if !is_number(text) {
+                let fault = Fault::new("{} is no number or text; CON takes expressions");
+                return Err(fault.part_or_nothing(item).at(item.first));
+            }
+            let number = self.number_field(here, item, WORD_BITS);
+            let word = self.reported(here, number, 0)?;
+            return Ok(words.push(bits_of(word, 0o7777))?);
+        };
+        if found.end != text.len() {
+            let rest = item.part(found.end, text.len());
+            return Err(Stop::of("{} follows the text", rest));
+        }
+        are_in_code(found.symbols, item.first)?;
+        put_text(words, found)
+    }
+
+    /// DIS n,text has n words of a text; DIS ,*text* ends in a word of zero.
+    pub fn text(&mut self, here: &Here, statement: Statement) -> Outcome<Vec<u16>> {
+        let operand = statement.operand.of(here.text);
+        let (digits, count) = digits_of(operand, 4);
+        let column = statement.operand.first;
+        if operand.get(digits) != Some(&b',') || count > LAST {
+            return Err(Fault::new("DIS wants words,text or ,*text*").at(column));
+        }
+        let before = digits.saturating_add(1);
+        let column = column.saturating_add(before);
+        let rest = tail(operand, before);
+        let text = if digits > 0 {
+            let size = (count as usize).saturating_mul(2);
+            DisplayText::new(b'H', rest.get(..size).unwrap_or(rest), size, 0)
+        } else {
+            let mark = rest.first().copied().unwrap_or(b'*');
+            let symbols = before_mark(tail(rest, 1), mark, column)?;
+            DisplayText::new(b'C', symbols, symbols.len(), 0)
+        };
+        let is_blank = |symbol: &u8| digits > 0 && *symbol == b'\t';
+        let is_wrong = |symbol: &&u8| code_of(**symbol).is_none() && !is_blank(*symbol);
+        if let Some(symbol) = text.symbols.iter().find(is_wrong) {
+            self.report(here, column, no_code(*symbol))?;
+            return Ok(vec![in self.alloc; 0; text.size_in_words() / 2]?);
+        }
+        let mut words = Vec::new(self.alloc);
+        put_text(&mut words, text)?;
+        Ok(words)
+    }
+
+    /// VFD has fields of bits. One without a label goes on in the word that the one before has not filled.
+    pub fn bits(&mut self, here: &Here, statement: Statement) -> Outcome<Vec<u16>> {
+        let items = self.items(here, statement, false)?;
+        let mut words = Vec::new(self.alloc);
+        let mut used = WORD_BITS;
+        let is_plain = matches!(statement.location.of(here.text), b"" | b"-");
+        let before = self.origin.wrapping_sub(1);
+        let open = self.open.filter(|word| is_plain && word.cell == before);
+        if let Some(word) = open {
+            words.push(0)?;
+            used = word.used;
+        }
+        for item in &items {
+            match self.bits_field(here, *item) {
+                Ok((size, number)) => used = add_bits(&mut words, used, size, number)?,
+                Err(stop) => self.report_stop(here, stop)?,
+            }
+        }
+        if words.is_empty() {
+            return Ok(words);
+        }
+        if open.is_some() {
+            self.fill_last(words.remove(0));
+        }
+        let count = i64::try_from(words.len()).unwrap_or(0);
+        let cell = self.origin.wrapping_add(count).wrapping_sub(1);
+        self.open = Some(OpenWord { cell, used });
+        Ok(words)
+    }
+
+    /// Returns the size, decimal, and the number of a field.
+    fn bits_field(&mut self, here: &Here, item: Field) -> Outcome<(u32, u64)> {
+        let text = item.of(here.text);
+        let (digits, size) = digits_of(text, 2);
+        if digits == 0 || text.get(digits) != Some(&b'/') || size == 0 || size > MOST_BITS {
+            return Err(Stop::of(
+                "{} is not a number of bits, 1 to 60 (decimal), a / and an expression",
+                item,
+            ));
+        }
+        let expression = item.part(digits.saturating_add(1), text.len());
+        Ok((size, self.field(here, expression, size, None)?))
+    }
+
+    /// Puts bits into the last word, which was not full.
+    fn fill_last(&mut self, bits: u16) {
+        if let Some(slot) = self.cells.get_mut(index_of(self.origin.wrapping_sub(1)))
+            && slot.line != 0
+        {
+            slot.word |= bits;
+        }
+        if let Some(last) = self.words.last_mut() {
+            *last |= bits;
+        }
+    }
+}
+
+/// Adds the bits of a field, the upper ones first, and returns how many bits of the last word are then used.
+fn add_bits(words: &mut Vec<u16>, used: u32, size: u32, number: u64) -> Outcome<u32> {
+    let mut used = used;
+    for bit in 0..size {
+        if used >= WORD_BITS {
+            words.push(0)?;
+            used = 0;
+        }
+        used = used.saturating_add(1);
+        let below = size.wrapping_sub(bit).wrapping_sub(1);
+        let one = bits_of(number.wrapping_shr(below), 1);
+        if let Some(last) = words.last_mut() {
+            *last |= one.wrapping_shl(WORD_BITS.wrapping_sub(used));
+        }
+    }
+    Ok(used)
+}
+
+/// Adds the words of a text, two symbols each.
+fn put_text(words: &mut Vec<u16>, text: DisplayText) -> Outcome {
+    let size = text.size_in_words();
+    for word in 0..size / 2 {
+        let at = word.saturating_mul(2);
+        let upper = u16::from(text.code(at, size)).wrapping_mul(0o100);
+        let lower = u16::from(text.code(at.saturating_add(1), size));
+        words.push((upper | lower) & 0o7777)?;
+    }
+    Ok(())
+}
+
+/// Returns whether a text is a number of DATA: a sign, digits and a letter.
+fn is_number(text: &[u8]) -> bool {
+    let digits = match text {
+        [b'+' | b'-', rest @ ..] => rest,
+        digits => digits,
+    };
+    let digits = match digits {
+        [rest @ .., b'B' | b'D' | b'O'] => rest,
+        digits => digits,
+    };
+    !digits.is_empty() && digits.iter().all(|digit| digit.is_ascii_digit())
+}

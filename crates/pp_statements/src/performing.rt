@@ -1,0 +1,101 @@
+//! The statements of a source, performed one after another.
+use crate::directives::the_only;
+use crate::scope::Scope;
+use pp_source::{Argument, Fault, Here, Operation, Outcome, Statement, Stop, is_operation};
+
+const LABEL_IS_OPERATION: &str =
+    "{} is no operation; {} is taken as a label, for it is not in column 3 or later";
+
+const LABEL_IS_LATER: &str = "{} is no operation; a label begins in column 1 or 2";
+
+impl Scope {
+    /// Scopees over a statement after END, of which the first one is reported.
+    pub fn after_end(&mut self, here: &Here, statement: Statement) -> Outcome {
+        if !self.is_last {
+            self.symbols.pass_over(statement.location.of(here.text))?;
+        }
+        if !self.has_more {
+            self.has_more = true;
+            return self.report(here, 0, Fault::new("this is after END"));
+        }
+        Ok(())
+    }
+
+    /// Performs an instruction or a directive.
+    pub fn one(&mut self, here: &Here, statement: Statement, operation: Operation) -> Outcome {
+        match operation {
+            Operation::Equate | Operation::Set | Operation::Greatest | Operation::Least =>
+                self.equate(here, statement, operation),
+            Operation::Error(test) => self.error(here, statement, test),
+            Operation::Ignored => self.plain_row(here, false),
+            Operation::Name => self.name_program(here, statement),
+            Operation::Base => self.set_base(here, statement),
+            Operation::Deck => {
+                self.is_deck = true;
+                self.plain_row(here, false)
+            }
+            Operation::Origin => self.set_origin(here, statement),
+            Operation::Location => self.set_location(here, statement),
+            Operation::Use => self.set_block(here, statement),
+            Operation::Qualifier => self.set_qualifier(here, statement),
+            Operation::Literals => self.literals(here, statement),
+            _ => {
+                self.label(here, statement)?;
+                self.labelled(here, statement, operation)
+            }
+        }
+    }
+
+    /// Performs an instruction or a directive whose label has been defined.
+    fn labelled(&mut self, here: &Here, statement: Statement, operation: Operation) -> Outcome {
+        let words = match operation {
+            Operation::None => return self.plain_row(here, true),
+            Operation::Instruction(code) => return self.instruction(here, statement, code),
+            Operation::Shortest { .. } => return self.shortest(here, statement, operation),
+            Operation::Space => return self.space(here, statement),
+            Operation::Expressions => self.expressions(here, statement)?,
+            Operation::Data => self.data(here, statement)?,
+            Operation::Bits => self.bits(here, statement)?,
+            Operation::Text => self.text(here, statement)?,
+            Operation::Zeros => self.zeros(here, the_only(here, statement)?)?,
+            _ => return Err(self.why_not(here, statement, operation)),
+        };
+        self.put(here, &words)
+    }
+
+    /// Returns what is wrong with an operation that is none.
+    fn why_not(&self, here: &Here, statement: Statement, operation: Operation) -> Stop {
+        let name = statement.operation;
+        if self.symbols.is_passed_over(name.of(here.text)) {
+            return Stop::Follows;
+        }
+        let fault = match operation {
+            Operation::Inside => Fault::new("{} ends nothing here").part(name),
+            Operation::Refused(instead) => Fault::new("{} is not taken: {}")
+                .part(name)
+                .with(Argument::Text(instead)),
+            _ if is_operation(statement.location.of(here.text)) => Fault::new(LABEL_IS_OPERATION)
+                .part(name)
+                .part(statement.location),
+            _ if is_operation(statement.operand.of(here.text)) => Fault::new(LABEL_IS_LATER).part(
+                name,
+            ),
+            _ => Fault::new("{} is no instruction, directive or macro{}")
+                .part(name)
+                .with(Argument::NearestOperation(name, self.performed)),
+        };
+        Stop::At(name.first, fault)
+    }
+}
+
+/// Returns that a statement has a symbol that is not known yet, if one of its fields has: only the comment may have letters beyond ASCII.
+pub fn is_known(here: &Here, statement: Statement) -> Outcome {
+    for field in &[statement.location, statement.operation, statement.operand] {
+        for symbol in field.of(here.text) {
+            if !(symbol.is_ascii_graphic() || *symbol == b' ' || *symbol == b'\t') {
+                return Err(Stop::not_yet(*field));
+            }
+        }
+    }
+    Ok(())
+}

@@ -1,0 +1,355 @@
+//! What a pass knows at a line, and what it has made: its counters, its names, its cells, and the rows of the listing.
+use crate::units::{Blocks, Literals, Unit};
+use crate::values::{Base, Expression, Value};
+use pp_source::{
+    Argument, Definition, DisplayText, Fault, Field, Here, Message, Outcome, Statement, Stop,
+    Symbols, are_in_code, text_at,
+};
+use std::alloc::{AllocError, Global};
+
+/// The number of cells of a memory.
+pub const CELLS: usize = 4096;
+/// How many statements a source has, those of a macro of its own among them.
+pub const MOST_STATEMENTS: u32 = 100_000;
+
+/// Returns that a source makes too many statements.
+pub fn too_many_statements() -> Stop {
+    Stop::too_much("more than 100000 (decimal) statements")
+}
+
+/// What the source puts into a cell; the line, from 1, is 0 if there is nothing.
+#[derive(Clone, Copy, Default)]
+pub struct Slot {
+    pub word: u16,
+    pub line: u32,
+}
+
+/// What the listing has of a line.
+#[derive(Clone, Copy)]
+pub struct Row {
+    /// The index of the statement.
+    pub statement: usize,
+    pub origin: i64,
+    pub location: i64,
+    /// Where its words are, from the first one to before the last one.
+    pub first: usize,
+    pub end: usize,
+    pub has_address: bool,
+    /// The number that the line names.
+    pub value: Option<i64>,
+    /// The number may change.
+    pub is_set: bool,
+    /// The line has been performed, and is not only listed.
+    pub is_performed: bool,
+}
+
+/// A word of VFD that is not full: its cell, and how many bits are used.
+#[derive(Clone, Copy)]
+pub struct OpenWord {
+    pub cell: i64,
+    pub used: u32,
+}
+
+/// What a pass knows at a line, and what it has made.
+#[derive(Drop)]
+pub struct Scope {
+    pub is_last: bool,
+    pub symbols: Symbols,
+    pub base: Option<Base>,
+    /// Those that BASE * goes back to.
+    pub bases: Vec<Option<Base>>,
+    pub is_deck: bool,
+    pub origin: i64,
+    pub location: i64,
+    pub open: Option<OpenWord>,
+    pub cells: Vec<Slot>,
+    pub words: Vec<u16>,
+    pub rows: Vec<Row>,
+    pub messages: Vec<Message>,
+    pub warnings: Vec<Message>,
+    /// The cell after words that could not be put; what follows there follows from that fault.
+    pub wrong_from: Option<i64>,
+    /// The cell after words that are over others, because of ORG or BSS.
+    pub over_from: Option<i64>,
+    pub start: Option<u16>,
+    pub has_ended: bool,
+    pub has_more: bool,
+    pub has_name: bool,
+    pub alloc: Global,
+    pub blocks: Blocks,
+    pub literals: Literals,
+    /// The name of the present program.
+    pub unit_name: Vec<u8>,
+    /// The programs that have ended.
+    pub units: Vec<Unit>,
+    /// How many words and statements there are.
+    pub made: usize,
+    pub performed: u32,
+}
+
+impl Scope {
+    /// Returns what a pass knows before its first line.
+    pub fn new(
+        alloc: Global,
+        symbols: Symbols,
+        blocks: Blocks,
+        is_last: bool,
+    ) -> Result<Self, AllocError> {
+        let cells = vec![in alloc; Slot::default(); CELLS]?;
+        let mut scope = Scope {
+            is_last,
+            symbols,
+            base: None,
+            bases: Vec::new(alloc),
+            is_deck: false,
+            origin: 0,
+            location: 0,
+            open: None,
+            cells,
+            words: Vec::new(alloc),
+            rows: Vec::new(alloc),
+            messages: Vec::new(alloc),
+            warnings: Vec::new(alloc),
+            wrong_from: None,
+            over_from: None,
+            start: None,
+            has_ended: false,
+            has_more: false,
+            has_name: false,
+            alloc,
+            blocks,
+            literals: Literals::new(alloc),
+            unit_name: Vec::new(alloc),
+            units: Vec::new(alloc),
+            made: 0,
+            performed: 0,
+        };
+        scope.begin_unit(b"")?;
+        Ok(scope)
+    }
+
+    /// Returns whether each name and each block is as in the pass before.
+    pub fn has_settled(&self) -> bool {
+        self.symbols.have_settled() && self.blocks.have_settled(&self.symbols.text)
+    }
+
+    /// Counts one more statement.
+    pub fn count_statement(&mut self) -> Outcome {
+        count_one(&mut self.performed)
+    }
+
+    /// Keeps a fault of a line. Only the last pass does so.
+    pub fn report(&mut self, here: &Here, column: usize, fault: Fault) -> Outcome {
+        if !self.is_last {
+            return Ok(());
+        }
+        Ok(self.messages.push(here.message(column, fault))?)
+    }
+
+    /// Keeps why something has no value, if that is a fault of the line, and returns what stops the pass.
+    pub fn report_stop(&mut self, here: &Here, stop: Stop) -> Outcome {
+        match stop {
+            Stop::At(column, fault) => self.report(here, column, fault),
+            Stop::Follows => Ok(()),
+            Stop::Ends(..) | Stop::TooMuch(_) | Stop::NoMemory => Err(stop),
+        }
+    }
+
+    /// Keeps a warning, of each kind the first one.
+    pub fn warn(&mut self, here: &Here, column: usize, fault: Fault) -> Outcome {
+        self.warn_at(here.message(column, fault))
+    }
+
+    /// Keeps a warning at its place, of each kind the first one.
+    pub fn warn_at(&mut self, message: Message) -> Outcome {
+        let is_known = |warning: &Message| warning.fault.text == message.fault.text;
+        if !self.is_last || self.warnings.iter().any(is_known) {
+            return Ok(());
+        }
+        Ok(self.warnings.push(message)?)
+    }
+
+    /// Sets the counters.
+    pub fn move_to(&mut self, origin: i64, location: i64) {
+        self.reach();
+        self.origin = origin;
+        self.location = location;
+        self.open = None;
+    }
+
+    /// Gives a name its meaning by a line, or reports why that can't be.
+    pub fn define(&mut self, here: &Here, name: Field, meaning: Definition) -> Outcome {
+        let line = here.line.number;
+        let defined = self
+            .symbols
+            .define(here.text, name, Definition { line, ..meaning });
+        self.reported(here, defined, ())
+    }
+
+    /// Gives the present address to the label of a statement, if it has one.
+    pub fn label(&mut self, here: &Here, statement: Statement) -> Outcome {
+        let name = statement.location.of(here.text);
+        if matches!(name, b"" | b"+" | b"-") {
+            return Ok(());
+        }
+        self.define(here, statement.location, Definition::address(self.location))
+    }
+
+    /// Returns the value of an expression. Names count only from the lines above if that is asked.
+    pub fn value(&mut self, here: &Here, operand: Field, is_from_above: bool) -> Outcome<Value> {
+        let mut expression = Expression::new(self, here.text, operand, is_from_above);
+        let value = expression.value();
+        if let Some(digits) = expression.decimal {
+            let fault = Fault::new("warning: {} is decimal, as in COMPASS without BASE");
+            self.warn(here, digits.first, fault.part(digits))?;
+        }
+        value
+    }
+
+    /// Returns a number of an expression, which has at most 60 bits.
+    pub fn number(&mut self, here: &Here, operand: Field, is_from_above: bool) -> Outcome<i64> {
+        let value = self.value(here, operand, is_from_above)?;
+        Ok(i64::try_from(value.number).unwrap_or(0))
+    }
+
+    /// Returns a number up to octal 7777 whose names are known from the lines above.
+    pub fn count(&mut self, here: &Here, operand: Field, least: i64) -> Outcome<i64> {
+        let number = self.number(here, operand, true)?;
+        if number < least || number >= CELLS as i64 {
+            let fault = Fault::new("{} (octal) is no number from {} to 7777");
+            return Err(fault.octal(number).octal(least).at(operand.first));
+        }
+        Ok(number)
+    }
+
+    /// Returns what is found, or something else if there is a fault, which is reported.
+    pub fn reported<T: Drop>(
+        &mut self,
+        here: &Here,
+        found: Outcome<T>,
+        otherwise: T,
+    ) -> Outcome<T> {
+        match found {
+            Ok(value) => Ok(value),
+            Err(stop) => {
+                self.report_stop(here, stop)?;
+                Ok(otherwise)
+            }
+        }
+    }
+
+    /// Returns an operand as a number of so many bits, at most 60; 0 if it is wrong, which is reported. The code is that of the
+    /// instruction whose d it is.
+    pub fn field(
+        &mut self,
+        here: &Here,
+        operand: Field,
+        bits: u32,
+        code: Option<u8>,
+    ) -> Outcome<u64> {
+        let number = self.checked_field(here, operand, bits, code);
+        self.reported(here, number, 0)
+    }
+
+    /// Returns an operand as a number of so many bits: minus is the ones complement.
+    fn checked_field(
+        &mut self,
+        here: &Here,
+        operand: Field,
+        bits: u32,
+        code: Option<u8>,
+    ) -> Outcome<u64> {
+        let text = operand.of(here.text);
+        if let Some(alone) = text_at(text, 0, false)?
+            && alone.end == text.len()
+            && alone.kind != b'R'
+        {
+            return text_field(operand, alone, bits);
+        }
+        let number = if text.first() == Some(&b'=') {
+            self.literal(here, operand)?
+        } else {
+            self.number(here, operand, false)?
+        };
+        fitting(here, operand, number, bits, code)
+    }
+
+    /// Returns a number without a name as one of so many bits.
+    pub fn number_field(&mut self, here: &Here, operand: Field, bits: u32) -> Outcome<u64> {
+        let number = self.number(here, operand, false)?;
+        fitting(here, operand, number, bits, None)
+    }
+
+    /// Adds a line to the listing, in the last pass.
+    pub fn add_row(
+        &mut self,
+        here: &Here,
+        words: &[u16],
+        has_address: bool,
+        value: Option<i64>,
+        is_set: bool,
+    ) -> Outcome {
+        if !self.is_last {
+            return Ok(());
+        }
+        let first = self.words.len();
+        self.words.extend_from_slice(words)?;
+        let row = Row {
+            statement: here.index,
+            origin: self.origin,
+            location: self.location,
+            first,
+            end: self.words.len(),
+            has_address,
+            value,
+            is_set,
+            is_performed: true,
+        };
+        Ok(self.rows.push(row)?)
+    }
+
+    /// Adds a line without words to the listing.
+    pub fn plain_row(&mut self, here: &Here, has_address: bool) -> Outcome {
+        self.add_row(here, &[], has_address, None, false)
+    }
+
+    /// Adds a line that names a number to the listing.
+    pub fn value_row(&mut self, here: &Here, value: Option<i64>, is_set: bool) -> Outcome {
+        self.add_row(here, &[], false, value, is_set)
+    }
+}
+
+/// Adds one to a count, which has a most.
+pub fn count_one(count: &mut u32) -> Outcome {
+    *count = count.saturating_add(1);
+    if *count > MOST_STATEMENTS {
+        return Err(too_many_statements());
+    }
+    Ok(())
+}
+
+/// Returns a number as one of so many bits: minus is the ones complement.
+fn fitting(here: &Here, operand: Field, number: i64, bits: u32, code: Option<u8>) -> Outcome<u64> {
+    let top = 1i64.wrapping_shl(bits).wrapping_sub(1);
+    if number > top || number < top.wrapping_neg() {
+        let fault = Fault::new("{} (octal) does not fit in {} (decimal) bits{}");
+        let fault = fault.octal(number).decimal(bits);
+        let wider = |code: u8| fault.with(Argument::Wider(operand, code));
+        return Err(code.map_or(fault, wider).at(operand.first));
+    }
+    let is_minus = number < 0 || matches!(operand.of(here.text), b"-0");
+    let positive = number.wrapping_add(if is_minus { top } else { 0 });
+    Ok(u64::try_from(positive).unwrap_or(0))
+}
+
+/// Returns a text as a number of so many bits.
+fn text_field(operand: Field, text: DisplayText, bits: u32) -> Outcome<u64> {
+    let size = (bits / 6) as usize;
+    if matches!(text.kind, b'C' | b'Z') || bits % 6 != 0 || text.count > size {
+        let fault = Fault::new("the text {} does not fit in {} (decimal) bits");
+        return Err(fault.part(operand).decimal(bits).at(operand.first));
+    }
+    are_in_code(text.symbols, operand.first)?;
+    let number = text.number(size).unwrap_or(0);
+    Ok(u64::try_from(number).unwrap_or(0))
+}

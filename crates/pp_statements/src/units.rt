@@ -1,0 +1,328 @@
+//! The programs of a source, with the blocks of USE and the literals of each.
+use crate::cells::program_of;
+use crate::scope::{Scope, Slot};
+use pp_notation::Program;
+use pp_source::{
+    Argument, Definition, Fault, Field, Here, Outcome, Place, Span, Stop, is_alphanumeric,
+};
+use std::alloc::{AllocError, Global};
+
+/// The index of the nominal block, which has no name. That of the literals is behind it.
+const NOMINAL: usize = 0;
+
+const NAME_OF_LITERALS: &[u8; 9] = b"LITERALS*";
+
+const BEHIND_LITERALS: &str =
+    "warning: {} is where the literals begin; a buffer in a block of USE is behind them";
+
+const OF_ANOTHER_PROGRAM: &str =
+    "{} is a symbol of another program, which is not taken: give it a value by EQU";
+
+/// The counters of a block of USE, and the cell after its last one.
+#[derive(Clone, Copy)]
+struct Block {
+    name: Span,
+    base: i64,
+    origin: i64,
+    location: i64,
+    end: i64,
+}
+
+/// Where a block of a program begins.
+#[derive(Clone, Copy)]
+struct Placed {
+    unit: usize,
+    name: Span,
+    base: i64,
+}
+
+/// The blocks of the present program.
+#[derive(Drop)]
+pub struct Blocks {
+    /// First the nominal one and that of the literals.
+    all: Vec<Block>,
+    /// The blocks that USE * goes back to, the present one last.
+    used: Vec<usize>,
+    /// Where the blocks of all programs begin, as the pass before has found.
+    before: Vec<Placed>,
+    /// The same, as this pass has found.
+    placed: Vec<Placed>,
+    /// How many programs are before the present one.
+    unit: usize,
+}
+
+/// A program of a source, with the name that its IDENT has.
+#[derive(Drop)]
+pub struct Unit {
+    pub name: Vec<u8>,
+    pub program: Program,
+}
+
+/// Words that are named by what they are, from an address on.
+#[derive(Drop)]
+pub struct Literals {
+    first: i64,
+    words: Vec<u16>,
+    all: Vec<Span>,
+}
+
+impl Blocks {
+    pub fn new(alloc: Global) -> Self {
+        Blocks {
+            all: Vec::new(alloc),
+            used: Vec::new(alloc),
+            before: Vec::new(alloc),
+            placed: Vec::new(alloc),
+            unit: 0,
+        }
+    }
+
+    /// Returns the blocks of the next pass, before its first program.
+    pub fn next(self, alloc: Global) -> Self {
+        let Blocks { placed, .. } = self;
+        Blocks {
+            before: placed,
+            ..Blocks::new(alloc)
+        }
+    }
+
+    /// Returns whether the blocks are where the pass before has put them.
+    pub fn have_settled(&self, text: &[u8]) -> bool {
+        let mut both = self.placed.iter().zip(&self.before);
+        self.placed.len() == self.before.len()
+            && both.all(|(one, other)| one.is(other.unit, other.name.of(text), text)
+                && one.base == other.base)
+    }
+
+    /// Returns the index of the present block.
+    fn present(&self) -> usize {
+        self.used.last().copied().unwrap_or(NOMINAL)
+    }
+}
+
+impl Literals {
+    pub fn new(alloc: Global) -> Self {
+        Literals {
+            first: 0,
+            words: Vec::new(alloc),
+            all: Vec::new(alloc),
+        }
+    }
+
+    /// Returns the address of these words; equal ones are there once.
+    pub fn address_of(&mut self, words: &[u16]) -> Result<i64, AllocError> {
+        let mut all = 0..self.all.len();
+        let index = match all.find(|index| self.words_at(*index) == words) {
+            Some(index) => index,
+            None => {
+                let first = self.words.len();
+                self.words.extend_from_slice(words)?;
+                self.all.push(Span::new(first, self.words.len()))?;
+                all.end
+            }
+        };
+        let first = self.all.get(index).map_or(0, |literal| literal.first);
+        Ok(self.first.wrapping_add(i64::try_from(first).unwrap_or(0)))
+    }
+
+    /// Returns the words of the literal at an index.
+    fn words_at(&self, index: usize) -> &[u16] {
+        let Span { first, end } = self.all.get(index).copied().unwrap_or(Span::none());
+        self.words.get(first..end).unwrap_or(&[])
+    }
+}
+
+impl Placed {
+    /// Returns whether this is the block of a program with a name.
+    fn is(&self, unit: usize, name: &[u8], text: &[u8]) -> bool {
+        self.unit == unit && self.name.of(text) == name
+    }
+}
+
+impl Scope {
+    /// Begins a program, whose blocks are where the pass before has found room for them.
+    pub fn begin_unit(&mut self, name: &[u8]) -> Result<(), AllocError> {
+        self.unit_name = Vec::from_slice(self.alloc, name)?;
+        self.start = None;
+        for slot in &mut self.cells {
+            *slot = Slot { word: 0, line: 0 };
+        }
+        self.blocks.all.clear();
+        self.blocks.used.clear();
+        let nominal = self.block_named(b"")?;
+        self.block_named(NAME_OF_LITERALS)?;
+        self.literals = Literals::new(self.alloc);
+        self.literals.first = self.base_of(NAME_OF_LITERALS);
+        self.enter(nominal)
+    }
+
+    /// Ends a program: the literals are after the nominal block, and then come the others as USE named them.
+    pub fn end_unit(&mut self, here: &Here) -> Outcome {
+        self.use_block(b"")?;
+        self.leave_block();
+        self.put_literals(here)?;
+        self.place_blocks()?;
+        let name = Vec::from_slice(self.alloc, &self.unit_name)?;
+        let program = program_of(self.alloc, &self.cells, self.start)?;
+        self.units.push(Unit { name, program })?;
+        self.blocks.unit = self.blocks.unit.saturating_add(1);
+        Ok(())
+    }
+
+    /// Returns where a block begins, as the pass before has found.
+    fn base_of(&self, name: &[u8]) -> i64 {
+        let Blocks { before, unit, .. } = &self.blocks;
+        let mut placed = before.iter();
+        let found = placed.find(|one| one.is(*unit, name, &self.symbols.text));
+        found.map_or(0, |placed| placed.base)
+    }
+
+    /// Returns the index of the block with a name, which may be a new one.
+    fn block_named(&mut self, name: &[u8]) -> Result<usize, AllocError> {
+        let mut all = self.blocks.all.iter();
+        if let Some(index) = all.position(|block| self.symbols.text_of(block.name) == name) {
+            return Ok(index);
+        }
+        let base = self.base_of(name);
+        let index = self.blocks.all.len();
+        self.blocks.all.push(Block {
+            name: self.symbols.keep(name)?,
+            base,
+            origin: base,
+            location: base,
+            end: base,
+        })?;
+        Ok(index)
+    }
+
+    /// Goes on with a block.
+    fn enter(&mut self, index: usize) -> Result<(), AllocError> {
+        self.blocks.used.push(index)?;
+        if let Some(block) = self.blocks.all.get(index) {
+            self.origin = block.origin;
+            self.location = block.location;
+        }
+        self.open = None;
+        Ok(())
+    }
+
+    /// Keeps the counters of the present block.
+    fn leave_block(&mut self) {
+        let index = self.blocks.present();
+        if let Some(block) = self.blocks.all.get_mut(index) {
+            block.origin = self.origin;
+            block.location = self.location;
+        }
+        self.reach();
+    }
+
+    /// Keeps that the present block has the cells up to here.
+    pub fn reach(&mut self) {
+        let index = self.blocks.present();
+        if let Some(block) = self.blocks.all.get_mut(index) {
+            block.end = block.end.max(self.origin);
+        }
+    }
+
+    /// Goes on with the block that has a name; * is the one before the present one.
+    pub fn use_block(&mut self, name: &[u8]) -> Result<(), AllocError> {
+        self.leave_block();
+        let index = if matches!(name, b"*") {
+            let _ = self.blocks.used.pop();
+            self.blocks.used.pop().unwrap_or(NOMINAL)
+        } else {
+            self.block_named(name)?
+        };
+        self.enter(index)
+    }
+
+    /// Returns the name of the present block, if it is not the nominal one.
+    pub fn named_block(&self) -> Option<Span> {
+        match self.blocks.present() {
+            NOMINAL => None,
+            index => Some(self.blocks.all.get(index)?.name),
+        }
+    }
+
+    /// Puts the literals after the highest address of the nominal block.
+    fn put_literals(&mut self, here: &Here) -> Outcome {
+        if self.literals.all.is_empty() {
+            return Ok(());
+        }
+        self.use_block(NAME_OF_LITERALS)?;
+        let mut line = here.line;
+        line.call = None;
+        let row = Here {
+            index: usize::MAX,
+            line,
+            text: b"",
+            joins: &[],
+        };
+        for index in 0..self.literals.all.len() {
+            let words = Vec::from_slice(self.alloc, self.literals.words_at(index))?;
+            self.put(&row, &words)?;
+        }
+        self.leave_block();
+        if let Some((key, line)) = self.name_of_literals() {
+            let fault = Fault::new(BEHIND_LITERALS).with(Argument::Kept(key));
+            let mut message = here.last_message(fault);
+            message.line = line;
+            self.warn_at(message)?;
+        }
+        Ok(())
+    }
+
+    /// Returns the name, and its line, that EQU gives to the cell behind the program, as to a buffer, where the literals begin.
+    fn name_of_literals(&self) -> Option<(Span, u32)> {
+        let first = Some(self.literals.first);
+        let mut symbols = self.symbols.all.iter();
+        let is_first = |seen: Definition| seen.is_here && seen.value == first;
+        let symbol = symbols.find(|symbol| symbol.seen.is_some_and(is_first))?;
+        Some((symbol.key, symbol.seen?.line))
+    }
+
+    /// Finds room for the blocks of a program, one behind another.
+    fn place_blocks(&mut self) -> Result<(), AllocError> {
+        let unit = self.blocks.unit;
+        let mut base: i64 = 0;
+        for block in &self.blocks.all {
+            let name = block.name;
+            self.blocks.placed.push(Placed { unit, name, base })?;
+            base = base.wrapping_add(block.end.wrapping_sub(block.base));
+        }
+        Ok(())
+    }
+
+    /// Returns the address of the words that a = names, or what the name after =X, =S or =Y stands for.
+    pub fn literal(&mut self, here: &Here, operand: Field) -> Outcome<i64> {
+        let text = operand.of(here.text);
+        let Some(name) = name_in(text) else {
+            let item = Field::new(operand.first.saturating_add(1), operand.end);
+            let mut words = Vec::new(self.alloc);
+            self.datum(here, item, &mut words)?;
+            return Ok(self.literals.address_of(&words)?);
+        };
+        if !self.symbols.is_named(name) {
+            return Err(Stop::of(OF_ANOTHER_PROGRAM, operand));
+        }
+        let place = Place {
+            name: Field::new(operand.end.saturating_sub(name.len()), operand.end),
+            column: operand.first,
+            is_from_above: false,
+        };
+        let found = self.symbols.look_up(name, place, self.is_last)?;
+        found.value.ok_or(Stop::Follows)
+    }
+}
+
+/// Returns the name after =X, =S or =Y.
+fn name_in(text: &[u8]) -> Option<&[u8]> {
+    let [b'=', b'X' | b'S' | b'Y', name @ ..] = text else {
+        return None;
+    };
+    let has_others = |symbol: &u8| !is_alphanumeric(*symbol) && !b".$=".contains(symbol);
+    if !name.first()?.is_ascii_uppercase() || name.iter().any(has_others) {
+        return None;
+    }
+    Some(name)
+}

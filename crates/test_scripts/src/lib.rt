@@ -1,0 +1,5 @@
+//! Scripts and their answers. They are in a crate of their own, because a crate with tests is proved twice.
+#![tactic(auto)]
+
+#[cfg(test)]
+mod scripts;
