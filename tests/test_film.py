@@ -58,6 +58,11 @@ class Tool(FilmCase):
         self.assertEqual(f"default-src 'none'; script-src 'sha256-{sums[0]}' 'sha256-{sums[1]}' 'wasm-unsafe-eval' blob:; worker-src blob:; "
                          "style-src 'unsafe-inline'", policy)
 
+    def test_old_browsers(self):
+        """The script that says that a browser is too old has no word that an old browser does not know."""
+        first = read("tools", "pp6600", "front", "film", "web", "first.js")
+        self.assertEqual([], re.findall(r"=>|`|\?\.|\b(?:async|await|class|const|let)\b", re.sub("//.*", "", first)))
+
     def test_files_of_the_run(self):
         """The page has the script, the deck and the panel byte for byte, and how one runs them again."""
         room = self.folder

@@ -61,7 +61,7 @@ class Screens(PageCase):
     """Each look in each size of windows, light and dark: nothing is wider or higher than the window, and the header is low. The variable
     SCREENS names a folder in which the pictures stay."""
 
-    SIZES = ((1280, 800), (1920, 1080), (1024, 768), (390, 844))
+    SIZES = ((1280, 800), (1920, 1080), (1024, 768), (800, 600), (390, 844))
     FITS = """(() => { const { scrollWidth, scrollHeight } = document.documentElement, header = document.querySelector("header").getBoundingClientRect();
       return [scrollWidth <= innerWidth && scrollHeight <= innerHeight, header.height / innerHeight]; })()"""
 

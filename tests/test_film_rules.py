@@ -4,6 +4,7 @@ the past begins a branch, nothing is lost. Expected values are those of docs/FIL
 import json
 import os
 import random
+import re
 import unittest
 
 from tests import firefox
@@ -251,6 +252,13 @@ class Solve(PageCase):
 
     def js(self, text):
         return self.value(f"(async () => {{ {BEGIN} {text} }})()")
+
+    def test_sizes(self):
+        """docs/EXERCISES.md says how many million bytes are handed out."""
+        for name, size in re.findall(r"`exercises/hand-out (class\.zip|NAME\.html)` makes (?:it|an archive), ([\d.]+) million", read("docs", "EXERCISES.md")):
+            with self.subTest(name):
+                run("exercises/hand-out", self.path(name), env={"PP6600": ""})  # with the programs of every machine, as in a checkout
+                self.assertAlmostEqual(float(size), os.path.getsize(self.path(name)) / 1e6, delta=0.1 * float(size))
 
     def test_solve(self):
         path = self.page()

@@ -125,8 +125,8 @@ fn drops_what_is_past_the_line(rt: HostRuntime) -> Result<(), Fail> {
     Ok(())
 }
 
-/// The paper has room for one more symbol.
-fn full_paper() -> [Step; 7] {
+/// The paper has room for one more symbol, which is too few for a word.
+fn almost_full_paper() -> [Step; 5] {
     [
         (
             (Function, 1),
@@ -165,6 +165,12 @@ fn full_paper() -> [Step; 7] {
             (65535, 0, Idle),
             &[0o100],
         ),
+    ]
+}
+
+/// The last symbol is a line end.
+fn full_paper() -> [Step; 2] {
+    [
         (
             (Function, 3),
             LineEnded {
@@ -195,6 +201,7 @@ fn end_lines(printer: &mut Printer, lines: u32) {
 fn tells_whether_the_paper_is_full(rt: HostRuntime) -> Result<(), Fail> {
     let mut printer = Printer::new(rt.alloc())?;
     end_lines(&mut printer, 65535);
+    follow(&rt, &mut printer, &almost_full_paper());
     follow(&rt, &mut printer, &full_paper());
     drop(printer);
     Ok(())

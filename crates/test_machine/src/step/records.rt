@@ -53,40 +53,24 @@ fn with_other_rest(r: StepRecord) -> StepRecord
         a: r.a,
         word: Unaligned64::new(!r.word.get()),
     };
-    let StepRecord {
-        channel,
-        state,
-        value,
-        address,
-        word,
-        ..
-    } = r;
+    let address = r.address;
+    let with_value = StepRecord {
+        value: r.value,
+        ..x
+    };
+    let with_state = StepRecord {
+        channel: r.channel,
+        state: r.state,
+        ..x
+    };
+    let StepRecord { value, word, .. } = r;
     match r.target {
         Target::Wait | Target::Nothing => x,
-        Target::Cell => StepRecord {
-            address,
-            value,
-            ..x
-        },
+        Target::Cell => StepRecord { address, ..with_value },
         Target::Cells | Target::Word => StepRecord { address, word, ..x },
-        Target::State => StepRecord {
-            channel,
-            state,
-            ..x
-        },
-        Target::Channel => StepRecord {
-            channel,
-            state,
-            value,
-            ..x
-        },
-        Target::CellAndState => StepRecord {
-            address,
-            value,
-            channel,
-            state,
-            ..x
-        },
+        Target::State => with_state,
+        Target::Channel => StepRecord { value, ..with_state },
+        Target::CellAndState => StepRecord { address, value, ..with_state },
     }
 }
 

@@ -1,14 +1,17 @@
-// ---- conditions on the machine, as P 0 = 105 and PP 3 waits: how they are read, and how the library finds the turns in which they come to hold
+// ---- conditions on the machine, as P 0 = 105 and PP 3 waits: their texts, and how the library finds the turns in which they come to hold
 
 import { CELLS, CLOCK, KINDS, PROCESSORS, layout, octal, placeIn, register } from "../machine/places.js";
 import { FORM } from "./library.mjs";
 
 const { INSIDE, OUTSIDE, CHANGES, WRITES, PERFORMS, WAITS, OR } = FORM;
-const MOST_TESTS = 0o10, MOST_ALTERNATIVES = 0o100, GREATEST = 2n ** 64n - 1n, FAR = 64; // actions among which is the latest turn of each processor
+const MOST_TESTS = 0o10, MOST_ALTERNATIVES = 0o100, GREATEST = 2n ** 64n - 1n;
+const FAR = 64; // actions among which is the latest turn of each processor
 const RJM = 2, IN_BLOCK = 3; // an instruction, and the kind of a turn
 // Of each comparison the kind of its form, and the range, of the number or the two numbers that it has.
-const COMPARISONS = { "=": (a) => [INSIDE, a, a], "!=": (a) => [OUTSIDE, a, a], "<=": (a) => [INSIDE, 0n, a], ">=": (a) => [INSIDE, a, GREATEST],
-  "<": (a) => [OUTSIDE, a, GREATEST], ">": (a) => [OUTSIDE, 0n, a], inside: (a, b) => [INSIDE, a, b], outside: (a, b) => [OUTSIDE, a, b] };
+const COMPARISONS = {
+  "=": (a) => [INSIDE, a, a], "!=": (a) => [OUTSIDE, a, a], "<=": (a) => [INSIDE, 0n, a], ">=": (a) => [INSIDE, a, GREATEST],
+  "<": (a) => [OUTSIDE, a, GREATEST], ">": (a) => [OUTSIDE, 0n, a], inside: (a, b) => [INSIDE, a, b], outside: (a, b) => [OUTSIDE, a, b],
+};
 
 const joined = (alternatives) => alternatives.flatMap((forms, at) => (at ? [{ kind: OR }, ...forms] : forms));
 const writesP = (n) => ({ kind: WRITES, place: register(n, 0), first: 1 });
@@ -45,8 +48,8 @@ function returnsOf({ n, entries }) {
   };
 }
 
-// An alternative is forms that the library judges, and perhaps what else must be so then. Several processors wait together if the latest turn of
-// each was a wait.
+// An alternative is forms that the library judges, and perhaps what else must be so then. Several processors wait together if the latest
+// turn of each was a wait.
 function alternativesOf(tests) {
   const returns = tests.filter((one) => one.entries), others = tests.filter(({ kind }) => kind !== undefined && kind !== WAITS);
   const waits = tests.filter(({ kind }) => kind === WAITS).map(({ place }) => place);
@@ -151,6 +154,6 @@ function stateTest(place, letter) {
 
 // Labels have the jump back of a subroutine with the cell of its return address.
 function returnTest({ n, name, own }) {
-  if (!own || !own.entries.length) throw new Error(`${name} returns wrongly needs labels of a subroutine: NAMEX, and NAME at the cell after it`);
-  return { n, entries: own.entries };
+  if (own && own.entries.length) return { n, entries: own.entries };
+  throw new Error(`${name} returns wrongly needs labels of a subroutine: NAMEX, and NAME at the cell after it`);
 }

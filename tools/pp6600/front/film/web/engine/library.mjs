@@ -21,8 +21,8 @@ export const openLibrary = async (bytes) => (await WebAssembly.instantiate(bytes
 
 // How many bits of its numbers a call takes, in turn. It would leave out those above.
 const WIDTHS = {
-  open: [32, 32, 8, 8], numbers: [32], turns: [32], origins: [32], again: [32], looks: [32], until: [32], form: [32, 32, 64, 64], back: [32],
-  forward: [32], assemble: [32], load_lines: [32],
+  open: [32, 32, 8, 8], numbers: [32], turns: [32], origins: [32], again: [32], looks: [32], until: [32], form: [32, 32, 64, 64],
+  back: [32], forward: [32], assemble: [32], load_lines: [32],
 };
 
 // Returns the numbers for a call. Throws a RangeError if one has more bits than the call takes, is less than 0 or is no whole number.
@@ -149,20 +149,20 @@ export class LibrarySession extends Rooms {
     return { status, made: this.view(Uint32Array, made, 2 * turns).slice(), olds: this.view(BigUint64Array, olds, 2 * used).slice() };
   }
 
-  // Makes turns as `turns` does. Returns the status, and what the library writes of them: of each turn eight numbers, of each link six, and the
-  // old numbers.
+  // Makes turns as `turns` does. Returns the status, and what the library writes of them: of each turn eight numbers, of each link six, and
+  // the old numbers.
   recorded(most, room = 4096, linkRoom = 8 * room, oldRoom = 8 * room) {
     const [turnsAtMost] = checked("origins", most), made = this.room("made", MADE_BYTES * room);
     const links = this.room("links", LINK_BYTES * linkRoom), olds = this.room("olds", 16 * oldRoom);
-    const status = this.call("origins", turnsAtMost, made, counted(room), links, counted(linkRoom), olds, counted(oldRoom), ...this.outs(3));
-    const [turns, linked, used] = this.results(3);
+    const rooms = [made, counted(room), links, counted(linkRoom), olds, counted(oldRoom)];
+    const status = this.call("origins", turnsAtMost, ...rooms, ...this.outs(3)), [turns, linked, used] = this.results(3);
     const written = (Kind, at, bytes) => this.view(Kind, at, bytes / Kind.BYTES_PER_ELEMENT).slice();
     return { status, made: written(Uint16Array, made, MADE_BYTES * turns), links: written(Uint32Array, links, LINK_BYTES * linked),
       olds: written(BigUint64Array, olds, 16 * used) };
   }
 
-  // Puts a condition into the memory: forms, each with a kind of FORM and the place and the numbers that this kind names. Returns its address
-  // and how many forms it has.
+  // Puts a condition into the memory: forms, each with a kind of FORM and the place and the numbers that this kind names. Returns its
+  // address and how many forms it has.
   condition(forms) {
     const words = new BigUint64Array(FORM_BYTES / 8 * forms.length);
     forms.forEach(({ kind, place = 0, first = 0, last = 0 }, at) => {
@@ -172,7 +172,7 @@ export class LibrarySession extends Rooms {
     return [this.given("condition", new Uint8Array(words.buffer))[0], BigInt(forms.length)];
   }
 
-  // Makes turns, at most so many, up to the first in which a condition comes to hold. Returns how many, and whether it does in the last one.
+  // Makes turns, at most so many, up to the first in which a condition comes to hold. Returns how many, and whether it does in the last.
   until(condition, most) {
     const status = this.call("until", ...this.condition(condition), ...checked("until", most), ...this.outs(1));
     return { turns: this.results(1)[0], found: status === STATUS.DONE };
@@ -200,7 +200,8 @@ export class Assembler extends Rooms {
   // Returns the lines that a call writes of a source, for a form or a processor, and how many faults the source has.
   written(call, source, number, room = 1 << 16) {
     const given = this.given("source", new TextEncoder().encode(source)), into = this.room("text", room), numbers = checked(call, number);
-    const status = this.calls[`pp6600_${call}`](...given, ...numbers, into, BigInt(room), ...this.outs(2)), [count, faults] = this.results(2);
+    const status = this.calls[`pp6600_${call}`](...given, ...numbers, into, BigInt(room), ...this.outs(2));
+    const [count, faults] = this.results(2);
     if (status === STATUS.ROOM) return this.written(call, source, number, count);
     if (status !== STATUS.DONE) throw new LibraryError(status);
     return { lines: new TextDecoder().decode(this.view(Uint8Array, into, count)).split("\n").slice(0, -1), faults };

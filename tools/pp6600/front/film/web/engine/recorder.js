@@ -1,5 +1,5 @@
-// ---- a session with its numbers: what the page gets of each action is a moment with the places that it changed, and of a turn the links by
-// which its numbers come from others
+// ---- a session with its numbers: what the page gets of each action is a moment with the places that it changed, and of a turn the links
+// by which its numbers come from others
 
 import { CELLS, HALF, isWord, layout, setLayout, upperOf } from "../machine/places.js";
 import { BLOCK, BUSY, IDLE, LINE, ROWS, WAITING } from "../machine/moments.js";
@@ -8,7 +8,7 @@ import { AFTER, packed } from "../machine/written.js";
 import { STATUS } from "./library.mjs";
 
 const MOST_RECORDED = 4096, MOST_OF_LINE = 76; // turns; places that a line overwrites
-const LINKS = 4, OWN = 5, OLDS = 6, MADE = 8, LINK = 6; // of what the library writes of a turn: which number is which, and how many there are
+const LINKS = 4, OWN = 5, OLDS = 6, MADE = 8, LINK = 6; // which number of a turn is which; how many a turn and a link have
 const WAITED = 1, PASSED = 2; // kinds of turns
 const OLD = 4, LOW = 2, HIGH = 3; // an old number: its place and the number itself, each of 64 bits as two words
 const isRelative = (code) => code >= 3 && code < 8, isConditional = (code) => isRelative(code) || (code >= 0o64 && code < 0o70);
@@ -81,9 +81,11 @@ export class Recorder {
   // is written by jumps and blocks alone.
   addLinks(links, own, n, jump) {
     for (let at = 0, rest = 0, isAdded = false; at < links.length; at += LINK) {
-      const place = links[at], how = links[at + 4], operation = how & 0xff, source = links[at + 3] ? -1 : links[at + 2], isOfDevice = at >= own;
+      const place = links[at], how = links[at + 4], operation = how & 0xff, source = links[at + 3] ? -1 : links[at + 2];
+      const isOfDevice = at >= own;
       if (!rest && isOfDevice) isAdded = place >= layout.states && place < layout.clock;
-      else if (!rest) isAdded = place === layout.P + n ? !goesOn(jump, operation, source === place) : place < layout.phase || place >= layout.words;
+      else if (!rest && place === layout.P + n) isAdded = !goesOn(jump, operation, source === place);
+      else if (!rest) isAdded = place < layout.phase || place >= layout.words;
       rest = how >>> 16;
       if (isAdded) this.rows.links.push(packed(place, operation, (how >> 8) & 0xff, isOfDevice, rest), source);
     }
@@ -157,7 +159,7 @@ export class Recorder {
   }
 }
 
-// Whether P goes on to the next instruction, also by a jump there, or to the next cell of a block; or stops, by a relative jump by no cells.
+// Whether P goes on to the next instruction, also by a jump there, or to the next cell of a block; or stops, by a jump by no cells.
 function goesOn(jump, operation, isOfItself) {
   if (!jump) return isOfItself && operation >= AFTER.one && operation <= AFTER.five;
   const { word, isNext } = jump, d = word & 0o77;

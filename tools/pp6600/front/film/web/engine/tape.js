@@ -63,7 +63,7 @@ export class Searcher {
     }
   }
 
-  // Performs parts of the tape in a session, up to where it is enough: this is asked after each line, and after each batch of turns that is made.
+  // Performs parts of the tape in a session, up to where it is enough: this is asked after each line, and after each batch of turns.
   async replay(session, parts, make = (left) => stepped(session, left), isEnough = () => false) {
     for (const { text, count } of parts) {
       if (text !== null) ask(session, text);
@@ -79,10 +79,11 @@ export class Searcher {
     return session;
   }
 
-  // After how many actions a condition first comes to hold, in a turn of parts from a position on, or null; and up to where one has looked. What
-  // the library does not judge depends on turns before: a return is wrong if its call stored another address.
+  // After how many actions a condition first comes to hold, in a turn of parts from a position on, or null; and up to where one has looked.
+  // What the library does not judge depends on turns before: a return is wrong if its call stored another address.
   async firstOf(condition, from, parts) {
-    const begin = condition.isOfLibrary ? from : 0, session = await this.sessionAt(begin), all = [...this.tape.between(begin, from), ...parts];
+    const begin = condition.isOfLibrary ? from : 0, session = await this.sessionAt(begin);
+    const all = [...this.tape.between(begin, from), ...parts];
     let at = begin, found = null;
     const isEnough = ({ count, isFound }) => {
       at += count;
@@ -94,8 +95,8 @@ export class Searcher {
     return { found, end: at };
   }
 
-  // After how many actions a condition came to hold last, before the last of those up to a position; or null. The library looks back from the end
-  // of each part of the tape that it keeps.
+  // After how many actions a condition came to hold last, before the last of those up to a position; or null. The library looks back from
+  // the end of each part of the tape that it keeps.
   async lastOf(condition, end) {
     const session = this.opened({ history: MOST_KEPT + 1 }), { isOfLibrary, forms } = condition;
     let at = 0, looked = 0, found = null;

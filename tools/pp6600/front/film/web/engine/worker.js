@@ -32,7 +32,8 @@ function deliver() {
   postMessage(message("moments", moments), buffersOf(moments));
 }
 
-const withFiles = ({ deck = "", panel = "", options = {} }) => ({ ...at.about, ...options, deck: bytesOfText(deck), panel: bytesOfText(panel) });
+const withFiles = ({ deck = "", panel = "", options = {} }) =>
+  ({ ...at.about, ...options, deck: bytesOfText(deck), panel: bytesOfText(panel) });
 
 // ---- requests
 
@@ -78,7 +79,8 @@ const SERVICES = {
   async find({ given, parts, from, text, isBack, labels }) {
     const condition = parseCondition(text, labels, at.about.condition), tape = new Tape();
     for (const part of parts) tape.add(typeof part === "number" ? part : 1, typeof part === "number" ? null : part);
-    return searched(new Searcher(at.calls, withFiles(given), control, tape), condition, from, isBack ? null : tape.between(from, tape.length));
+    const searcher = new Searcher(at.calls, withFiles(given), control, tape);
+    return searched(searcher, condition, from, isBack ? null : tape.between(from, tape.length));
   },
 };
 
@@ -97,7 +99,7 @@ async function performLine(session, line) {
   return { said: answer.slice(0, LONGEST_ANSWER).join("\n"), isWrong: /^ERR /.test(answer[0]), isHit };
 }
 
-// After how many actions a condition comes to hold the first time in parts of a tape, or came to hold the last time before: where no parts are.
+// After how many actions a condition comes to hold the first time in parts of a tape, or without these came to hold the last time before.
 async function searched(searcher, condition, from, parts) {
   at.until = performance.now() + 1000 * MOST_SEARCHED;
   if (parts) return searcher.firstOf(condition, from, parts);
@@ -108,7 +110,8 @@ async function searched(searcher, condition, from, parts) {
 
 // Goes on to where a condition comes to hold the first time, or back to the last time.
 async function search(session, condition, isBack) {
-  const begin = session.position, { found, end } = await searched(session, condition, begin, isBack ? null : [{ text: null, count: Infinity }]);
+  const begin = session.position, parts = isBack ? null : [{ text: null, count: Infinity }];
+  const { found, end } = await searched(session, condition, begin, parts);
   if (found === null) return { said: isBack ? "not before this" : `not among the next ${octal(end - begin)} turns`, isWrong: true };
   at.until = Infinity;
   if (isBack) await session.perform(moveBy(found - begin));

@@ -61,7 +61,9 @@ export class Film {
       if (kinds[moment] < LINE) processorLanes[processor[moment]].goOn(moment, kinds[moment]);
       else this.noteLine(moment, kinds[moment]);
       if (turn[moment] > this.highestTurn) this.highestTurn = turn[moment];
-      for (let at = starts[moment]; at < starts[moment + 1]; at++) if (places[at] >= layout.phase) this.noteChange(moment, places[at], now[at]);
+      for (let at = starts[moment]; at < starts[moment + 1]; at++) {
+        if (places[at] >= layout.phase) this.noteChange(moment, places[at], now[at]);
+      }
     }
     if (this.firstTurn < 0) this.firstTurn = kinds.findIndex((kind) => kind < LINE);
   }
@@ -150,7 +152,7 @@ export class Film {
   // The moment that a BACK or FORWARD leads to, else the moment itself.
   resolve(moment) { while (moment > 0 && this.kinds[moment] === JUMP) moment = this.jumps.get(moment); return moment; }
 
-  // The stretches of moments that are not in effect at the end, as a BACK has taken them back: each its first moment, and the last BACK or FORWARD.
+  // The stretches of moments that are not in effect at the end, as a BACK has taken them back: the first and last moment of each.
   takenBack() {
     const jumps = [...this.jumps.keys()], found = [];
     for (let jump = lastUpTo(jumps, this.last), to; jump; jump = lastUpTo(jumps, to)) {
@@ -217,8 +219,8 @@ export class Film {
 
   // The places that a moment changed, each with the number before and after it; none of a line that went to and fro.
   changesOf(moment) {
-    const found = new Set();
-    for (let at = this.starts[moment]; moment && this.kinds[moment] !== JUMP && at < this.starts[moment + 1] && found.size < MOST_CHANGES; at++) {
+    const found = new Set(), end = moment && this.kinds[moment] !== JUMP ? this.starts[moment + 1] : 0;
+    for (let at = this.starts[moment]; at < end && found.size < MOST_CHANGES; at++) {
       const place = placeAt(this.places[at]);
       if (place && place.kind !== "SLOT") found.add(place);
     }

@@ -13,8 +13,8 @@ export const hasOrigin = (place) => place !== null && HAVE_AN_ORIGIN.includes(pl
 
 // ---- steps
 
-// The latest write of a place in effect at a moment, and its moment: 0 if none, -1 if it may be in skipped turns. That of a line is the number of
-// its word, and that of the clock is null.
+// The latest write of a place in effect at a moment, and its moment: 0 if none, -1 if it may be in skipped turns. That of a line is the
+// number of its word, and that of the clock is null.
 function lastWrite(film, place, moment) {
   let at = film.resolve(moment);
   for (; at > 0; at = film.resolve(at - 1)) {
@@ -110,7 +110,7 @@ export function constantText(film, moment, { constant }) {
 function causeText(film, sources, step) {
   const { moment, write } = step, when = whenText(film, Math.max(0, moment));
   if (moment < 0) return "written in turns that were not recorded, or never";
-  if (moment === 0) return film.changeBefore(film.momentsThatChanged([step.place]), film.at) ? "never written, it only went on" : "never written";
+  if (moment === 0) return `never written${film.changeBefore(film.momentsThatChanged([step.place]), film.at) ? ", it only went on" : ""}`;
   if (film.kinds[moment] === LINE) return `${when}, ${lineCause(film, moment, write)}`;
   if (!write) return `${when}, the clock`;
   const column = columnOf(film, step);

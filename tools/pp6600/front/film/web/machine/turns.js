@@ -88,7 +88,8 @@ function sentence(one) {
   const choices = tables.sentences.of[(one.phase ? "b" : "") + two(one.code)], never = one.d >= CLOCK;
   const text = wouldWait(one) ? tables.sentences[never ? "waits_ever" : "waits"]
     : choices.find(([condition]) => holds(one, condition))[1];
-  const address = one.phase ? addressOf(one) : null, second = address !== null && one.words === 2 ? four(cell(one, address + 1)) : secondOf(one);
+  const address = one.phase ? addressOf(one) : null;
+  const second = address !== null && one.words === 2 ? four(cell(one, address + 1)) : secondOf(one);
   return `${nameOf(one)} ${second}`.trim() + `: ${text.replace(/\{(.*?)\}/g, (_, name) => SAYS[name](one))}`;
 }
 

@@ -1,5 +1,5 @@
-// ---- what a turn wrote, and from what, by the links of the library. One is kept as two numbers: the place that is written, with bits that say
-// how; and the place that is read, or -1
+// ---- what a turn wrote, and from what, by the links of the library. One is kept as two numbers: the place that is written, with bits that
+// say how; and the place that is read, or -1
 
 import { layout } from "./places.js";
 
@@ -21,8 +21,8 @@ function partsOf(field) {
   return { [WITHOUT_B0]: 0b1111, [PROGRAM_ADDRESS]: 0b11 }[field] || 0;
 }
 
-// What links say: each place that is written, with its sources, and the constant that it has, or "". A number is moved or computed; P is written
-// at the end of a block from the return address.
+// What links say: each place that is written, with its sources, and the constant that it has, or "". A number is moved or computed; P is
+// written at the end of a block from the return address.
 export function writesIn(links, begin, end) {
   const found = [];
   for (let at = begin, one = null; at < end; at += 2) {
@@ -48,7 +48,7 @@ function addSource(write, place, field) {
 
 function completed({ at, place, operation, isOfDevice, sources, constant }) {
   const endsBlock = isP(place) && (operation === ONE || (operation === AFTER.one && sources.length > 0));
-  const isMoved = !endsBlock && (operation <= JOINED || operation === NO_WORD || (operation >= ZERO && operation <= THREE) || constant === "return");
+  const moves = operation <= JOINED || operation === NO_WORD || (operation >= ZERO && operation <= THREE) || constant === "return";
   const own = operation === NO_WORD ? "no word" : !sources.length && !constant ? "zero" : constant;
-  return { at, place, isOfDevice, isPunched: operation === PUNCHED, endsBlock, isMoved, sources, constant: own };
+  return { at, place, isOfDevice, isPunched: operation === PUNCHED, endsBlock, isMoved: moves && !endsBlock, sources, constant: own };
 }

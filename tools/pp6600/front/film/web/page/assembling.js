@@ -1,4 +1,4 @@
-// ---- the assembler of the page: what is typed as words, messages and a listing, the lines that load it, and what the page has to know of it
+// ---- the assembler of the page: what is typed as words, messages and a listing, the lines that load it, and what the page knows of it
 
 import { ofLines, untabbed } from "../machine/lines.js";
 import { CELLS, octal } from "../machine/places.js";
@@ -7,8 +7,8 @@ import { Assembler } from "../engine/library.mjs";
 const WRITTEN = { COMPLAINTS: 0, LISTING: 2, LINES: 3, NAMES: 4 }; // the forms of pp6600_assemble
 const NEAR = 0o77; // how far after a label that has no word, as that of a buffer, an address without one is named by it
 const LJM = 0o0100, RJM = 0o0200; // without an index
-export const NEW_SOURCE = ["          BASE   OCTAL", "          ORG    100", " START    LDN    0", "          UJN    *", "          END    START",
-  ""].join("\n");
+export const NEW_SOURCE =
+  "          BASE   OCTAL\n          ORG    100\n START    LDN    0\n          UJN    *\n          END    START\n";
 
 const linesOf = (text) => text.replace(/\n$/, "").split("\n");
 
@@ -18,7 +18,7 @@ function rowOfWords(text) {
   return { number, location: location % CELLS, origin: origin % CELLS, words };
 }
 
-// A message with its line and column, and in a text that comes before the source with its name. The library counts bytes, and the page letters.
+// A message with its line and column, and the name of a text that comes before the source. The library counts bytes, and the page letters.
 function messageOf(message, isFault, lines) {
   const [, at, column, text] = /^(\d+):(\d+): (.*)$/s.exec(message), { name = "", line, text: own = "" } = lines[at - 1] ?? lines.at(-1);
   return { name, line, column: new TextDecoder().decode(new TextEncoder().encode(own).subarray(0, column - 1)).length + 1, text, isFault };
@@ -31,7 +31,10 @@ export class Assembling {
   // The texts of a system and of common decks come before what is assembled: their names and macros are there, their lines are not counted.
   constructor(calls, texts = []) { Object.assign(this, { assembler: new Assembler(calls), texts: new Map(texts) }); }
 
-  linesBefore() { return [...this.texts].flatMap(([name, text]) => numbered(text, name)).filter(({ text }) => !/^\s+(IDENT|END)\b/.test(text)); }
+  linesBefore() {
+    return [...this.texts].flatMap(([name, text]) => numbered(text, name)).filter(({ text }) => !/^\s+(IDENT|END)\b/.test(text));
+  }
+
   before() { return ofLines(this.linesBefore().map(({ text }) => text)); }
 
   written(text, form) { return this.assembler.written("assemble", this.before() + text, form); }
@@ -41,8 +44,9 @@ export class Assembling {
     const before = this.linesBefore(), shift = before.length, all = [...before, ...numbered(text)];
     const { lines: complaints, faults } = this.written(text, WRITTEN.COMPLAINTS);
     const messages = complaints.map((line, at) => messageOf(line, at < faults, all));
-    const rows = faults ? [] : this.written(text, WRITTEN.LINES).lines.map(rowOfWords).map((row) => ({ ...row, number: row.number - shift }));
-    return { messages, rows: rows.filter(({ number }) => number > 0), listing: faults ? "" : this.written(text, WRITTEN.LISTING).lines.join("\n") };
+    if (faults) return { messages, rows: [], listing: "" };
+    const rows = this.written(text, WRITTEN.LINES).lines.map(rowOfWords).map((row) => ({ ...row, number: row.number - shift }));
+    return { messages, rows: rows.filter(({ number }) => number > 0), listing: this.written(text, WRITTEN.LISTING).lines.join("\n") };
   }
 
   loadLines(text, n) { return this.assembler.written("load_lines", this.before() + text, n).lines; }
@@ -61,7 +65,8 @@ export function sourceOf(name, text, rows, twoWords) {
 function labelsOf(lines, rows, names) {
   const found = (text) => /^(?!Z\.[0-7]{4})(\S+)( =)? ([0-7]+)$/.exec(text); // not those of LOCAL, which are a macro's own
   const all = names.map(found).filter(Boolean).map(([, name, equals, digits]) => ({ name, equals, number: parseInt(digits, 8) }));
-  const byNumber = (kind) => new Map(all.filter(({ equals }) => Boolean(equals) === kind).reverse().map(({ name, number }) => [number, name]));
+  const ofKind = (kind) => all.filter(({ equals }) => Boolean(equals) === kind).reverse();
+  const byNumber = (kind) => new Map(ofKind(kind).map(({ name, number }) => [number, name]));
   const labels = byNumber(false), has = new Set(all.filter(({ equals }) => !equals).map(({ name, number }) => `${name} ${number}`));
   const exits = all.filter(({ name, equals, number }) => !equals && has.has(`${name}X ${number - 1}`)).map(({ number }) => number - 1);
   const called = new Set(rows.filter(({ words }) => words[0] === RJM).map(({ words }) => words[1]));

@@ -1,6 +1,6 @@
 // ---- what is chosen and what is seen of it: a number, the windows of memory and of the run. Each function returns a change of the state
 
-import { CELLS, KINDS, PROCESSORS, layout, placeWith, range } from "../machine/places.js";
+import { CELLS, KINDS, layout, placeWith } from "../machine/places.js";
 import { isQuiet } from "../machine/film.js";
 import { headsOf, topWith } from "../machine/program.js";
 
@@ -13,7 +13,7 @@ export const formOf = ({ memory, look, sources }) => memory.as || (look === "pro
 // The processor that memory follows: that of the latest turn that did more than pass, of those that do not only wait; or one that a line
 // has set.
 function followed({ film }, before) {
-  const turns = range(PROCESSORS).map((n) => [isQuiet(film.processorLanes[n]) ? 0 : film.changeBefore(film.processorLanes[n].active, film.at), n]);
+  const turns = film.processorLanes.map((lane, n) => [isQuiet(lane) ? 0 : film.changeBefore(lane.active, film.at), n]);
   const [latest, n] = turns.reduce((one, other) => (other[0] > one[0] ? other : one)), line = film.changeBefore(film.settings, film.at);
   if (line > latest) return film.processorSet(line);
   return latest > 0 ? n : film.count > 1 ? before : 0;

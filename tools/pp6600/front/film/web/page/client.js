@@ -5,8 +5,8 @@ import { STOP, message, wordsOf } from "../engine/protocol.js";
 const LONGEST_SILENCE = 20000; // milliseconds after which the page says that the worker does not answer
 
 export class Client {
-  // `hears` has grown(moments) of what came with a reply, moments(words) and working() of news, busy(is), silent(), fault(text), and isHeld(),
-  // which says whether the film is to stay as it is for a while. `engine` is the worker's script.
+  // `hears` has grown(moments) of what came with a reply, moments(words) and working() of news, busy(is), silent(), fault(text), and
+  // isHeld(), which says whether the film is to stay as it is for a while. `engine` is the worker's script.
   constructor(hears, engine) {
     if (!window.Worker) throw new Error("this browser has no workers");
     Object.assign(this, { hears, waiting: new Map(), latest: 0, chain: Promise.resolve() });

@@ -11,8 +11,8 @@ function kindOf(selector) {
   return kinds.get(selector);
 }
 
-// Describes an element by its kind with its classes, as p.soft, then its properties if it has others, and its parts. These are descriptions,
-// texts, or lists of them; null, false and "" are left out.
+// Describes an element by its kind with its classes, as p.soft, then its properties if it has others, and its parts. These are
+// descriptions, texts, or lists of them; null, false and "" are left out.
 export function h(selector, ...parts) {
   const { kind, own } = kinds.get(selector) || kindOf(selector), hasProps = isProps(parts[0]), more = hasProps ? parts.shift() : null;
   const props = more && own.class ? { ...own, ...more } : more || own;

@@ -5,10 +5,8 @@ import { growSources, sourceText, sourcesOf } from "../machine/sources.js";
 import { chooseProcessor } from "./choice.js";
 import { NEW_SOURCE, sourceOf } from "./assembling.js";
 import { keep, kept } from "./kept.js";
-import { NO_ROOM } from "./session.js";
+import { NOTE, NO_ROOM } from "./session.js";
 import { Part } from "./store.js";
-
-const AFTER = 300; // milliseconds after which a draft is kept
 
 export class Editor extends Part {
   nameOf(n) { return `draft ${this.state.exercise || "run"} ${n}`; }
@@ -18,8 +16,7 @@ export class Editor extends Part {
     const { editor, drafts } = this.state;
     drafts.set(this.nameOf(editor.n), text);
     this.update({ editor: { ...editor, ...this.assembled(text) } });
-    clearTimeout(this.timer);
-    this.timer = setTimeout(() => this.keepNow(), AFTER);
+    this.keepSoon();
   }
 
   keepNow() {
@@ -32,7 +29,8 @@ export class Editor extends Part {
 
   // Opens the source of a processor: what was typed last, or that of the film, or a new one.
   open(n) {
-    const own = this.sourceOf(n), name = this.nameOf(n), text = this.state.drafts.get(name) ?? kept(name) ?? (own === null ? NEW_SOURCE : `${own}\n`);
+    const own = this.sourceOf(n), name = this.nameOf(n), draft = this.state.drafts.get(name) ?? kept(name);
+    const text = draft ?? (own === null ? NEW_SOURCE : `${own}\n`);
     this.update({ editor: { n, ...this.assembled(text) } });
   }
 
@@ -65,7 +63,7 @@ export class Editor extends Part {
     const { editor: { n, text, rows }, film } = this.state, { session } = this, lines = session.typedLines(), old = this.sourceOf(n);
     if (!rows.length) return;
     const before = old === null ? [] : this.assembling.loadLines(old, n), at = placeOfLines(lines, before);
-    const begin = at < 0 ? lines.filter((line) => /^\* (EXERCISE|PANEL) /.test(line)).length : at, end = begin + (at < 0 ? 0 : before.length);
+    const begin = at < 0 ? lines.filter((line) => NOTE.test(line)).length : at, end = begin + (at < 0 ? 0 : before.length);
     const script = ofLines([...lines.slice(0, begin), ...this.assembling.loadLines(text, n), ...lines.slice(end)]);
     const { sources, labels } = this.loaded(film, n, text, rows);
     if (await session.beginBeside(`${sources[n].name} again`, { ...session.given, script, sources, labels, wanted: [] })) this.open(n);

@@ -14,8 +14,9 @@ export class Exercises extends Part {
 
   // The session with which an exercise begins. Its first line is a note that names it, and a second one has the panel.
   beginning({ name, files, options }, panel = files.panel) {
-    const words = files.panel ? panelIn(panel) : null, notes = [`* EXERCISE ${name}`, ...(words ? [`* PANEL ${words.map(four).join(" ")}`] : [])];
-    return { script: ofLines(notes) + files.script, deck: files.deck, panel, options, exercise: name, sources: {}, labels: {} };
+    const words = files.panel ? panelIn(panel) : null, note = words ? [`* PANEL ${words.map(four).join(" ")}`] : [];
+    const script = ofLines([`* EXERCISE ${name}`, ...note]) + files.script;
+    return { script, deck: files.deck, panel, options, exercise: name, sources: {}, labels: {} };
   }
 
   // The files of a run whose script begins an exercise: the deck and the options are those of the exercise.
@@ -65,7 +66,7 @@ export class Exercises extends Part {
     const makesTurns = /^\s*STEP\b/im.test(files.script), isPart = (part) =>
       (typeof part === "number" ? makesTurns : /^\s*(SET|DEADSTART)\b/i.test(part));
     const turn = film.turn[film.at], parts = film.partsInEffect(film.at).filter(isPart);
-    const { answer, said } = await this.session.client.ask("look", { given: this.session.files(), parts, text: check });
+    const { answer, said } = await this.session.look(check, parts);
     if (!answer) return this.say(said, true);
     const wrong = differences(expected.split("\n").slice(0, -1), answer, isHidden);
     this.update({ checked: { wrong, turn }, solved: wrong.length ? solved : { ...solved, [exercise]: true } });

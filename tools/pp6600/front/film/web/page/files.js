@@ -1,4 +1,4 @@
-// ---- files and links: the page with a session in it, the script alone, and the part of an address after #. What is packed is unpacked by first.js
+// ---- files and links: the page with a session in it, the script alone, and the part of an address after #; first.js unpacks
 
 import { CELLS, octalIn } from "../machine/places.js";
 import { bytesOfText } from "../machine/lines.js";
@@ -50,8 +50,9 @@ export function panelIn(text) {
 
 // A link to files of a run, and to what is shown: its letters, or null if these are too many.
 export async function linkTo(files, shown) {
-  const inLink = async (text) => (await deflated(bytesOfText(text), "deflate-raw")).replace(/\+/g, "-").replace(/\//g, "_").replace(/=+$/, "");
-  const words = await Promise.all(Object.entries(files).map(async ([kind, text]) => `${kind}=${await inLink(text)}&`));
+  const inLink = (letters) => letters.replace(/\+/g, "-").replace(/\//g, "_").replace(/=+$/, "");
+  const wordOf = async ([kind, text]) => `${kind}=${inLink(await deflated(bytesOfText(text), "deflate-raw"))}&`;
+  const words = await Promise.all(Object.entries(files).map(wordOf));
   const link = `${location.href.split("#")[0]}#${words.join("")}${shown}`;
   return link.length > LONGEST_LINK ? null : link;
 }

@@ -15,7 +15,8 @@ export function latestChange(film, names, moment) {
 // What a line found that ended at a watched number: the moment of the change, the name of its place, and who changed it; or null.
 export function foundBy(film, sources, { text, answer, first, moment, acts }) {
   const hit = answer.find((line) => line.startsWith("HIT ")), [command, word] = wordsIn(text);
-  if (hit) return { moment, name: hit.split(" ").slice(1, hit.startsWith("HIT M") ? 4 : 3).join(" "), text: `: ${turnText(film, sources, moment)}` };
+  const name = hit && hit.split(" ").slice(1, hit.startsWith("HIT M") ? 4 : 3).join(" ");
+  if (hit) return { moment, name, text: `: ${turnText(film, sources, moment)}` };
   if (command !== "BACK" || word !== "W" || !acts) return null;
   const found = latestChange(film, film.atMoment(first - 1, () => film.watched()), first - 1);
   return found ? { ...found, text: nextText(film, sources, found) } : null;

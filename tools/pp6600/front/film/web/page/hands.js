@@ -77,9 +77,10 @@ export class Hands extends Part {
     this.update({ folded });
   }
 
-  look(look) {
+  // Another look. That of a button is kept.
+  look(look, isKept = true) {
     const { exercise, exercises } = this.state;
-    keep("look", look);
+    if (isKept) keep("look", look);
     this.update({ look, lookBefore: this.state.look });
     this.update(viewAt(this.state));
     return look === "class" && !exercise && exercises.length ? this.exercises.goTo(exercises[0].name) : null;
@@ -169,7 +170,8 @@ export class Hands extends Part {
     const { chosen, film } = this.state, all = this.seen().filter(({ place }) => place === chosen).map(({ element }) => element);
     const one = all.find((element) => element.matches("td")) || all[0] || document.querySelector(".chosen"); // a cell is set in memory
     const box = one.getBoundingClientRect(), width = 16 + 8.6 * (film.text(chosen).length + 8);
-    this.update({ setting: { left: Math.max(0, Math.min(box.left, innerWidth - width)), top: Math.max(0, box.top), text: film.text(chosen) } });
+    const left = Math.max(0, Math.min(box.left, innerWidth - width));
+    this.update({ setting: { left, top: Math.max(0, box.top), text: film.text(chosen) } });
     setTimeout(() => byId("set-to")?.select());
   }
 
@@ -195,7 +197,8 @@ export class Hands extends Part {
 
   // In the source text, to where a message is.
   toLine(line, column) {
-    const field = byId("source-text"), at = field.value.split("\n").slice(0, line - 1).reduce((sum, one) => sum + one.length + 1, column - 1);
+    const field = byId("source-text"), before = field.value.split("\n").slice(0, line - 1).join("\n");
+    const at = before.length + Math.min(1, line - 1) + column - 1;
     field.focus();
     field.setSelectionRange(at, at + 1);
   }
@@ -213,7 +216,7 @@ export class Hands extends Part {
   // The nearest number on the page beside one.
   nearest(name, right, down) {
     const all = this.seen().filter(({ place }) => place), here = all.find(({ place }) => place.name === name);
-    const middle = ({ element }) => { const box = element.getBoundingClientRect(); return [box.left + box.width / 2, box.top + box.height / 2]; };
+    const middle = ({ element }) => (({ x, y, width, height }) => [x + width / 2, y + height / 2])(element.getBoundingClientRect());
     const [x, y] = here ? middle(here) : [0, 0], distance = (one) => {
       const [left, top] = middle(one), [along, aside] = right ? [(left - x) * right, top - y] : [(top - y) * down, left - x];
       return along > 2 ? along + 4 * Math.abs(aside) : Infinity;
@@ -273,8 +276,9 @@ export class Hands extends Part {
 
   // In a toolbar arrows lead from button to button; Tab leaves it.
   rove(event) {
-    const buttons = event.target.closest(GROUPS).querySelectorAll("button:not(:disabled)"), all = [...buttons].filter((one) => one.checkVisibility());
-    const next = all[(all.indexOf(event.target) + ARROWS[event.key] + all.length) % all.length];
+    const buttons = event.target.closest(GROUPS).querySelectorAll("button:not(:disabled)");
+    const all = [...buttons].filter((one) => one.checkVisibility()), at = all.indexOf(event.target) + ARROWS[event.key];
+    const next = all[(at + all.length) % all.length];
     event.preventDefault();
     if (next.closest(".tools")) this.update({ tool: next.dataset.action });
     next.focus();

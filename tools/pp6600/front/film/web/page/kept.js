@@ -16,7 +16,7 @@ function withStorage(action) {
 export const kept = (name) => withStorage((storage) => JSON.parse(storage.getItem(PREFIX + name)));
 
 // Keeps something. Returns whether the browser had room.
-export const keep = (name, value) => withStorage((storage) => { storage.setItem(PREFIX + name, JSON.stringify(value)); return true; }) === true;
+export const keep = (name, value) => withStorage((storage) => storage.setItem(PREFIX + name, JSON.stringify(value))) === undefined;
 const forget = (name) => withStorage((storage) => storage.removeItem(PREFIX + name));
 
 // All that is kept under names that begin so, by the rest of their names.

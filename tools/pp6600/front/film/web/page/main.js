@@ -19,7 +19,8 @@ import { Sharing, filesOf, shownOf } from "./sharing.js";
 import { Store } from "./store.js";
 import { branchNow, newTree } from "./tree.js";
 
-const FOLDED = ["devices", "branches", "editor", "run"], AFTER = 300; // folded in a window with few columns; milliseconds until the address follows
+const FOLDED = ["devices", "branches", "editor", "run"]; // in a window with few columns
+const AFTER = 300; // milliseconds until the address follows
 const root = document.getElementById("app");
 
 function foldedIn({ columns }) {
@@ -33,8 +34,8 @@ function stateOf(about) {
   const memory = { n: 0, follows: true, isHeld: false, first: 0, top: 0, as: "" };
   const editor = { n: 0, text: "", messages: [], rows: [], listing: "", texts: [] };
   return {
-    isOpen: false, film: null, transcript: [], sentLast: null, tree: newTree(), said: { text: "", isWrong: false }, isBusy: false, offer: null,
-    sources: new Map(), sourceOf: 0, line: null, breakpoints: new Set(), memory, central: { first: -1 },
+    isOpen: false, film: null, transcript: [], sentLast: null, tree: newTree(), said: { text: "", isWrong: false }, isBusy: false,
+    offer: null, sources: new Map(), sourceOf: 0, line: null, breakpoints: new Set(), memory, central: { first: -1 },
     chosen: null, changes: [], origin: null, setting: null, wrong: {},
     playing: null, rate: 8, span: { from: 0, to: 8 }, zoom: 0, allLanes: false,
     look: kept("look") || (isClass ? "class" : "debug"), lookBefore: null, ...size, room: {}, tab: isClass ? "exercise" : "source",
@@ -74,9 +75,9 @@ function hearing(store, parts) {
     else parts.session.say(text, true);
   };
   return {
-    grown: (moments) => parts.session.grown(moments), working: () => store.change({}), silent, busy, fault: (text) => parts.session.say(text, true),
+    silent, busy, working: () => store.change({}), fault: (text) => parts.session.say(text, true),
+    grown: (moments) => parts.session.grown(moments), isHeld: () => Boolean(parts.hands && parts.hands.isDown),
     moments: (moments) => { parts.session.grown(moments); store.change(store.state.isOpen ? viewAt(store.state) : {}); },
-      isHeld: () => Boolean(parts.hands && parts.hands.isDown),
   };
 }
 
@@ -90,8 +91,8 @@ async function callsOf(module) {
 }
 
 async function build() {
-  const [film, module, engine] = await Promise.all(["film", "simulator", "engine"].map(firstScript.unpacked)), address = await filesOfAddress();
-  const about = JSON.parse(new TextDecoder().decode(film));
+  const [film, module, engine] = await Promise.all(["film", "simulator", "engine"].map(firstScript.unpacked));
+  const address = await filesOfAddress(), about = JSON.parse(new TextDecoder().decode(film));
   const store = new Store(stateOf(about)), parts = {};
   store.draw = drawer(store);
   const session = new Session(store, new Client(hearing(store, parts), engine), about, module), editor = new Editor(store, { session });
@@ -104,7 +105,7 @@ async function build() {
 async function begin({ about, address, store, parts: { session, exercises, editor }, module }) {
   const { keeps } = about, saved = keeps && !address.script && branchNow(keeps.tree).session,
     given = saved || exercises.withExercise({ ...filesOf(about), ...address });
-  const opened = session.open(given, saved ? keeps.tree : newTree(), { moment: saved ? saved.moment : undefined, isTrusted: Boolean(saved) });
+  const opened = session.open(given, saved ? keeps.tree : newTree(), saved ? { moment: saved.moment, isTrusted: true } : {});
   const [reply, calls] = await Promise.all([opened, callsOf(module)]); // while the worker performs the script
   if (reply.isFault) throw new Error(reply.said);
   editor.assembling = new Assembling(calls, keeps?.texts || kept("texts") || []);
@@ -136,7 +137,8 @@ async function goToAddress(about, store, moves) {
 // With each drawing keeps the moment and the place in the address, and fills in what was skipped there, when nothing was asked for a while.
 function followState(store, { session, sharing }, address, moves) {
   let timer = 0, before = "";
-  const { draw } = store, fragment = Object.keys(address).map((kind) => `${kind}=${new URLSearchParams(location.hash.slice(1)).get(kind)}&`).join("");
+  const { draw } = store, words = new URLSearchParams(location.hash.slice(1));
+  const fragment = Object.keys(address).map((kind) => `${kind}=${words.get(kind)}&`).join("");
   store.draw = (state) => {
     const shown = shownOf(state), { script = "" } = session.given || {};
     draw({ ...state, hasPictures: sharing.hasPictures(script) });
@@ -153,10 +155,10 @@ function followState(store, { session, sharing }, address, moves) {
 async function offered(store, session) {
   const record = await latestOfClosed(store.state.exercise), now = record && branchNow(record.tree);
   if (!record || !now.session || now.session.script === session.given.script) return;
-  const time = new Date(record.at),
-    text = `${time.toLocaleDateString() === new Date().toLocaleDateString() ? ""
-      : `${time.toLocaleDateString()} `}${time.toTimeString().slice(0, 5)}`;
-  store.change({ offer: { record, text, title: `the session of ${time.toLocaleString()} that this browser has kept, ${now.lines} lines` } });
+  const time = new Date(record.at), day = time.toLocaleDateString(), isToday = day === new Date().toLocaleDateString();
+  const text = `${isToday ? "" : `${day} `}${time.toTimeString().slice(0, 5)}`;
+  const title = `the session of ${time.toLocaleString()} that this browser has kept, ${now.lines} lines`;
+  store.change({ offer: { record, text, title } });
 }
 
 async function open() {
@@ -169,7 +171,8 @@ async function open() {
   holdTab();
   window.addEventListener("hashchange", () => goToAddress({ ...about, keeps: {} }, store, moves));
   window.addEventListener("pagehide", () => { session.keepNow(); editor.keepNow(); });
-  if (store.state.exercises.length && !store.state.exercise && store.state.look !== "debug") await exercises.goTo(store.state.exercises[0].name);
+  const [one] = store.state.exercises, { exercise, look } = store.state;
+  if (one && !exercise && look !== "debug") await exercises.goTo(one.name);
   else await offered(store, session);
   store.change({});
   Object.assign(window, { page: { store, moves, hands, ...parts } });

@@ -13,7 +13,8 @@ export function roomNow() {
   const cells = part("#cells"), barrel = part('[data-room="barrel"]'), row = cells && cells.querySelector("tbody tr"),
     head = cells && cells.querySelector("thead");
   const rows = row ? Math.floor((cells.clientHeight - 6 - (head ? head.offsetHeight : 0)) / row.offsetHeight) : 16;
-  return { unit, timeline: part("#lanes")?.clientWidth, memory: cells?.clientWidth, memoryRows: Math.max(LEAST_ROWS, Math.min(MOST_ROWS, rows)),
+  const memoryRows = Math.max(LEAST_ROWS, Math.min(MOST_ROWS, rows));
+  return { unit, timeline: part("#lanes")?.clientWidth, memory: cells?.clientWidth, memoryRows,
     barrel: barrel && barrel.clientWidth - 16, barrelHigh: barrel && barrel.clientHeight - 6 };
 }
 

@@ -12,8 +12,7 @@ import { Part } from "./store.js";
 import { branchNow, joinedTrees, withBranch, withSession } from "./tree.js";
 
 const MOST_WANTED = 0o2000, MOST_BRANCHES = 64; // turns that are recorded where some were skipped; branches that a script begins
-const AFTER = 300; // milliseconds after which what has changed is kept
-const NOTE = /^\* (EXERCISE|PANEL) /; // with which a session of an exercise begins
+export const NOTE = /^\* (EXERCISE|PANEL) /; // with which a session of an exercise begins
 const textOf = (parts) => ofLines(parts.flatMap((part) => (typeof part === "number" ? stepsOf(part) : [part])));
 export const NO_ROOM = "this browser keeps nothing more: save this file";
 
@@ -44,8 +43,8 @@ export class Session extends Part {
     const film = new Film({ ...about, ...given.options, sources, labels });
     Object.assign(film, { deck: octalRows(given.deck), panel: octalRows(given.panel).flat() });
     Object.assign(this, { given, opening: null, notesBranches: !branchNow(tree).session });
-    Object.assign(this.state, { film, tree, sources: sourcesOf(film), exercise: given.exercise || null, transcript: [], checked: null, sentLast: null,
-      origin: null, setting: null, line: null });
+    Object.assign(this.state, { film, tree, sources: sourcesOf(film), exercise: given.exercise || null, transcript: [], checked: null,
+      sentLast: null, origin: null, setting: null, line: null });
   }
 
   // An action after a BACK begins a branch, in the session: what was taken back stays in the branch before it, with the lines up to there.
@@ -60,7 +59,7 @@ export class Session extends Part {
 
   // ---- opening
 
-  // Performs a script from the beginning, with the files of a run, and shows its end or a moment. The tree has the session as its present one.
+  // Performs a script from the beginning, with the files of a run, and shows its end or a moment. The tree has the session as its present.
   async open(given, tree, { moment, isTrusted = false } = {}) {
     const { script, deck = "", panel = "", options = {}, wanted = [] } = given;
     this.opening = { given, tree };
@@ -108,11 +107,14 @@ export class Session extends Part {
     if (film.at === film.last) return this.performHere(line);
     if ((await this.movesInFilm(line)) || (await this.findsInFilm(line))) return true;
     if (/^\s*STEP\b/i.test(line)) return this.performHere(line);
-    const { answer, acts, said } = await this.client.ask("look", { given: this.files(), parts: film.partsInEffect(film.at), text: `${line}\n` });
+    const { answer, acts, said } = await this.look(`${line}\n`);
     if (acts) return this.performHere(line);
     this.addLook(line, answer ? answer.slice(0, LONGEST_ANSWER) : [said]);
     return Boolean(answer) && !/^ERR /.test(answer[0] || "");
   }
+
+  // What lines answer at the moment that is shown, in a session of their own; some of the parts of the script may be enough.
+  look(text, parts = this.film.partsInEffect(this.film.at)) { return this.client.ask("look", { given: this.files(), parts, text }); }
 
   // A BACK, FORWARD or STEP in the past, if the film has where it leads, only moves what is shown.
   movesInFilm(line) {
@@ -148,8 +150,8 @@ export class Session extends Part {
     return this.addLook(line, [`shown: the film has it${change ? change.text : ""}`], change && change.name);
   }
 
-  // The moment of the film at which a condition comes to hold next, or came to hold last, of what is in effect; null if there is none. Turns
-  // that were skipped are recorded for it, and then shown.
+  // The moment of the film at which a condition comes to hold next, or came to hold last, of what is in effect; null if there is none.
+  // Turns that were skipped are recorded for it, and then shown.
   async momentOf(text, isBack) {
     const { film } = this.state, { position, kinds, count, breaks, labels } = film;
     for (let from = film.at; from < count;) {
@@ -256,11 +258,6 @@ export class Session extends Part {
   }
 
   // ---- what is kept
-
-  keepSoon() {
-    clearTimeout(this.timer);
-    this.timer = setTimeout(() => this.keepNow(), AFTER);
-  }
 
   // Keeps the session, unless it is as it was opened: then one in which more was done would no longer be the latest.
   keepNow() {

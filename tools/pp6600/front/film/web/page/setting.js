@@ -11,12 +11,13 @@ export function settingLine(film, { kind, name, numbers }, text) {
   return `SET ${name} ${state}${words}`;
 }
 
-// The words of one instruction at a cell: in the form in which the page has it, as FNC 12 0001 or UJN TO 0105; or with m first, as FNC 1,12.
+// The words of one instruction at a cell: in the form that the page has, as FNC 12 0001 or UJN TO 0105; or with m first, as FNC 1,12.
 export function wordsOf(film, text, n, address) {
   const { names, two_words: twoWords, relative_jumps: jumps } = film.about;
   const [name, ...all] = text.replace(/^(\w+) +[0-7]+ +TO /, "$1 TO ").split(/[\s,]+/), code = names.indexOf(name);
   if (code < 0) throw new Error(`${name} is no instruction, such as LDN 5, IAM 12 60 or UJN TO 105`);
-  const most = twoWords.includes(code) ? 2 : 1, numbers = all.filter((word) => word !== "TO").map((word) => addressIn(word, film.labels[n]));
+  const most = twoWords.includes(code) ? 2 : 1;
+  const numbers = all.filter((word) => word !== "TO").map((word) => addressIn(word, film.labels[n]));
   if (numbers.includes(null) || numbers.length > most) throw new Error(`${name} takes ${most} octal numbers or labels`);
   if (text.includes(",")) numbers.reverse();
   if (jumps.includes(code) && (all[0] === "TO" || !/^[0-7]{1,2}$/.test(all[0]))) numbers[0] = distance(address, numbers[0]);

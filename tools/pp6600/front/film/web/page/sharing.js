@@ -6,7 +6,8 @@ import { kindOfFile, linkTo, pageWith, saveBytes, textOfBytes } from "./files.js
 import { allKept, sessionsOfTab } from "./kept.js";
 import { Part } from "./store.js";
 
-export const filesOf = (about) => ({ script: "", deck: "", panel: "", ...Object.fromEntries(about.files.map(({ kind, bytes }) => [kind, bytes])) });
+export const filesOf = ({ files }) =>
+  ({ script: "", deck: "", panel: "", ...Object.fromEntries(files.map(({ kind, bytes }) => [kind, bytes])) });
 
 // What a moment and the chosen place are in an address.
 export const shownOf = ({ film, chosen }) => `moment=${octal(film.at)}${chosen ? `&place=${chosen.name.replace(/ /g, "+")}` : ""}`;
@@ -53,7 +54,7 @@ export class Sharing extends Part {
     }
   }
 
-  // Files that are dropped take the place of those of the run, in a session beside this one. On the editor they are texts for the assembler.
+  // Files that are dropped take the place of those of the run, in a session beside this. On the editor they are texts for the assembler.
   async takeFiles(files, isForEditor) {
     const given = { ...this.session.now(), script: this.session.scriptToSave(), wanted: [] }, names = [];
     for (const file of files) {

@@ -1,5 +1,7 @@
 // ---- the state of the page, and its one way to the screen: every change of an event leads to one drawing
 
+const AFTER = 300; // milliseconds
+
 // A part of the page: what it does changes the state.
 export class Part {
   constructor(store, parts) { Object.assign(this, { store, ...parts }); }
@@ -8,6 +10,12 @@ export class Part {
   get film() { return this.store.state.film; }
   update(patch) { this.store.change(patch); }
   say(text, isWrong = false) { this.store.change({ said: { text, isWrong } }); }
+
+  // Keeps in the browser what has changed, when nothing more has changed for a while.
+  keepSoon() {
+    clearTimeout(this.timer);
+    this.timer = setTimeout(() => this.keepNow(), AFTER);
+  }
 }
 
 export class Store {

@@ -18,5 +18,6 @@ export function withBranch(tree, name, from = null) {
 // The branches of two trees; the page is where it is in the second one.
 export function joinedTrees(tree, other) {
   const first = nextId(tree), moved = (id) => (id === null ? null : id + first);
-  return { now: moved(other.now), all: [...tree.all, ...other.all.map((one) => ({ ...one, id: moved(one.id), parent: moved(one.parent) }))] };
+  const all = other.all.map((one) => ({ ...one, id: moved(one.id), parent: moved(one.parent) }));
+  return { now: moved(other.now), all: [...tree.all, ...all] };
 }

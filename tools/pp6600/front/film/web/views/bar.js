@@ -3,16 +3,19 @@
 import { h } from "../page/dom.js";
 import { octal } from "../machine/places.js";
 import { icon } from "./icons.js";
+import { PLAIN } from "./parts.js";
 
 const LOOKS = [["debug", "Debug"], ["class", "Class"], ["projector", "Project"]];
 // The tools: each an action, its icon, its name, and what it does. Groups are apart in the toolbar; one that ends with a text is a pair.
 const TOOLS = [
   [["beginning", "first", "Start", "to the beginning"], ["round-back", "roundback", "Round", "back by a round of turns"],
     ["back", "back", "Back", "back by one turn"], ["play", "play", "Play", "play or pause"],
-      ["on", "step", "Step", "one turn on; at the end it makes one"],
+    ["on", "step", "Step", "one turn on; at the end it makes one"],
     ["round-on", "roundon", "Round", "on by a round of turns"], ["newest", "last", "End", "to the newest state"]],
-  [["line-before", "lineback", "", "back by a line of the source"], ["next-line", "lineon", "", "on to the next line of the source"], "Line"],
-  [["change-before", "changeback", "", "back to a change of the chosen number"], ["next-change", "changeon", "", "on to its next change"], "Change"],
+  [["line-before", "lineback", "", "back by a line of the source"],
+    ["next-line", "lineon", "", "on to the next line of the source"], "Line"],
+  [["change-before", "changeback", "", "back to a change of the chosen number"],
+    ["next-change", "changeon", "", "on to its next change"], "Change"],
   [["run-to", "runto", "Run to", "on to where P is at the chosen cell, or to a breakpoint"],
     ["watch", "watch", "Watch", "watch the chosen number, or no longer"],
     ["origin", "origin", "From", "where the chosen number came from"], ["set", "set", "Set", "set the chosen number to another one"]],
@@ -26,8 +29,9 @@ function keyOf({ actions }, action) {
 
 function tool([action, glyph, name, title], { playing, film, tool: roved, keys }) {
   const isPlay = action === "play" && playing, disabled = (action === "back" || action === "beginning") && film.at === 0;
-  return h("button", { class: `tool ${action}`, "data-action": action, title: `${title} (${keyOf(keys, action)})`, disabled, "aria-label": title,
-    tabindex: action === roved ? 0 : -1 }, icon(isPlay ? "pause" : glyph), name ? h("span", isPlay ? "Pause" : name) : null);
+  return h("button", { class: `tool ${action}`, "data-action": action, title: `${title} (${keyOf(keys, action)})`, disabled,
+    "aria-label": title, tabindex: action === roved ? 0 : -1 },
+  icon(isPlay ? "pause" : glyph), name ? h("span", isPlay ? "Pause" : name) : null);
 }
 
 const toolGroup = (group, state) => h("div", { class: typeof group.at(-1) === "string" ? "group pair" : "group" },
@@ -48,7 +52,7 @@ const looks = ({ look }) => h("div.looks", { role: "group", "aria-label": "look"
   h("button", { "data-look": name, "aria-pressed": String(look === name), tabindex: look === name ? 0 : -1 }, text)));
 
 const field = (id, label, size, wrong, more) => h("label", `${label} `,
-  h("input", { id, size, autocomplete: "off", spellcheck: "false", autocapitalize: "off", "aria-invalid": String(Boolean(wrong)), ...more }),
+  h("input", { id, size, ...PLAIN, "aria-invalid": String(Boolean(wrong)), ...more }),
   wrong ? h("span.wrong", { role: "alert", id: `no-${id}` }, wrong) : null);
 
 function fields({ film, chosen, wrong }) {

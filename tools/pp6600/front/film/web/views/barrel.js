@@ -33,14 +33,15 @@ function processor(film, n, { x, y }, memory, marks) {
 
 // A way from a processor to a channel: down or up to the bus, along it, and to the pill.
 function way(n, to, { x, y, right, middle, pillY, end }, level) {
-  const from = x(n) + BOX.w / 2, begin = n < HALF ? y(n) + BOX.h : y(n), bus = middle + level, turn = (end + right) / 2 + 2, goal = pillY(to);
-  const down = n < HALF ? 1 : -1, r = 6, side = r * Math.sign(goal - bus);
+  const from = x(n) + BOX.w / 2, begin = n < HALF ? y(n) + BOX.h : y(n), bus = middle + level, turn = (end + right) / 2 + 2;
+  const goal = pillY(to), down = n < HALF ? 1 : -1, r = 6, side = r * Math.sign(goal - bus);
   const bend = side ? `H${turn - r}q${r} 0 ${r} ${side}V${goal - side}q0 ${side} ${r} ${side}` : "";
   return `M${from} ${begin}V${bus - down * r}q0 ${down * r} ${r} ${down * r}${bend}H${right}`;
 }
 
 function pill(film, c, at, { right, pillY, pillHigh, hasNames }, marks) {
-  const now = film.channelState(c), device = deviceOf(film, c), text = c === CLOCK || now > 1 ? four(film.number("H", c)) : now ? "empty" : "–";
+  const now = film.channelState(c), device = deviceOf(film, c);
+  const text = c === CLOCK || now > 1 ? four(film.number("H", c)) : now ? "empty" : "–";
   const changed = marks.changes.some(({ place }) => /^(H|STATE)$/.test(place.kind) && place.numbers[0] === c);
   const acted = changed && film.isTurn(film.at) && [placeWith("H", c),
     ...(c === CLOCK ? [] : [placeWith("STATE", c)])].some(({ places }) => film.changedByDevice(film.at, places[0]));
@@ -80,7 +81,8 @@ function unitOf({ room, look }) {
 }
 
 export function barrelPane(state, marks) {
-  const { film, room, memory, look } = state, unit = unitOf(state), width = (room.barrel || 430) / unit, height = (room.barrelHigh || 190) / unit;
+  const { film, room, memory, look } = state, unit = unitOf(state);
+  const width = (room.barrel || 430) / unit, height = (room.barrelHigh || 190) / unit;
   const waits = marks.waits.map((text, n) => ({ n, c: parseInt(text, 8) })).filter(({ c }) => c <= CLOCK), moved = film.wordMoved(film.at);
   const used = channelsShown(film, moved, waits, Math.max(LEAST_HIGH, Math.min(height, MOST_HIGH))), s = sizes(width, height, used.length);
   const acted = film.isTurn(film.at) ? film.processor[film.at] : -1, cell = marks.changes.find(({ place }) => place.kind === "M"),

@@ -2,14 +2,15 @@
 
 import { h, classes, keeper } from "../page/dom.js";
 import { icon } from "./icons.js";
-import { pane } from "./parts.js";
+import { PLAIN, pane } from "./parts.js";
 
 const kept = keeper(), MOST_SHOWN = 400;
 
 // A line with its answer. A look has a sign: it has changed nothing, and the film has no moment of it.
 function entry({ text, answer, moment, isLook }, is, key) {
   const isNote = text.trim().startsWith("*"), isWrong = /^ERR /.test(answer[0] || "");
-  return h("li", { class: classes({ note: isNote, look: isLook, wrong: isWrong, ...is }), "data-moment": moment, seen: is.present ? key : undefined,
+  const className = classes({ note: isNote, look: isLook, wrong: isWrong, ...is });
+  return h("li", { class: className, "data-moment": moment, seen: is.present ? key : undefined,
     "aria-current": is.present ? "true" : null },
     h("button", { tabindex: -1 }, isNote ? "" : h("span.prompt", "> "), text || " ",
       isLook ? h("span.sign", { title: "a look: nothing has changed" }, icon("eye")) : null),
@@ -27,7 +28,7 @@ export function consolePane(state) {
         () => entry(one, is, `${from + at} ${film.count} ${film.at}`));
     })),
     h("form.typed", { "data-form": "console" }, h("label", { for: "typed" }, ">"),
-      h("input", { id: "typed", autocomplete: "off", spellcheck: "false", autocapitalize: "off", maxlength: 255,
+      h("input", { id: "typed", ...PLAIN, maxlength: 255,
         "aria-label": "a line of the console",
         placeholder: "STEP 100, DUMP PP 0, BACK W, until P 0 = 105" }), h("button", { tabindex: -1 }, "Send"))]);
 }

@@ -12,8 +12,8 @@ function reader({ film, origin }, marks) {
     from = (origin || []).map((one) => one.column).filter(Boolean);
   if (!film.deck.length) return null;
   const isFrom = (at) => from.some((one) => one.card === card && one.column === at);
-  const cells = range(COLUMNS).map((at) => h("span", { class: classes({ past: at < column, nextcolumn: words && at === column, from: isFrom(at) }) },
-    words ? four(words[at] || 0) : "····"));
+  const classOf = (at) => classes({ past: at < column, nextcolumn: words && at === column, from: isFrom(at) });
+  const cells = range(COLUMNS).map((at) => h("span", { class: classOf(at) }, words ? four(words[at] || 0) : "····"));
   return [h("p", h("b", "Card reader"), ` on H ${two(film.about.reader)}: `, number(film, marks, "CARD-MODE"), ", card ",
     number(film, marks, "CARD"),
     ` of ${four(film.deck.length)}, column `, number(film, marks, "CARD-COLUMN")),
@@ -46,7 +46,8 @@ export function picturesPane(state) {
   const { film, hasPictures } = state, { pictures } = film.about;
   if (!pictures) return null;
   const moment = film.resolve(film.at), isBeyond = hasPictures && moment >= pictures.moments;
-  const why = !hasPictures ? "it is known for the script of the file alone" : isBeyond ? "this is what it showed at the end of the script" : "";
+  const end = isBeyond ? "this is what it showed at the end of the script" : "";
+  const why = hasPictures ? end : "it is known for the script of the file alone";
   return pane(state, "pictures", "Devices of one's own", "", h("div.box.natural", pictures.devices.map(({ name, channel, shown }) => {
     const [, seen] = (hasPictures && shown.findLast(([from]) => from <= moment)) || [0, []];
     return h("figure", h("figcaption", `${name} on channel ${two(channel)}`),

@@ -4,7 +4,7 @@ import { h } from "../page/dom.js";
 import { untabbed } from "../machine/lines.js";
 import { octal, range, two } from "../machine/places.js";
 import { lineOfNext, sourceText } from "../machine/sources.js";
-import { pane, select } from "./parts.js";
+import { PLAIN, pane, select } from "./parts.js";
 
 // The numbers of the lines, decimal, with a sign at the one that is next and a colour at those with a message.
 function gutter({ text, messages }, next) {
@@ -15,23 +15,25 @@ function gutter({ text, messages }, next) {
 
 function message({ name, line, column, text, isFault }) {
   const at = `${line}:${column}: ${text}`;
-  return h("li", { class: isFault ? "wrong" : "warning" }, name ? `${name}:${at}` : h("button", { "data-line-at": `${line} ${column}` }, at));
+  const shown = name ? `${name}:${at}` : h("button", { "data-line-at": `${line} ${column}` }, at);
+  return h("li", { class: isFault ? "wrong" : "warning" }, shown);
 }
 
 export function editorPane(state) {
   const { editor, film, sources } = state, { n, text, messages, rows, listing, texts } = editor;
-  const isLoaded = sourceText(film, n) === text.replace(/\n$/, "").split("\n").map(untabbed).join("\n"), source = isLoaded && sources.get(n);
-  const next = source ? lineOfNext(film, source).number : 0, words = rows.reduce((sum, one) => sum + one.words.length, 0), hasWords = rows.length > 0;
+  const isLoaded = sourceText(film, n) === text.replace(/\n$/, "").split("\n").map(untabbed).join("\n");
+  const source = isLoaded && sources.get(n), next = source ? lineOfNext(film, source).number : 0;
+  const words = rows.reduce((sum, one) => sum + one.words.length, 0), isEmpty = !rows.length;
   const more = [select("edit-for", "processor", n, range(10).map((one) => [one, `PP ${two(one)}`])),
     h("span", { class: isLoaded ? "good" : "soft" }, isLoaded ? "loaded" : "draft"),
-    h("button", { "data-action": "load-and-run", disabled: !hasWords, title: "load it, and run the script again, beside this session" }, "Run again"),
-    h("button.main", { "data-action": "load", disabled: !hasWords, id: "load" }, hasWords ? `Load ${octal(words)} words` : "Load")];
+    h("button", { "data-action": "load-and-run", disabled: isEmpty, title: "load it, and run the script again, beside this session" },
+      "Run again"),
+    h("button.main", { "data-action": "load", disabled: isEmpty, id: "load" }, isEmpty ? "Load" : `Load ${octal(words)} words`)];
   return pane(state, "editor", "Editor", more, [
     texts.length ? h("p.texts", `with the names and macros of ${texts.join(", ")} `, texts.map((name) =>
       h("button", { "data-text": name, title: `assemble without ${name}` }, texts.length > 1 ? `without ${name}` : "without"))) : null,
     h("div.editing", { "data-box": "" }, h("pre.numbers", { "aria-hidden": "true" }, gutter(editor, next)),
-      h("textarea", { id: "source-text", wrap: "off", spellcheck: "false", autocapitalize: "off", autocomplete: "off", "aria-label": "source",
-        rows: text.split("\n").length + 1, value: text })),
+      h("textarea", { id: "source-text", wrap: "off", ...PLAIN, "aria-label": "source", rows: text.split("\n").length + 1, value: text })),
     h("ol.messages", { "aria-label": "messages" }, messages.map(message),
       messages.some(({ isFault }) => isFault) ? null : h("li.good", `nothing is wrong: ${octal(words)} words`)),
     listing ? h("details.listing", h("summary", "Listing"), h("pre", { tabindex: 0, "aria-label": "listing" }, listing)) : null]);

@@ -3,7 +3,7 @@
 import { h, classes } from "../page/dom.js";
 import { octal } from "../machine/places.js";
 import { icon } from "./icons.js";
-import { pane } from "./parts.js";
+import { PLAIN, pane } from "./parts.js";
 
 const MOST_WRONG = 4; // lines that are shown
 const TITLE = (name) => name.replace(/-/g, " ").replace(/^./, (letter) => letter.toUpperCase());
@@ -35,8 +35,9 @@ function checkedBox({ checked }) {
 // An exercise with its task, the panel if it has one, and Check.
 function taskOf(state, one) {
   const { exercises, film, panelText } = state, hasPanel = Boolean(one.files.panel);
+  const panel = { id: "panel-text", rows: 3, ...PLAIN, "aria-label": "words of the dead start panel", value: panelText };
   return [h("h3", `${exercises.indexOf(one) + 1}. ${TITLE(one.name)}`), h("p.task", taskText(one.task)),
-    hasPanel ? h("textarea", { id: "panel-text", rows: 3, spellcheck: "false", "aria-label": "words of the dead start panel", value: panelText }) : null,
+    hasPanel ? h("textarea", panel) : null,
     h("p.buttons",
       h("button.main", { "data-action": "check", id: "check" }, icon("check"), `Check turn ${octal(film.turn[film.at])}`),
       h("button", { "data-action": "begin-again", title: "beside this session, which stays among the branches" },

@@ -13,7 +13,8 @@ const CENTRAL_ROWS = 8, MOST_PROJECTED = 3;
 // ---- processors
 
 function processor({ film, memory }, marks, n) {
-  const one = marks.next[n], acted = film.isTurn(film.at) && film.processor[film.at] === n, next = film.number("SLOT") === n, waits = marks.waits[n];
+  const one = marks.next[n], waits = marks.waits[n], next = film.number("SLOT") === n;
+  const acted = film.isTurn(film.at) && film.processor[film.at] === n;
   const name = turning.nameOf(one), isIdle = one.word === 0 && !one.phase && !acted;
   return h("tr", { class: classes({ acted, next, waits, idle: isIdle, picked: n === memory.n }), "data-processor": n },
     h("td.slot", next ? "▶" : ""), h("th", { scope: "row" }, two(n)), h("td", number(film, marks, "P", n)),
@@ -65,7 +66,8 @@ export function centralPane(state, marks) {
   const { film, chosen, central } = state, kind = chosen ? chosen.kind : "", hasWords = film.used.has("central") || kind === "C",
     hasFrame = film.used.has("frame") || kind === "XP";
   if (!hasWords && !hasFrame) return null;
-  const first = central.first < 0 ? Math.min((film.firstWord || 0) & ~7, layout.size - CENTRAL_ROWS) : central.first, half = FRAME_WORDS / 2;
+  const half = FRAME_WORDS / 2, least = Math.min((film.firstWord || 0) & ~7, layout.size - CENTRAL_ROWS);
+  const first = central.first < 0 ? least : central.first;
   const words = range(CENTRAL_ROWS)
     .map((at) => h("tr", h("th", { scope: "row" }, octal(first + at, 6)), h("td", number(film, marks, "C", first + at))));
   const pairs = range(half)

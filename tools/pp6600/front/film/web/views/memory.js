@@ -50,8 +50,8 @@ function textOfChosen(state) {
   const { film, sources, chosen } = state, { last, next, isFirst, cut } = changesAround(state);
   const by = (moment) => `by ${makerText(film, sources, moment, chosen.places[0])}.`;
   const unknown = (which, key) => `Its ${which} change may be in turns that were not recorded: ${key} looks there.`;
-  const before = last > 0 ? `${last === film.at ? "Changed here" : `Last change: ${whenText(film, last)}`}, ${by(last)}` : last === NOT_RECORDED
-    ? unknown("last", "[") : "";
+  const when = last === film.at ? "Changed here" : last > 0 ? `Last change: ${whenText(film, last)}` : "";
+  const before = last > 0 ? `${when}, ${by(last)}` : last === NOT_RECORDED ? unknown("last", "[") : "";
   const after = next > 0 ? `${isFirst ? "First" : "Next"} change: ${whenText(film, next)}, ${by(next)}`
     : cut ? `No change before the line ${lineText(film, cut)}, which goes back.` : next === NOT_RECORDED ? unknown("next", "]")
       : `No change ${last ? "after this" : "in this run"} so far.`;
@@ -61,12 +61,12 @@ function textOfChosen(state) {
 function chosenBox(state) {
   const { film, chosen, origin } = state;
   if (!chosen) return h("p.chosen.soft", "Click a number, or move with the arrows: who changed it, and when?");
-  return h("p.chosen", { "aria-live": "polite" },
-    canSet(chosen) ? h("button", { tabindex: -1, "data-action": "set", title: "another number, or an instruction (e, a double click)" }, "set")
-      : null,
+  return h("p.chosen",
+    canSet(chosen) ? h("button", { tabindex: -1, "data-action": "set", title: "another number, or an instruction (e, a double click)" },
+      "set") : null,
     hasOrigin(chosen) ? h("button", { tabindex: -1, "data-action": "origin", "aria-expanded": String(Boolean(origin)),
       title: "where it came from (c)" }, "came from") : null,
-    h("b", chosen.name), " is ", h("b", film.text(chosen)), ". ", textOfChosen(state));
+    h("span", { "aria-live": "polite" }, h("b", chosen.name), " is ", h("b", film.text(chosen)), ". ", textOfChosen(state)));
 }
 
 const FORMS = [["numbers", "numbers"], ["instructions", "instructions"], ["text", "instructions and text"]];
@@ -75,7 +75,7 @@ const PROCESSORS_OF = range(10).map((n) => [n, `PP ${two(n)}`]);
 export function memoryPane(state, marks) {
   const { memory, film, chosen } = state, { n } = memory, as = formOf(state);
   const more = [select("memory-of", "processor", n, PROCESSORS_OF),
-    h("button", { "data-action": "follow", class: "small", "aria-pressed": String(memory.follows), title: "memory follows the turns (o)" }, "follow"),
+    h("button.small", { "data-action": "follow", "aria-pressed": String(memory.follows), title: "memory follows the turns (o)" }, "follow"),
     select("memory-as", "memory as", as, FORMS)];
   const active = chosen && chosen.kind === "M" ? { "aria-activedescendant": `c${chosen.places[0]}` } : {};
   return pane(state, "memory", "Memory", more, [

@@ -9,8 +9,7 @@ const MOST = 7; // numbers that are shown with what they were
 
 // A number with what it was and is. Who acted is said, so its processor is not.
 function change({ place, was, now }) {
-  const [kind, ...rest] = place.name.split(" "), name = kind === "M" ? `M ${rest[1]}` : kind.length > 1 || kind === "C" || kind === "H" ? place.name
-    : kind;
+  const { kind, name: whole } = place, isOwn = ["M", "A", "P", "Q"].includes(kind), name = isOwn ? whole.replace(/ \d\d/, "") : whole;
   return h("span.change", { "data-place": place.name, title: place.name }, h("i", name), " ", h("s", was), " → ", h("b", now));
 }
 
@@ -46,5 +45,6 @@ export function now(state, marks) {
         h("span.says", says), where(state)),
       changesOf(state, marks)),
     said.text || isBusy ? h("p", { class: `said ${said.isWrong ? "wrong" : ""}`, role: "status" },
-      said.text || `turn ${octal(film.highestTurn)} ..`, isBusy ? h("button", { id: "stop", "data-action": "stop" }, "stop") : null) : null);
+      said.text || `turn ${octal(film.highestTurn)} ..`,
+      isBusy ? h("button", { id: "stop", "data-action": "stop" }, "stop") : null) : null);
 }

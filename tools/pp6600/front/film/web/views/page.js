@@ -40,15 +40,17 @@ const PROJECTED = { source: ["pictures barrel processors", "source memory"], non
 const TABS = { debug: ["source", "memory", "processors", "console", "barrel", "devices", "branches", "editor", "more"],
   class: ["exercise", "editor", "memory", "processors", "console", "barrel", "devices", "branches", "more"] };
 const TAB_NAMES = { processors: "machine", exercise: "exercises" };
-const BESIDE = { processors: ["channels", "central"], source: ["processors"], memory: ["origin"], more: ["run"], barrel: ["pictures"] }; // on a phone
+// What a tab of a phone has beside its pane.
+const BESIDE = { processors: ["channels", "central"], source: ["processors"], memory: ["origin"], more: ["run"], barrel: ["pictures"] };
 
-const columnsOf = ({ look, columns, sources }) => (look === "projector" ? PROJECTED[sources.size ? "source" : "none"] : COLUMNS[look][columns]);
+const columnsOf = ({ look, columns, sources }) =>
+  (look === "projector" ? PROJECTED[sources.size ? "source" : "none"] : COLUMNS[look][columns]);
 
 function onPhone({ look, tab }, part) {
   const tabs = TABS[look] || TABS.debug, seen = tabs.includes(tab) ? tab : tabs[0];
-  const button = (name) => h("button", { role: "tab", "data-tab": name, "aria-selected": String(name === seen), tabindex: name === seen ? 0 : -1 },
-    TAB_NAMES[name] || name);
-  return [h("nav.tabs", { role: "tablist" }, tabs.map(button)),
+  const button = (name, is = name === seen) =>
+    h("button", { role: "tab", "data-tab": name, "aria-selected": String(is), tabindex: is ? 0 : -1 }, TAB_NAMES[name] || name);
+  return [h("nav.tabs", { role: "tablist" }, tabs.map((name) => button(name))),
     h("main.columns", h("div.column", [seen, ...(BESIDE[seen] || [])].map(part)))];
 }
 

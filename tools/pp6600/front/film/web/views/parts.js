@@ -5,8 +5,8 @@ import { PROCESSORS, placeWith, range, two } from "../machine/places.js";
 import { turning } from "../machine/turns.js";
 import { icon } from "./icons.js";
 
-// What is marked at a moment: the places that changed, those that were read, the chosen one. And what several views need of it: the changes,
-// and the next turn of each processor.
+// What is marked at a moment: the places that changed, those that were read, the chosen one. And what several views need of it: the
+// changes, and the next turn of each processor.
 export function marksOf({ film, chosen }) {
   const changed = new Set(film.places.subarray(film.starts[film.at], film.starts[film.at + 1]));
   const read = new Set(film.writesOf(film.at).flatMap(({ sources }) => sources.map(({ place }) => place)));
@@ -15,8 +15,8 @@ export function marksOf({ film, chosen }) {
 }
 
 const ZERO = /^0+$/;
-export const markClass = (marks, place, text) =>
-  classes({ n: true, zero: ZERO.test(text), changed: marks.changed.has(place), read: marks.read.has(place), chosen: marks.chosen === place });
+export const markClass = ({ changed, read, chosen }, place, text) =>
+  classes({ n: true, zero: ZERO.test(text), changed: changed.has(place), read: read.has(place), chosen: chosen === place });
 
 // The names of processors or channels, as PP 01, PP 03 to 11.
 export function namesOf(numbers, kind = "PP") {
@@ -36,6 +36,8 @@ export function numberAt(film, marks, place) {
   return h("span", { class: isChosen && !className.includes("chosen") ? `${className} chosen` : className, "data-place": place.name,
     title: place.name }, text);
 }
+
+export const PLAIN = { autocomplete: "off", spellcheck: "false", autocapitalize: "off" }; // of a field: no help that changes what is typed
 
 // A list of choices.
 export const select = (id, label, value, options) => h("select", { id, "aria-label": label, value: String(value) },

@@ -3,11 +3,11 @@
 import { h } from "../page/dom.js";
 import { meaningOf } from "../machine/words.js";
 import { RATES } from "../page/moves.js";
-import { pane, select } from "./parts.js";
+import { PLAIN, pane, select } from "./parts.js";
 
-const MARKS = "Click a number to choose it, twice to set it. Click a lane or a line of the console to go there. Click a line of the source to go to the next time "
-  + "that it was performed, with Shift to the time before. What the last action changed is boxed, what it read is underlined. "
-  + "All numbers are octal; numbers of lines are decimal. Print a page to have this moment on paper.";
+const MARKS = "Click a number to choose it, twice to set it. Click a lane or a line of the console to go there. Click a line of the source "
+  + "to go to the next time that it was performed, with Shift to the time before. What the last action changed is boxed, what it read "
+  + "is underlined. All numbers are octal; numbers of lines are decimal. Print a page to have this moment on paper.";
 
 export function runPane(state) {
   const { film: { about }, rate } = state;
@@ -39,7 +39,6 @@ export function help({ keys, film: { about }, meaning, letters }) {
 // The field of a number that is set, over it.
 export function settingField({ setting, chosen }) {
   return h("form.setting", { "data-form": "set", style: `left:${setting.left}px;top:${setting.top}px` },
-    h("input", { id: "set-to", value: setting.text, size: setting.text.length + 8, autocomplete: "off", spellcheck: "false", autocapitalize: "off",
-      "aria-label": `${chosen.name} becomes`,
+    h("input", { id: "set-to", value: setting.text, size: setting.text.length + 8, ...PLAIN, "aria-label": `${chosen.name} becomes`,
       title: "an octal number, for a cell also an instruction as FNC 12 1, and Enter" }));
 }

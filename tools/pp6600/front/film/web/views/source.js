@@ -36,7 +36,8 @@ function markOfLine(film, source, line) {
 function row(state, source, line, mark, { next, done, marks }) {
   const { n } = source, { number, address } = line, isHere = number === next.number,
     isPoint = address !== undefined && state.breakpoints.has(`${n} ${address}`);
-  const describe = () => rowOf(state, source, line, { mark, isPoint, isHere, note: isHere ? next.note : "", isDone: number === done, marks });
+  const note = isHere ? next.note : "";
+  const describe = () => rowOf(state, source, line, { mark, isPoint, isHere, note, isDone: number === done, marks });
   if (mark.address !== null || isHere) return describe();
   return kept(line, [mark.text, number === done, isPoint, n, line.times.length > 0].join(), describe);
 }

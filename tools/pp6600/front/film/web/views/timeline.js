@@ -70,7 +70,7 @@ function tallest(lane, key, { span, film }, width) {
 
 // A line passes, a hollow box waits, half a box is busy, a whole one is in a block.
 function laneMarks(state, lane, y, high) {
-  const { left, width, count, from } = scaleOf(state), key = [from, count, width, left, y, high].join(), columns = tallest(lane, key, state, width);
+  const { left, width, count, from } = scaleOf(state), columns = tallest(lane, [from, count, width, left, y, high].join(), state, width);
   const stop = Math.min(width, Math.floor(((state.film.count - from) / count) * width)),
     heights = [1, Math.round(high * 0.45), Math.round(high * 0.6), high];
   const paths = ["", "", "", ""];
@@ -78,7 +78,8 @@ function laneMarks(state, lane, y, high) {
     for (end = x + 1; end < stop && columns[end] === columns[x];) end++;
     const kind = columns[x], tall = heights[kind];
     paths[kind] += `M${left + x} ${y + high - tall}h${end - x}v${tall}h${x - end}z`;
-    if (kind === WAITING && end - x > 2 && tall > 3) paths[kind] += `M${left + x + 1} ${y + high - tall + 1}v${tall - 2}h${end - x - 2}v${2 - tall}z`;
+    const isHollow = kind === WAITING && end - x > 2 && tall > 3;
+    if (isHollow) paths[kind] += `M${left + x + 1} ${y + high - tall + 1}v${tall - 2}h${end - x - 2}v${2 - tall}z`;
   }
   return paths.map((d, kind) => (d ? h("path", { class: ["passes", "half", "half", "tall"][kind], d }) : null));
 }
@@ -92,7 +93,8 @@ function scriptMarks(state, height, unit) {
   return all.map(({ text, first }, at) => {
     const x = Math.round(pixelOf(state, first)), isJump = film.kinds[first] === JUMP, short = text.trim().slice(0, 16),
       wide = short.length * 7.3 * unit + 10;
-    const hasRoom = x + wide < (at + 1 < all.length ? pixelOf(state, all[at + 1].first) : pixelOf(state, film.count) + 8), sign = isJump && x >= free;
+    const end = at + 1 < all.length ? pixelOf(state, all[at + 1].first) : pixelOf(state, film.count) + 8;
+    const hasRoom = x + wide < end, sign = isJump && x >= free;
     if (!hasRoom && !sign && x < free) return null;
     free = x + (hasRoom ? wide : sign ? 9 : 2);
     const text_ = hasRoom ? short : sign ? (film.jumps.get(first) < first ? "◂" : "▸") : "";
@@ -135,7 +137,8 @@ function chosenMarks(state, y, high) {
 function originMarks(state, lanes, yOf) {
   const { film } = state, dotOf = ({ moment, write, place }) => {
     if (moment <= 0 || !isIn(state, moment)) return "";
-    const name = !film.isTurn(moment) ? "script" : isOfDevice(film, { moment, write }) ? nameOf(place) : `PP ${two(film.processor[moment])}`;
+    const writer = isOfDevice(film, { moment, write }) ? nameOf(place) : `PP ${two(film.processor[moment])}`;
+    const name = film.isTurn(moment) ? writer : "script";
     const lane = name === "script" ? -1 : lanes.findIndex((one) => one.name === name);
     return lane >= 0 || name === "script" ? `${Math.round(pixelOf(state, moment + 0.5))} ${yOf(lane)}` : "";
   };
@@ -151,16 +154,17 @@ export function timeline(state) {
   const { film, chosen, changes, room, look, isPhone, span, origin, allLanes } = state, unit = room.unit || 1, every = lanesOf(film);
   const shown = every.filter(({ quiet }) => !quiet || (allLanes && !isPhone)), quiet = every.filter((one) => one.quiet);
   const lanes = shown.slice(0, allLanes ? 24 : isPhone ? MOST_LANES.phone : MOST_LANES[look]), left = shown.slice(lanes.length);
-  const step = Math.max(allLanes ? 9 : 11, Math.min(17, Math.round(120 / (lanes.length + 2)))) * unit, high = step - 4 * unit, top = 20 * unit;
-  const own = top + lanes.length * step, height = Math.ceil(own + (chosen ? step : 0) + 2),
+  const step = Math.max(allLanes ? 9 : 11, Math.min(17, Math.round(120 / (lanes.length + 2)))) * unit;
+  const high = step - 4 * unit, top = 20 * unit, own = top + lanes.length * step, height = Math.ceil(own + (chosen ? step : 0) + 2),
     yOf = (n) => Math.round(n < 0 ? 10 * unit : top + n * step + high / 2);
   const name = (text, y, className = "name") => h("text", { class: className, x: 0, y }, text);
-  const key = [film.count, film.lines.length, span.from, span.to, room.timeline, unit, chosen && chosen.name, changes.length, lanes.length].join();
-  const still = keptStills(film, key, () => h("g", name("script", 13 * unit), scriptMarks(state, height, unit), skipMarks(state, height, unit),
+  const { from, to } = span, choice = chosen && chosen.name;
+  const key = [film.count, film.lines.length, from, to, room.timeline, unit, choice, changes.length, lanes.length].join();
+  const still = keptStills(film, key, () => h("g", name("script", 13 * unit), scriptMarks(state, height, unit),
+    skipMarks(state, height, unit),
     lanes.map(({ name: text, lane }, n) => h("g", name(text, top + n * step + high), laneMarks(state, lane, top + n * step, high))),
     takenMarks(state, top, own),
-    chosen ? [name(chosen.kind === "M" ? `M ${chosen.name.slice(-4)}` : chosen.name, own + high, "name mine"), chosenMarks(state, own, high)]
-      : null));
+    chosen ? [name(choice.replace(/^M ../, "M"), own + high, "name mine"), chosenMarks(state, own, high)] : null));
   const x = Math.round(pixelOf(state, film.at + 0.5)) + 0.5,
     missing = [left.length ? `${quietText(left.map((one) => ({ ...one, quiet: "no room" })))}` : "", quietText(quiet)];
   return h("section.timeline", { "aria-label": "The run" },
