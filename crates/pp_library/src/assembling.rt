@@ -86,8 +86,9 @@ fn have_own_addresses(cells: &[Cell]) -> bool
 }
 
 /// Assembles a source, and writes into a slice what is wrong with it (`form` 0), its words (1), its listing (2), the numbers of the lines
-/// that the words are of (3), its names (4), all that is known of its rows (5) or the words of each of its programs (6). `count` is how many bytes that are, and `messages` how many faults the source has. Returns
-/// `DONE`; `ROOM` if the slice has room for fewer bytes, and then it is as it was; `REFUSED` if there is no such form; or `NO_MEMORY`.
+/// that the words are of (3), its names (4), all that is known of its rows (5) or the words of each of its programs (6). `count` is how many
+/// bytes that are, and `messages` how many faults the source has. Returns `DONE`; `ROOM` if the slice has room for fewer bytes, and then it is
+/// as it was; `REFUSED` if there is no such form; or `NO_MEMORY`.
 #[unsafe(no_mangle)]
 pub extern "C" fn pp6600_assemble(
     alloc: Global,

@@ -39,12 +39,19 @@ abbrev pub value_text : Bool → Option ℤ → List ℕ
 value_text is_set None = []
 value_text is_set (Some value) = codes " " ++ mark is_set ∷ [] ++ signed_octal value 1
 
--- A row: its line, its location and origin, what is known of it, its number, its words, and behind a tab the text of its line.
+-- What a row is, of a line: its line, its location and origin, and what is known of it.
+abbrev pub row_fields : Option Line → Row → List ℕ
+row_fields line row = line_fields line ++ addresses row ++ letters row
+
+-- The number that a row names, and its words.
+abbrev pub row_numbers : Assembly → Row → List ℕ
+row_numbers made row = value_text row.is_set row.value ++ flat_map (λ word. codes " " ++ octal_text word 4) (row_words made row)
+
+-- A row: what it is, its numbers, and behind a tab the text of its line.
 abbrev pub known_row : Assembly → Row → List ℕ
 known_row made row =
-    line_fields (slice_get made.lines.all.items row.statement) ++ addresses row ++ letters row ++ value_text row.is_set row.value
-    ++ flat_map (λ word. codes " " ++ octal_text word 4) (row_words made row)
-    ++ codes "\t" ++ text_of made (slice_get made.lines.all.items row.statement) ++ 10 ∷ []
+    row_fields (slice_get made.lines.all.items row.statement) row ++ row_numbers made row
+    ++ 9 ∷ [] ++ text_of made (slice_get made.lines.all.items row.statement) ++ 10 ∷ []
 
 -- A cell: its address, its word, and the number of the line that put it there.
 abbrev pub numbered_cell : Cell → List ℕ

@@ -1,7 +1,7 @@
 //! All that is known of a source's rows and programs, for tools.
 ghost use Rattle.std.specs.Prelude.{◌≡◌, ◌++◌, IfOk, OnOk, slice_get};
 ghost use Rattle.std.specs.List.{flat_map};
-ghost use Rattle.pp_listing.specs.Rows.{flag, kind, known_row, letters, line_fields, mark, numbered_cell, program_lines, unit_lines, value_text};
+ghost use Rattle.pp_listing.specs.Rows.{flag, kind, known_row, letters, line_fields, mark, numbered_cell, program_lines, row_fields, row_numbers, unit_lines, value_text};
 
 use crate::forms::{line_of, put_addresses, put_start, put_words, words_of};
 use crate::listing::text_of;
@@ -27,14 +27,28 @@ pub fn rows_text(alloc: Global, made: &Assembly) -> Result<Vec<u8>, AllocError>
 fn put_known(out: &mut Vec<u8>, made: &Assembly, row: &Row) -> Result<(), AllocError>
     ensures { OnOk result (out.new.items ≡ out.old.items ++ known_row made.now row.now) }
 {
-    put_line(out, line_of(made, row))?;
-    put_addresses(out, row)?;
-    put_letters(out, row)?;
-    put_value(out, row)?;
-    put_words(out, words_of(made, row))?;
+    put_fields(out, line_of(made, row), row)?;
+    put_numbers(out, made, row)?;
     out.push(b'\t')?;
     out.extend_from_slice(text_of(made, row))?;
     Ok(out.push(b'\n')?)
+}
+
+/// Writes what a row is.
+fn put_fields(out: &mut Vec<u8>, line: Option<Line>, row: &Row) -> Result<(), AllocError>
+    ensures { OnOk result (out.new.items ≡ out.old.items ++ row_fields line row.now) }
+{
+    put_line(out, line)?;
+    put_addresses(out, row)?;
+    put_letters(out, row)
+}
+
+/// Writes the number that a row names, and its words.
+fn put_numbers(out: &mut Vec<u8>, made: &Assembly, row: &Row) -> Result<(), AllocError>
+    ensures { OnOk result (out.new.items ≡ out.old.items ++ row_numbers made.now row.now) }
+{
+    put_value(out, row)?;
+    put_words(out, words_of(made, row))
 }
 
 /// Writes what the line of a row is.
