@@ -32,7 +32,8 @@ TYPES = {"u8": ctypes.c_uint8, "u32": ctypes.c_uint32, "size": ctypes.c_uint64}
 BOUNDS = (0, 1, 2, 2 ** 31, 2 ** 32 - 1)
 # How many bits of its numbers each call takes, in the order of the header.
 NUMBERS = {"open": [32, 32, 8, 8], "numbers": [32], "turns": [32], "origins": [32], "again": [32], "looks": [32, 32], "until": [32],
-           "form": [32, 32, 64, 64], "back": [32], "forward": [32], "assemble": [32], "load_lines": [32], "disassemble": [16, 16, 16], "text_of_status": [32]}
+           "form": [32, 32, 64, 64], "back": [32], "forward": [32], "assemble": [32], "assemble_with": [32], "load_lines": [32],
+           "disassemble": [16, 16, 16], "text_of_status": [32]}
 SOURCES = (b"", b"          LDN    5\n", b"          ORG    100B\nSTART     LDN    5\n          UJN    START\n          END    START\n")
 FAULTY = (b"          LDN    LATER\n", b"A         LDN    5\nA         LDN\n")
 FILES = ((b"", ""), (b"1\n8\n", "DECK LINE 2 NOT OCTAL"), (b"1\n" * 2001, "DECK TOO LONG"))

@@ -21,6 +21,8 @@ static void assembler(void) {
     const uint16_t entry = 0100;
     for (uint32_t form = 0; form < 7; form++) pp6600_assemble((const uint8_t *)SOURCE, sizeof SOURCE - 1, form, text, ROOM, &count, &used);
     pp6600_load_lines((const uint8_t *)"  LDN 5\n", 8, 3, text, ROOM, &count, &used);
+    const pp6600_text deck = {(const uint8_t *)"A", 1, (const uint8_t *)SOURCE, sizeof SOURCE - 1};
+    pp6600_assemble_with((const uint8_t *)"          XTEXT  A\n", 19, &deck, 1, PP6600_ROWS, text, ROOM, &count, &used);
     pp6600_disassemble(cells, 4, &entry, 1, text, ROOM, &count);
 }
 
