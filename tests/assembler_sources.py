@@ -9,7 +9,8 @@ from typing import Dict, Iterator, List, Sequence, Tuple
 from . import assembler_lines
 from .support import TOP, read
 
-from pp6600.language.source.codes import CELLS, MNEMONICS
+from pp6600.language.notation import MNEMONICS
+from pp6600.run.forms import CELLS
 
 LIKELY = (0, 0o100, 0o200, 0o300, 0o376, 0o2400, 0o1077, 0o7777)  # words that are treated in their own way
 PLACES = ("examples/*/*.pp", "exercises/**/*.pp", "tests/programs/**/*.pp", "tests/debug/*.pp")
@@ -75,35 +76,37 @@ def statements(choose: random.Random, real: Sequence[List[str]]) -> List[str]:
             *(statement(choose) for _ in range(choose.randrange(1, 14)))]
 
 
-DECKS = ("PPCOM", "PPSYM.pp", "compmac.txt")  # of tests/programs/decks
-READS = ["          XTEXT  {}", " {:8} XTEXT", "*CALL {}", "*call {} and more", " A        XTEXT  {}  COMMENT"]
-
-
-def decks() -> Dict[str, List[str]]:
-    """Returns the lines of common decks by their names: those of the repository, and others made at random."""
-    choose = random.Random(66)
-    found = {name.partition(".")[0].upper(): read("tests", "programs", "decks", name).removesuffix("\n").split("\n") for name in DECKS}
-    for number in range(8):
-        reads = [choose.choice(READS).format(f"D{choose.randrange(number)}") for _ in range(choose.randrange(2)) if number]
-        end = choose.choice([[], ["          ENDX"], [" ENDX   OF IT", "          LDN    7", "NEVER"]])
-        head = choose.choice([[], [f"D{number}"], [f"D{number}", "COMMON"], ["COMMON", "          LDN    5"]])
-        found[f"D{number}"] = [*head, *choose.choice(KINDS[1:])(choose, []), *reads, statement(choose), *end]
-    return found
-
-
-def sources_with_decks(count: int = 24) -> Iterator[List[str]]:
-    """Yields the lines of each source that reads common decks."""
-    choose = random.Random(67)
-    yield from (read("tests", "programs", "decks", name).removesuffix("\n").split("\n") for name in ("nos-style.pp", "scope-style.pp"))
-    names = [*decks(), "NONE", "d1", ""]
-    for _ in range(count):
-        lines = choose.choice(KINDS[1:])(choose, [])
-        for _ in range(choose.randrange(1, 4)):
-            lines.insert(choose.randrange(len(lines) + 1), choose.choice(READS).format(choose.choice(names)))
-        yield lines
-
-
 KINDS = (lambda choose, real: changed(choose, choose.choice(real)), statements, lambda choose, real: assembler_lines.source(choose))
+FROZEN = 3000
+
+
+def program(choose: random.Random) -> List[str]:
+    """Returns a program with statements of all kinds that make or name addresses. Each fits in its place, so nothing is wrong with it."""
+    lines = ["          BASE   OCTAL", " MAC      MACRO  P", "          LOCAL  L", " L        LDN    P", "          ENDM",
+             f"          ORG    {choose.randrange(0o100, 0o6000):o}"]
+    for number in range(choose.randrange(1, 30)):
+        label = choose.choice(("", "", f" A{number}", f"B{number}=", f" C.{number}"))
+        one = choose.choice((
+            "LDN 5", "LDC 123456", "PSN", "BSS 3", "BSS 0", "CON 1,2,3,4,5", "DIS ,*ABC DEF*", "MAC 7", "", "BSSZ 2", "SUBR",
+            "LDN 5           A NOTE", "EQU 777", "EQU 123456", "EQU *-1", "SET 5", "LOC 20", "LOC *O", "UJN *", "VFD 60/1",
+            "DATA H*LDN*,17", "LDM =1234", "DUP 2", "IFEQ 1,2"))
+        if one.split(" ")[0] in ("SUBR", "EQU", "SET"):
+            label = label or f" D{number}"
+        lines.append(f"{label:9} {one}")
+        body = {"DUP 2": ["          PSN", "          ENDD"], "IFEQ 1,2": [" NOT      PSN", "          ENDIF"]}
+        lines += body.get(one, [])
+    return [*lines, "          PSN"]
+
+
+FROZEN_KINDS = (program, lambda choose: changed(choose, program(choose)), assembler_lines.source, lambda choose: statements(choose, []),
+                lambda choose: [["          ORG    100B"], ["          BASE   OCTAL"]][choose.randrange(2)] + [statement(choose)])
+
+
+def made_at_random() -> Iterator[List[str]]:
+    """Yields the lines of the sources whose results are in tests/programs/frozen.txt: they depend on no file."""
+    choose = random.Random(81)
+    for _ in range(FROZEN):
+        yield choose.choice(FROZEN_KINDS)(choose)
 
 
 def sections(name: str) -> Dict[str, List[Tuple[List[str], List[str]]]]:

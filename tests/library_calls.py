@@ -33,8 +33,8 @@ TYPES = {"u8": ctypes.c_uint8, "u32": ctypes.c_uint32, "size": ctypes.c_uint64}
 BOUNDS = (0, 1, 2, 2 ** 31, 2 ** 32 - 1)
 # How many bits of its numbers each call takes, in the order of the header.
 NUMBERS = {"open": [32, 32, 8, 8], "numbers": [32], "turns": [32], "origins": [32], "again": [32], "looks": [32, 32], "until": [32],
-           "form": [32, 32, 64, 64], "back": [32], "forward": [32], "assemble": [32], "load_lines": [32], "disassemble": [16, 16, 16], "text_of_status": [32],
-           "last_write": [32, 32], "instruction": [32]}
+           "form": [32, 32, 64, 64], "back": [32], "forward": [32], "assemble": [32], "assemble_with": [32], "load_lines": [32],
+           "disassemble": [16, 16, 16], "text_of_status": [32], "last_write": [32, 32], "instruction": [32]}
 SOURCES = (b"", b"          LDN    5\n", b"          ORG    100B\nSTART     LDN    5\n          UJN    START\n          END    START\n")
 FAULTY = (b"          LDN    LATER\n", b"A         LDN    5\nA         LDN\n")
 FILES = ((b"", ""), (b"1\n8\n", "DECK LINE 2 NOT OCTAL"), (b"1\n" * 2001, "DECK TOO LONG"))
@@ -497,12 +497,12 @@ class Sequence:
     def assembler(self, _):
         source, (faults,), (messages,) = self.choose.choice(SOURCES + FAULTY), self.outs(8), self.outs(8)
         given = Memory(source), size(len(source))
-        form, processor = self.choose.choice((0, 1, 2, 3, 4, 5, 2 ** 32 - 1)), self.choose.choice((0, 9, 10, 2 ** 32 - 1))
-        assert self.text("assemble", (*given, ("u32", form)), (faults,)) == (DONE if form <= 4 else REFUSED)
-        assert faults.is_same if form > 4 else (faults.number() > 0) == (source in FAULTY)
+        form, processor = self.choose.choice((*range(8), 2 ** 32 - 1)), self.choose.choice((0, 9, 10, 2 ** 32 - 1))
+        assert self.text("assemble", (*given, ("u32", form)), (faults,)) == (DONE if form <= 6 else REFUSED)
+        assert faults.is_same if form > 6 else (faults.number() > 0) == (source in FAULTY)
         status = self.text("load_lines", (*given, ("u32", processor)), (messages,))
         assert status == (REFUSED if processor > 9 or source in FAULTY else DONE)
-        assert messages.is_same if processor > 9 else form > 4 or messages.number() == faults.number()
+        assert messages.is_same if processor > 9 else form > 6 or messages.number() == faults.number()
 
     def cells(self, _):
         addresses = self.choose.sample(range(0o10000), self.choose.choice((0, 1, 5, 30)))

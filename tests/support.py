@@ -36,6 +36,12 @@ at = [path.endswith("-packages") for path in [*sys.path, "-packages"]].index(Tru
 sys.path.insert(at, os.path.join(TOP, "tools"))  # so that tests can import the tools' package, pp6600
 
 
+def needs_library():
+    """Skips a module where there is no library, which has the assembler."""
+    if not PROVED:
+        raise unittest.SkipTest("there is no library with an assembler")
+
+
 @functools.lru_cache(maxsize=None)
 def program():
     """Returns the path of the program under test: $PP6600, or else the one that ./pp6600 runs."""

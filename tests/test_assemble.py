@@ -7,14 +7,16 @@ import os
 import random
 import re
 
-from .assembler_sources import sections, sources
-from .support import TOP, Case, add_tests, blocks, names_of_codes, read, run, tool
+from .assembler_sources import program, sections, sources
+from .library_assembler import listing
+from .support import TOP, Case, add_tests, blocks, names_of_codes, needs_library, read, run, tool
 
+from pp6600.language.assembling import deck, panel
+from pp6600.language.decks import texts_of
 from pp6600.language.listing import ListingSymbols
-from pp6600.language.source.passes import assembled
-from pp6600.language.source.writing import lines_of
-from pp6600.language.sources import texts_in
+from pp6600.language.program import LOCAL, assembled
 
+setUpModule = needs_library
 PROGRAMS = os.path.join(TOP, "tests", "programs")
 COLUMN_OF_SOURCE = 22  # of a listing, counted from 0
 EDGES_OF_D = (0, 1, 0o37, 0o40, 0o41, 0o76, 0o77)
@@ -50,7 +52,7 @@ def spelled(code, d, m, address):
 def made(lines):
     """Returns the words of a source from cell 0100 on, by their addresses; its faults are a fault of the test."""
     found = assembled(["          ORG    100B", *lines])
-    assert not found.messages, found.messages
+    assert not found.faults, found.complaints
     return {address: cell.word for address, cell in sorted(found.cells.items())}
 
 
@@ -99,8 +101,7 @@ class Faults(Case):
 
     @staticmethod
     def faults(lines):
-        found = assembled(lines)
-        return [f"{line}:{column}: {text}" for line, column, text in (*found.messages, *found.warnings)] or ["right"]
+        return list(assembled(lines).complaints) or ["right"]
 
     def check(self, cases):
         for lines, wanted in cases:
@@ -114,9 +115,10 @@ class Faults(Case):
     def test_no_fault_of_its_own(self):
         """Sources at random give messages or words, never anything else."""
         for lines in sources(300):
-            messages = assembled(lines).messages
-            self.assertEqual(sorted(set(messages)), messages)
-            self.assertTrue(all(1 <= message.line <= len(lines) and message.column > 0 for message in messages))
+            found = assembled(lines)
+            places = [tuple(map(int, complaint.split(":")[:2])) for complaint in found.complaints[:found.faults]]
+            self.assertEqual(sorted(places), places)
+            self.assertTrue(all(1 <= line <= len(lines) and column > 0 for line, column in places))
 
 
 add_tests(Words, Words.check, sections("words.txt").items())
@@ -132,8 +134,8 @@ class Decks(Case):
     def test_read_back(self):
         """A listing with blocks and fields of bits is checked, and has the same words."""
         lines = read("tests", "programs", "decks", "scope-style.pp").splitlines()
-        found = assembled(lines, texts_in(DECKS))
-        symbols = ListingSymbols(lines_of(found, "listing", 0))
+        texts = texts_of(DECKS, lines)
+        found, symbols = assembled(lines, texts), ListingSymbols(listing(lines, texts))
         self.assertEqual({address: cell.word for address, cell in found.cells.items()},
                          {address: word for address, (word, _) in symbols.listing.cells.items()})
 
@@ -143,14 +145,14 @@ class Listings(Case):
 
     def check_read_back(self, lines):
         found = assembled(lines)
-        self.assertEqual([], found.messages, lines)
-        printed = lines_of(found, "listing", 0)
+        self.assertEqual(0, found.faults, lines)
+        printed = listing(lines)
         symbols = ListingSymbols(printed)
         self.assertEqual({address: cell.word for address, cell in found.cells.items()},
                          {address: word for address, (word, _) in symbols.listing.cells.items()}, printed)
         tables = symbols.names.labels, symbols.names.equates
-        self.assertEqual({(name, symbol.value) for name, symbol in found.symbols.named() if 0 <= symbol.value <= 0o7777},
-                         {(name, number) for table in tables for number, names in table.items() for name in names},
+        self.assertEqual({(name, number) for name, (number, _) in found.names.items() if number <= 0o7777},
+                         {(name, number) for table in tables for number, names in table.items() for name in names if not LOCAL.fullmatch(name)},
                          "\n".join(printed))
 
     def test_programs(self):
@@ -161,25 +163,7 @@ class Listings(Case):
     def test_random_programs(self):
         choose = random.Random(57)
         for _ in range(200):
-            self.check_read_back(self.random_program(choose))
-
-    @staticmethod
-    def random_program(choose):
-        """Returns a program with statements of all kinds that make or name addresses. Each fits in its place."""
-        lines = ["          BASE   OCTAL", " MAC      MACRO  P", "          LOCAL  L", " L        LDN    P", "          ENDM",
-                 f"          ORG    {choose.randrange(0o100, 0o6000):o}"]
-        for number in range(choose.randrange(1, 30)):
-            label = choose.choice(("", "", f" A{number}", f"B{number}=", f" C.{number}"))
-            statement = choose.choice((
-                "LDN 5", "LDC 123456", "PSN", "BSS 3", "BSS 0", "CON 1,2,3,4,5", "DIS ,*ABC DEF*", "MAC 7", "", "BSSZ 2", "SUBR",
-                "LDN 5           A NOTE", "EQU 777", "EQU 123456", "EQU *-1", "SET 5", "LOC 20", "LOC *O", "UJN *", "VFD 60/1",
-                "DATA H*LDN*,17", "LDM =1234", "DUP 2", "IFEQ 1,2"))
-            if statement.split(" ")[0] in ("SUBR", "EQU", "SET"):
-                label = label or f" D{number}"
-            lines.append(f"{label:9} {statement}")
-            body = {"DUP 2": ["          PSN", "          ENDD"], "IFEQ 1,2": [" NOT      PSN", "          ENDIF"]}
-            lines += body.get(statement, [])
-        return [*lines, "          PSN"]
+            self.check_read_back(program(choose))
 
 
 class Sources(Case):
@@ -209,10 +193,10 @@ class Sources(Case):
             cells = {address: cell.word for address, cell in found.cells.items()}
             programs = [one for name in ("script", "stdin") if name in there for one in self.programs(beside[name]).items()]
             processors[path] = {number for number, own in programs if own == cells}
-            self.assertEqual([], found.messages, path)
+            self.assertEqual(0, found.faults, path)
             self.assertTrue(processors[path] or any(
-                self.words_of(read(beside[name]).splitlines()) == self.words_of(lines_of(found, name, 0))
-                for name in ("deck", "panel") if name in there), path)
+                self.words_of(read(beside[name]).splitlines()) == self.words_of(form({address: f"{word:04o}" for address, word in cells.items()}))
+                for name, form in (("deck", deck), ("panel", panel)) if name in there), path)
         self.assertGreater(len(processors), 20)
         for path in sorted(glob.glob(f"{TOP}/ex*/*/script")):
             below = [own for name, own in processors.items() if name.startswith(f"{os.path.dirname(path)}/")]
@@ -234,4 +218,4 @@ class Sources(Case):
                 lines = block.text.splitlines()
                 source = [line[COLUMN_OF_SOURCE:] for line in lines if line[COLUMN_OF_SOURCE:]]
                 with self.subTest(block.place):
-                    self.assertEqual(lines, lines_of(assembled(["          BASE   OCTAL", *source]), "listing", 0)[1:])
+                    self.assertEqual(lines, listing(["          BASE   OCTAL", *source])[1:])

@@ -1,41 +1,32 @@
-"""The assembler of the library against the assembler in Python: what tools/assemble writes by either of them, and the other texts of the
-library; and tools/disassemble. Sources are those of the repository, right and wrong, and others made at random.
+"""The assembler of the library: its answers to 3,000 (decimal) sources, which are those that an assembler in Python had; its forms, which are
+all of one program; and tools where there is no library. Sources are those of the repository, right and wrong, and others made at random.
 
     PP6600_SOURCES=N   makes N at random (decimal)
 """
 
 import ctypes
 import os
-import random
-import re
 import unittest
 from ctypes import byref, c_size_t, c_uint16, c_uint32
 from unittest import mock
 
-from .assembler_sources import sections, sources, window
-from .support import LIBRARY, TOP, Case, tool
+from .assembler_sources import sources
+from .library_assembler import differences
+from .support import LIBRARY, PROVED, Case, tool
 
-from pp6600.engine.assembler import COMPLAINTS, DONE, LINES, NAMES, ROOM, Cell, assembler_here
+from pp6600.engine.assembler import DONE, LINES, NAMES, ROOM, WORDS, Cell, assembler_here
 from pp6600.engine.library import REFUSED
-from pp6600.language.assembling import STOPS, by_library
-from pp6600.language.source.disassembler import Disassembler
-from pp6600.language.source.passes import assembled
-from pp6600.language.source.writing import lines_of
-from pp6600.language.sources import complaints, names_of
+from pp6600.language.notation import LITERAL
+from pp6600.language.program import LOCAL, assembled, source_of, written
+from pp6600.language.sources import names_of, set_lines
 
-COUNT = int(os.environ.get("PP6600_SOURCES", "2000"))
-FORMS = ("words", "set", "listing")
-LITERAL = "*         LITERAL"  # in the listing
-
-
-def text_of(lines):
-    return "".join(f"{line}\n" for line in lines).encode("ascii")
+COUNT = int(os.environ.get("PP6600_SOURCES", "300"))
 
 
 def rows_with_words(program):
     """Returns what the form LINES has: no line has the words of literals."""
-    return [" ".join([f"{row.line.number:o}", *(f"{number:04o}" for number in (row.location, row.origin, *row.words))])
-            for row in program.rows if row.words and row.line.text != LITERAL]
+    return [" ".join([f"{row.number:o}", *(f"{number:04o}" for number in (row.location, row.origin, *row.words))])
+            for row in program.rows if row.words and row.text != LITERAL]
 
 
 def names_in(program):
@@ -45,55 +36,35 @@ def names_in(program):
                    *(f"{name} = {number:o}" for number, own in names.equates.items() for name in own)])
 
 
-@unittest.skipUnless(assembler_here(), "there is no library with an assembler")
+@unittest.skipUnless(PROVED, "there is no library with an assembler")
 class Library(Case):
-    def check(self, lines):
-        """Compares the two assemblers on a source. Returns whether the library takes it."""
-        source, program = text_of(lines), assembled(lines)
-        found = [by_library(assembler_here(), source, "a.pp", form, number) for number, form in enumerate(FORMS)]
-        if None in found:
-            refusal = assembler_here().text(source, COMPLAINTS)[0].decode().partition("\n")[0]
-            self.assertTrue(refusal.endswith(STOPS), refusal)
-            return False
-        for number, (form, got) in enumerate(zip(FORMS, found)):
-            self.assertEqual((complaints("a.pp", program), bool(program.messages)), got[:2])
-            if not got.is_wrong:
-                self.assertEqual(list(lines_of(program, form, number)), got.lines())
-        self.check_texts(source, program)
-        return True
+    def test_frozen(self):
+        self.assertEqual([], differences())
 
-    def check_texts(self, source, program):
-        """Compares what only the page asks for."""
-        if not program.messages:
-            self.assertEqual(rows_with_words(program), assembler_here().text(source, LINES)[0].decode().splitlines())
-            names = [name for name in assembler_here().text(source, NAMES)[0].decode().splitlines() if not re.match(r"Z\.[0-7]{4}", name)]
-            self.assertEqual(names_in(program), sorted(names))  # without those of LOCAL
-
-    def test_sources(self):
-        taken = 0
+    def test_forms(self):
+        right = 0
         for number, lines in enumerate(sources(COUNT)):
-            with self.subTest(number, lines=lines):
-                taken += self.check(lines)
-        self.assertGreater(taken, COUNT // 2)
+            program = assembled(lines)
+            if not program.faults:
+                right += 1
+                with self.subTest(number, lines=lines):
+                    self.check(lines, program)
+        self.assertGreater(right, 20)
 
-    def test_wrong_sources(self):
-        """tests/programs/faults.txt has them, with what is said of each."""
-        taken = [self.check(lines) for cases in sections("faults.txt").values() for lines, _ in cases if "".join(lines).isascii()]
-        self.assertGreater(sum(taken), len(taken) // 3)
-
-    def test_cells(self):
-        choose = random.Random(7)
-        for _ in range(600):
-            cells = window(choose, choose.choice((1, 2, 3, 8, 20, 60, 400)))
-            entries = [choose.choice(list(cells)) for _ in range(choose.choice((0, 1, 2, 5)))] + [choose.randrange(0o10000)]
-            self.assertEqual(list(Disassembler(cells, entries).lines()), assembler_here().disassembled(cells, entries).decode().splitlines())
+    def check(self, lines, program):
+        """Compares the forms of a source that has no fault."""
+        words = [f"{address:04o} {cell.word:04o}" for address, cell in sorted(program.cells.items())]
+        self.assertEqual([*words, *([] if program.start is None else [f"P {program.start:04o}"])], written(lines, WORDS))
+        self.assertEqual(set_lines(program, 5), assembler_here().load_lines(source_of(lines), 5).decode().splitlines())
+        self.assertEqual(rows_with_words(program), written(lines, LINES))
+        self.assertEqual(names_in(program), sorted(name for name in written(lines, NAMES) if not LOCAL.match(name)))
 
     def test_rooms(self):
         """What has no room for all of a text gets nothing of it, and how much room it needs; another status leaves it as it was too."""
         library, source, cells = ctypes.CDLL(LIBRARY), b"          LDN    5\n", Cell(0o100, 0o1405)
         of_source = lambda source, *more: (source, c_size_t(len(source)), *more)
         of_cells = lambda cell: (byref(cell), c_size_t(1), (c_uint16 * 1)(), c_size_t(0))
-        for name, given, bad in (("assemble", of_source(source, c_uint32(1)), of_source(source, c_uint32(5))),
+        for name, given, bad in (("assemble", of_source(source, c_uint32(1)), of_source(source, c_uint32(7))),
                                  ("load_lines", of_source(source, c_uint32(9)), of_source(source, c_uint32(10))),
                                  ("load_lines", of_source(source, c_uint32(0)), of_source(b" LDN A\n", c_uint32(0))),
                                  ("disassemble", of_cells(cells), of_cells(Cell(0, 0o10000)))):
@@ -113,28 +84,13 @@ class Library(Case):
 
 
 class Tools(Case):
-    """Both tools write the same with the library and without."""
-
-    def both(self, name, *words, **how):
-        """Returns what a tool writes, and its status."""
-        found = []
-        for engine in (os.environ.get("PP6600_ENGINE", ""), "plain"):
-            with mock.patch.dict(os.environ, PP6600_ENGINE=engine):
-                found.append(tool(name, *words, **how))
-        self.assertEqual(*found)
-        return found[0]
-
-    def test_assemble(self):
-        self.assertEqual(0, self.both("assemble", "--set", "3", os.path.join(TOP, "tests", "programs", "monitor.pp")).status)
-        for number, lines in enumerate((["  LDN 5"], ["  LDN"], [" A LDN A", "  IFEQ 1,1", "  UJN 0", "  ENDIF"], [], ["  LDC =5"], ["* É", " É LDN 100B"],
-                                         ["  BASE OCTAL", *["  ORG 0", "  BSSZ 7777"] * 30])):
-            path = self.file("".join(f"{line}\n" for line in lines), f"{number}.pp")
-            for words in ((), ("--listing",), ("--set", "0"), ("--panel",), ("--deck",), ("--unit", "A"), ("--text", TOP)):
-                with self.subTest(lines=lines, words=words):
-                    self.both("assemble", *words, path)
-
-    def test_disassemble(self):
-        words = self.file("0100 2000 0300 3420 0100 0100 1405\n")
-        self.assertEqual(0, self.both("disassemble", words).status)
-        self.both("disassemble", "--entry", "103", "--entry", "77", words)
-        self.both("disassemble", self.file(tool("assemble", "--listing", os.path.join(TOP, "tests", "programs", "mover.pp")).out))
+    def test_no_library(self):
+        """Where no library starts, a source, a listing with names and cells to disassemble are refused."""
+        source, rows = self.file("  LDN 5\n"), self.file("0100 1405\n")
+        listing = self.file("0100 1405           LDN    5\n0101 1406  START    LDN    6\n")
+        with mock.patch.dict(os.environ, PP6600_ENGINE="plain"):
+            for name, *words in (("assemble", source), ("load", "--listing", "0", listing), ("disassemble", rows), ("show", "--source", "0", source)):
+                with self.subTest(name):
+                    done = tool(name, *words)
+                    self.assertEqual(("", 2), (done.out, done.status))
+                    self.assertRegex(done.err, "this needs the assembler of the proved library, and no library starts here\n$")

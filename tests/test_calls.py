@@ -7,16 +7,17 @@ against a stack of the test's own; cases by hand are in tests/sessions/sources.t
 import os
 import random
 
-from .support import Case, program, run
+from .support import Case, needs_library, program, run
 
 from pp6600.language.calls import calls
-from pp6600.language.source.passes import assembled
+from pp6600.language.program import assembled
 from pp6600.language.sources import Source
 from pp6600.run.conditions import Condition, Returns
 from pp6600.run.searches import search_for
 from pp6600.run.session import Session
 from pp6600.shell.script import performed
 
+setUpModule = needs_library
 SEED, COUNT = map(int, os.environ.get("PP6600_CALLS", "70:250").split(":"))
 LJM, RJM, CELLS = 0o01, 0o02, 0o10000
 WAITING = range(0o70, 0o100)  # codes that may wait

@@ -8,21 +8,22 @@ import os
 import random
 
 from .assembler_sources import CELLS, window
-from .support import Case
+from .support import Case, needs_library
 
-from pp6600.language.source.disassembler import Disassembler
-from pp6600.language.source.passes import assembled
+from pp6600.convert.disassemble import source_of
+from pp6600.engine.assembler import COMPLAINTS, WORDS
+from pp6600.language.program import written
 
+setUpModule = needs_library
 SEED, COUNT = map(int, os.environ.get("PP6600_WINDOWS", "0:1200").split(":"))
 WHOLE = 200  # windows for each whole memory
 
 
 class Law(Case):
     def check(self, cells, entries, labels={}):
-        lines = list(Disassembler(cells, entries, labels).lines())
-        found = assembled(lines)
-        self.assertEqual([], found.messages[:1])
-        got = {address: cell.word for address, cell in found.cells.items()}
+        lines = source_of(cells, entries, labels)
+        self.assertEqual([], written(lines, COMPLAINTS)[:1])
+        got = {int(cell, 8): int(word, 8) for cell, word in (line.split(" ") for line in written(lines, WORDS)) if cell != "P"}
         wrong = [address for address in sorted({*cells, *got}) if cells.get(address) != got.get(address)]
         self.assertEqual([], wrong[:1], "\n".join(lines[:40]))
 

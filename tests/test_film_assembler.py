@@ -11,8 +11,7 @@ from .support import TOP, Case, read
 
 from pp6600.front.film import page
 from pp6600.run.names import AllSymbols
-from pp6600.language.source.writing import set_lines
-from pp6600.language.sources import Source
+from pp6600.language.sources import Source, set_lines
 
 PLACES = ("examples/*/*.pp", "exercises/**/*.pp", "tests/programs/*.pp", "tests/debug/*.pp")
 MODULE = os.path.join(TOP, "dist", "pp6600.wasm")
@@ -21,13 +20,13 @@ LEAST = 10  # sources that the module takes
 
 def own_lines(source, rows):
     """Returns the texts of lines but for those that a macro makes."""
-    made = {address for row in source.program.rows if row.line.call for address in (row.location, row.origin)}
+    made = {address for row in source.program.rows if row.is_made for address in (row.location, row.origin)}
     return {int(address): row for address, row in rows.items() if int(address) not in made}
 
 
 def without_literals(source):
     """Returns a source without the words of literals, which are of no line."""
-    rows = [row for row in source.program.rows if row.line.text != "*         LITERAL"]
+    rows = [row for row in source.program.rows if row.text != "*         LITERAL"]
     return Source(source.path, source.program._replace(rows=rows, literals={}))
 
 

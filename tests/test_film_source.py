@@ -62,7 +62,7 @@ def mark_of(source, row, cells):
         if found == list(row.words):
             return WHOLE
         line = source.line_of(base, *cells[base:base + 2])
-        if line and line.number == row.line.number and line.second is not None:
+        if line and line.number == row.number and line.second is not None:
             mark = Mark("m is", base + 1)
     return mark or Mark("now", next(row.origin + at for at, word in enumerate(row.words) if cells[row.origin + at] != word))
 
@@ -72,7 +72,7 @@ def marks_of(source, cells):
     marks = {}
     for row in source.program.rows:
         if row.words:
-            marks.setdefault(row.line.number, []).append(mark_of(source, row, cells))
+            marks.setdefault(row.number, []).append(mark_of(source, row, cells))
     worst = ("now", "m is", "")
     return {number: min(some, key=lambda mark: worst.index(mark.text)) for number, some in sorted(marks.items())}
 

@@ -11,7 +11,7 @@ from tests.support import PROVED, TOP, Case, names_of_codes, read
 
 from pp6600.engine import library
 from pp6600.engine.plain.instructions import CODES as PLAIN
-from pp6600.language.source.codes import MNEMONICS, size_of
+from pp6600.language.notation import MNEMONICS, size_of
 from pp6600.run.sentences import TEXT
 
 ROW = re.compile(r"^ +(?:∷ )?row code\.(\w+) (\w+) .*?-- ([0-7]{2})$", re.M | re.S)

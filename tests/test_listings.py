@@ -9,13 +9,14 @@ import os
 import random
 import re
 
-from .support import TOP, Case, read
+from .library_assembler import listing
+from .support import TOP, Case, needs_library, read
 
 from pp6600.failure import Failure
 from pp6600.language.listing import Listing, ListingSymbols
-from pp6600.language.source.passes import assembled
-from pp6600.language.source.writing import lines_of
+from pp6600.language.program import assembled
 
+setUpModule = needs_library
 LISTINGS = [text.splitlines() for text in re.findall("<<END\n(.*?)^END$", read("tests", "sessions", "printed-listings.txt"), re.M | re.S)]
 SEED, COUNT = map(int, os.environ.get("PP6600_ERRORS", "70:150").split(":"))
 WORDS_OF_LINE = 2
@@ -34,7 +35,7 @@ def rows_of(source):
         named = "" if row.value is None or row.is_set or not 0 <= row.value < 0o10000 else f"{row.value:04o}"
         address = f"{row.location:04o}" if row.has_address else named
         words = [f"{word:04o}" for word in row.words]
-        yield address, words[:WORDS_OF_LINE], row.line.text
+        yield address, words[:WORDS_OF_LINE], row.text
         for at in range(WORDS_OF_LINE, len(words), WORDS_OF_LINE):
             yield f"{row.location + at:04o}", words[at:at + WORDS_OF_LINE], ""
 
@@ -60,11 +61,7 @@ def sequenced(source):
     return [f"{address:4}  {' '.join(words):11}  {text:50} DECK {number:5}" for number, (address, words, text) in enumerate(rows_of(source), 1)]
 
 
-def own(source):
-    return lines_of(assembled(source), "listing", 0)
-
-
-STYLES = (numbered, paged, sequenced, own)
+STYLES = (numbered, paged, sequenced, listing)
 ERRORS = {"a digit lost": lambda line, at: f"{line[:at]} {line[at + 1:]}", "a digit deleted": lambda line, at: line[:at] + line[at + 1:],
           "a letter": lambda line, at: f"{line[:at]}{'OISBZG'[at % 6]}{line[at + 1:]}",
           "a point": lambda line, at: f"{line[:at]}.{line[at + 1:]}"}
@@ -137,7 +134,7 @@ class Errors(Case):
 
     def test_another_digit(self):
         """Another digit in a word is found if the operand says what it is: here each does but the second word of the SUBR's jump."""
-        lines = own(["          BASE   OCTAL", " N        EQU    20", "          ORG    100", " A        LDN    N", "          LDC    123456",
+        lines = listing(["          BASE   OCTAL", " N        EQU    20", "          ORG    100", " A        LDN    N", "          LDC    123456",
                      "          LDM    B,5", "          UJN    A", " B        CON    1,B", "          DATA   3HABC", "          SHN    -6"])
         for number, line in enumerate(lines):
             for at in (at for at, symbol in enumerate(line[11:20], 11) if symbol in "01234567"):
@@ -147,7 +144,7 @@ class Errors(Case):
 
     def check_each_digit(self, source, first, last):
         """Checks that each other digit in some columns of the listing of a source is found, or makes no difference."""
-        lines = own(source)
+        lines = listing(source)
         wanted = self.words(lines)
         for number, line in enumerate(lines):
             for at in [at for at in range(first, min(last, len(line))) if line[at] in "01234567"]:
@@ -174,12 +171,12 @@ class Errors(Case):
 class Own(Case):
     def test_micro(self):
         """What stands for a micro is not printed, so the words say nothing else."""
-        lines = own(["          BASE   OCTAL", "          ORG    100", " HI       MICRO  1,,/OK/", "          DIS    ,*\"HI\"*", "          CON    2R\"HI\""])
+        lines = listing(["          BASE   OCTAL", "          ORG    100", " HI       MICRO  1,,/OK/", "          DIS    ,*\"HI\"*", "          CON    2R\"HI\""])
         self.assertEqual([0o1713, 0, 0o1713], list(Errors.words(lines).values()))
 
     def test_two_programs(self):
         """Of the programs of a source the first is loaded, as by --words."""
         for origin in ("100", "200"):
-            lines = own(["          IDENT  A", "          BASE   OCTAL", "          ORG    100", " START    LDN    1", "          LDC    =5", "          IDENT  B",
+            lines = listing(["          IDENT  A", "          BASE   OCTAL", "          ORG    100", " START    LDN    1", "          LDC    =5", "          IDENT  B",
                          f"          ORG    {origin}", " BEGIN    LDN    2", "          UJN    BEGIN", "          END    BEGIN"])
             self.assertEqual({0o100: 0o1401, 0o101: 0o2000, 0o102: 0o103, 0o103: 5}, Errors.words(lines))

@@ -267,16 +267,36 @@ enum {
     PP6600_LISTING = 2,    /* the listing */
     PP6600_LINES = 3,      /* a line for each row of the listing that has words and no literal: the number of its line of the source, the
                             * address of its first word, the address to which this is loaded, its words, as "5 0101 0101 0100 0300" */
-    PP6600_NAMES = 4       /* a line for each label, as "START 0100", and for each other name of one number, as "SIZE = 12" */
+    PP6600_NAMES = 4,      /* a line for each label, as "START 0100", and for each other name of one number, as "SIZE = 12" */
+    PP6600_ROWS = 5,       /* a line for each row of the listing, as "5 120 S 0101 0101 AP 0100 0300" with a tab and the text of its line
+                            * behind it: the number of its line of the source; where its text begins among those of all lines; S if it is a
+                            * line of the source, M if the call of a macro made it, and for a literal "0 0 L"; its location and its
+                            * origin; A if it has an address, P if it was performed and not only listed, else -; =12 if it names a number,
+                            * ~12 if SET can change that; its words */
+    PP6600_UNITS = 6       /* a line for each word, as "0100 1405 5" with the number of its line, and "P 0100" as in WORDS; before each
+                            * program of the source but the first one a line with its name, as "IDENT B" */
 };
 
 /* The calls below need no session. *count: the bytes of the text that they write; what is in `into` behind them is as it was. ROOM: `into` has
  * room for fewer than *count bytes, and is as it was. */
 
+/* A common deck, which a source reads by XTEXT or *CALL: its name, in letters of either case, and its lines. */
+typedef struct {
+    const uint8_t *name;
+    size_t name_bytes;
+    const uint8_t *lines;
+    size_t line_bytes;
+} pp6600_text;
+
 /* Assembles a source, and writes into `into` what form asks for. *messages: how many faults the source has; if there is one, its words are
  * not to be used. REFUSED: no such form. */
 uint32_t pp6600_assemble(const uint8_t *source, size_t source_bytes, uint32_t form, uint8_t *into, size_t room, size_t *count,
     size_t *messages);
+
+/* The same of a source with common decks; of two with one name the first counts. A message about a line of a deck is about the line of the
+ * source that reads it. */
+uint32_t pp6600_assemble_with(const uint8_t *source, size_t source_bytes, const pp6600_text *texts, size_t text_count, uint32_t form,
+    uint8_t *into, size_t room, size_t *count, size_t *messages);
 
 /* Assembles a source, and writes the lines of the console that load its program into a processor, 0 to 9: the SET M lines, and SET P if END
  * says where the program begins. *messages: how many faults the source has. REFUSED: it has faults, for which PP6600_COMPLAINTS has the

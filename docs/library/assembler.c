@@ -23,7 +23,7 @@ int main(void) {
     uint64_t words[3];
     pp6600_cell cells[3];
     const uint16_t entries[1] = {0100};
-    for (uint32_t form = PP6600_COMPLAINTS; form <= PP6600_NAMES; form++) show(good, form);
+    for (uint32_t form = PP6600_COMPLAINTS; form <= PP6600_UNITS; form++) show(good, form);
     show(wrong, PP6600_COMPLAINTS);
     status = pp6600_load_lines((const uint8_t *)wrong, strlen(wrong), 3, text, sizeof text, &count, &messages);
     printf("status %u, messages %u\n", (unsigned)status, (unsigned)messages);

@@ -87,7 +87,7 @@ export interface OriginTurn {
 }
 
 /** What the assembler writes of a source. */
-export declare const FORM: Readonly<Record<"COMPLAINTS" | "WORDS" | "LISTING" | "LINES" | "NAMES", number>>;
+export declare const FORM: Readonly<Record<"COMPLAINTS" | "WORDS" | "LISTING" | "LINES" | "NAMES" | "ROWS" | "UNITS", number>>;
 
 /** A call failed. If an option or a file was rejected, the message is the program's line, and `exit` is the program's exit status. */
 export declare class LibraryError extends Error {
@@ -154,6 +154,8 @@ export declare class Session {
 /** The assembler. */
 export declare class Assembler {
   constructor(module: Module);
-  /** Returns the lines that a source makes: by "assemble" those of a FORM, by "load_lines" those that load it into a processor, 0 to 9. */
-  written(call: "assemble" | "load_lines", source: string, number: number): { lines: string[]; faults: number };
+  /** Returns the lines that a source makes: by "assemble" those of a FORM, by "assemble_with" the same with common decks, each a name and its
+   *  lines, by "load_lines" those that load it into a processor, 0 to 9. */
+  written(call: "assemble" | "assemble_with" | "load_lines", source: string, number: number, decks?: [string, string][]):
+    { lines: string[]; faults: number };
 }

@@ -19,8 +19,10 @@ static const char SCRIPT[] = "SET M 0 100 3410 0376\nSET P 0 100\nWATCH C 5\nSTE
 static void assembler(void) {
     static const pp6600_cell cells[] = {{0100, 01405, 0}, {0101, 0376, 0}, {0200, 02000, 0}, {0201, 0100, 0}};
     const uint16_t entry = 0100;
-    for (uint32_t form = 0; form < 5; form++) pp6600_assemble((const uint8_t *)SOURCE, sizeof SOURCE - 1, form, text, ROOM, &count, &used);
+    for (uint32_t form = 0; form < 7; form++) pp6600_assemble((const uint8_t *)SOURCE, sizeof SOURCE - 1, form, text, ROOM, &count, &used);
     pp6600_load_lines((const uint8_t *)"  LDN 5\n", 8, 3, text, ROOM, &count, &used);
+    const pp6600_text deck = {(const uint8_t *)"A", 1, (const uint8_t *)SOURCE, sizeof SOURCE - 1};
+    pp6600_assemble_with((const uint8_t *)"          XTEXT  A\n", 19, &deck, 1, PP6600_ROWS, text, ROOM, &count, &used);
     pp6600_disassemble(cells, 4, &entry, 1, text, ROOM, &count);
 }
 

@@ -5,12 +5,13 @@ use Rattle.pp_listing.specs.Listing.{listed_row}
 use Rattle.pp_source.specs.Places.{IsOfLine, line_lengths}
 use Rattle.pp_disassembly.specs.SourceText.{source_text}
 use Rattle.pp_disassembly.specs.Statements.{addressed, assembled, cells_of}
+use Rattle.pp_listing.specs.Rows.{known_row, program_lines, unit_lines}
 use Rattle.pp_listing.specs.Texts.{cell_lines, complaint_lines, name_line, row_line, start_line}
 use Rattle.pp_assembler.specs.declared.program.Assembly.{Assembly}
 use Rattle.pp_notation.specs.declared.program.Cell.{Cell}
 use Rattle.pp_disassembly.specs.declared.statement.Statement.{Statement}
 use Rattle.pp_library.specs.Outcomes.{OnlyReturns, PutsText, TextOuts}
-use Rattle.pp_library.specs.declared.assembling.TheConstants.{NAMES, PROCESSORS}
+use Rattle.pp_library.specs.declared.assembling.TheConstants.{PROCESSORS, UNITS}
 use Rattle.pp_library.specs.declared.status.TheConstants.{NO_MEMORY, REFUSED}
 use Rattle.pp_loading.specs.LoadLines.{Loads, cell_list, start_list}
 
@@ -29,14 +30,17 @@ pub record IsAssembly (source : List ℕ) (made : Assembly) : Type 0 where
   pub messages : All (IsOfLine (line_lengths source)) made.messages.items
   pub warnings : All (IsOfLine (line_lengths source)) made.warnings.items
 
--- What is written of an assembled source in a form: what is wrong with it, its words, its listing, the numbers of its lines, or its names.
+-- What is written of an assembled source in a form: what is wrong with it, its words, its listing, the numbers of its lines, its names, all that
+-- is known of its rows, or the words of each of its programs.
 abbrev pub form_text : ℕ → Assembly → List ℕ
 form_text form made =
     if form == 0 then complaint_lines made.messages.items ++ complaint_lines made.warnings.items
     else (if form == 1 then cell_lines made.program.cells.items ++ start_line made.program.start
     else (if form == 2 then flat_map (listed_row made) made.rows.items
     else (if form == 3 then flat_map (row_line made) made.rows.items
-    else flat_map (name_line made.symbols.text.items) made.symbols.all.items)))
+    else (if form == 4 then flat_map (name_line made.symbols.text.items) made.symbols.all.items
+    else (if form == 5 then flat_map (known_row made) made.rows.items
+    else program_lines made.program ++ flat_map unit_lines made.others.items)))))
 
 -- The source was assembled. The text, its length and the number of faults are those of one assembly.
 pub record IsWritten (source : List ℕ) (form : ℕ) (before after : AssembleOuts) (result : ℕ) : Type 0 where
@@ -48,9 +52,9 @@ pub record IsWritten (source : List ℕ) (form : ℕ) (before after : AssembleOu
 -- The text is written (DONE), or there is no room for it (ROOM), or there is no such form (REFUSED), or memory ran out.
 abbrev pub Assembles : List ℕ → ℕ → AssembleOuts → AssembleOuts → ℕ → Type 0
 Assembles source form before after result =
-    ((form ≤ NAMES) × IsWritten source form before after result)
-    ⊎ (((NAMES < form) × OnlyReturns REFUSED before after result)
-    ⊎ ((form ≤ NAMES) × OnlyReturns NO_MEMORY before after result))
+    ((form ≤ UNITS) × IsWritten source form before after result)
+    ⊎ (((UNITS < form) × OnlyReturns REFUSED before after result)
+    ⊎ ((form ≤ UNITS) × OnlyReturns NO_MEMORY before after result))
 
 -- The source was assembled without a fault, and the text loads its program into a processor: the console accepts the lines in any
 -- session, and then each cell has its word, P is where the program begins, if it says so, and nothing else is changed.

@@ -4,12 +4,20 @@ ghost use Rattle.std.specs.Prelude.{◌≡◌, ◌≢◌, ◌↔◌, AllPairs, A
 
 use crate::status::{NO_MEMORY, REFUSED};
 use crate::texts::put_text;
-use pp_assembler::{Assembly, assemble};
+use pp_assembler::{Assembly, Text, assemble, assemble_with};
 use pp_disassembly::{disassemble, write_source};
-use pp_listing::{complaints_text, lines_text, listing_text, names_text, words_text};
+use pp_listing::{complaints_text, lines_text, listing_text, names_text, rows_text, units_text, words_text};
 use pp_loading::load_lines;
 use pp_notation::{Cell, are_cells};
 use std::alloc::{AllocError, Global};
+
+/// A common deck as C has it: its name, in letters of either case, and its lines.
+#[repr(C)]
+#[derive(Clone, Copy)]
+pub struct CommonDeck<'a> {
+    pub name: &'a [u8],
+    pub lines: &'a [u8],
+}
 
 /// What is written of a source.
 const COMPLAINTS: u32 = 0;
@@ -21,6 +29,10 @@ const LISTING: u32 = 2;
 const LINES: u32 = 3;
 
 const NAMES: u32 = 4;
+
+const ROWS: u32 = 5;
+
+const UNITS: u32 = 6;
 
 /// How many processors there are.
 const PROCESSORS: u32 = 10;
@@ -34,8 +46,24 @@ fn text_of(alloc: Global, made: &Assembly, form: u32) -> Result<Vec<u8>, AllocEr
         WORDS => words_text(alloc, made),
         LISTING => listing_text(alloc, made),
         LINES => lines_text(alloc, made),
-        _ => names_text(alloc, made),
+        NAMES => names_text(alloc, made),
+        ROWS => rows_text(alloc, made),
+        _ => units_text(alloc, made),
     }
+}
+
+/// Returns common decks as the assembler has them.
+fn texts_of<'a>(alloc: Global, decks: &[CommonDeck<'a>]) -> Result<Vec<Text<'a>>, AllocError> {
+    let mut texts = Vec::new(alloc);
+    for deck in decks {
+        texts.push(
+            Text {
+                name: deck.name,
+                lines: deck.lines,
+            },
+        )?;
+    }
+    Ok(texts)
 }
 
 /// Returns whether a cell has this address.
@@ -58,8 +86,9 @@ fn have_own_addresses(cells: &[Cell]) -> bool
 }
 
 /// Assembles a source, and writes into a slice what is wrong with it (`form` 0), its words (1), its listing (2), the numbers of the lines
-/// that the words are of (3) or its names (4). `count` is how many bytes that are, and `messages` how many faults the source has. Returns
-/// `DONE`; `ROOM` if the slice has room for fewer bytes, and then it is as it was; `REFUSED` if there is no such form; or `NO_MEMORY`.
+/// that the words are of (3), its names (4), all that is known of its rows (5) or the words of each of its programs (6). `count` is how many
+/// bytes that are, and `messages` how many faults the source has. Returns `DONE`; `ROOM` if the slice has room for fewer bytes, and then it is
+/// as it was; `REFUSED` if there is no such form; or `NO_MEMORY`.
 #[unsafe(no_mangle)]
 pub extern "C" fn pp6600_assemble(
     alloc: Global,
@@ -73,10 +102,31 @@ pub extern "C" fn pp6600_assemble(
         (record { into = into.old; count = count.old; messages = messages.old })
         (record { into = into.new; count = count.new; messages = messages.new }) result }
 {
-    if form > NAMES {
+    pp6600_assemble_with(alloc, source, &[], form, into, count, messages)
+}
+
+/// Assembles a source with common decks, and writes what `pp6600_assemble` does.
+#[unsafe(no_mangle)]
+pub extern "C" fn pp6600_assemble_with(
+    alloc: Global,
+    source: &[u8],
+    decks: &[CommonDeck],
+    form: u32,
+    into: &mut [u8],
+    count: &mut usize,
+    messages: &mut usize,
+) -> u32
+    ensures { Assembles source.now form
+        (record { into = into.old; count = count.old; messages = messages.old })
+        (record { into = into.new; count = count.new; messages = messages.new }) result }
+{
+    if form > UNITS {
         return REFUSED;
     }
-    let Ok(made) = assemble(alloc, source) else {
+    let Ok(texts) = texts_of(alloc, decks) else {
+        return NO_MEMORY;
+    };
+    let Ok(made) = assemble_with(alloc, source, &texts) else {
         return NO_MEMORY;
     };
     let Ok(text) = text_of(alloc, &made, form) else {

@@ -66,12 +66,22 @@ pub fn words_text(alloc: Global, made: &Assembly) -> Result<Vec<u8>, AllocError>
         put_number(&mut out, u64::from(cell.word), 4)?;
         out.push(b'\n')?;
     }
-    if let Some(start) = made.program.start() {
-        out.extend_from_slice(b"P ")?;
-        put_number(&mut out, u64::from(start), 4)?;
-        out.push(b'\n')?;
-    }
+    put_start(&mut out, made.program.start())?;
     Ok(out)
+}
+
+/// Writes where a program begins, if it says so.
+pub fn put_start(out: &mut Vec<u8>, start: Option<u16>) -> Result<(), AllocError>
+    ensures { OnOk result (out.new.items ≡ out.old.items ++ start_line start) }
+{
+    match start {
+        Some(start) => {
+            out.extend_from_slice(b"P ")?;
+            put_number(out, u64::from(start), 4)?;
+            Ok(out.push(b'\n')?)
+        }
+        None => Ok(()),
+    }
 }
 
 /// Returns the listing.
@@ -141,7 +151,7 @@ fn put_numbers(out: &mut Vec<u8>, number: u32, row: &Row, words: &[u16]) -> Resu
 }
 
 /// Writes the location and the origin of a row, each after a blank.
-fn put_addresses(out: &mut Vec<u8>, row: &Row) -> Result<(), AllocError>
+pub fn put_addresses(out: &mut Vec<u8>, row: &Row) -> Result<(), AllocError>
     ensures { OnOk result (out.new.items ≡ out.old.items ++ addresses row.now) }
 {
     out.push(b' ')?;
@@ -151,7 +161,7 @@ fn put_addresses(out: &mut Vec<u8>, row: &Row) -> Result<(), AllocError>
 }
 
 /// Writes words, each after a blank.
-fn put_words(out: &mut Vec<u8>, words: &[u16]) -> Result<(), AllocError>
+pub fn put_words(out: &mut Vec<u8>, words: &[u16]) -> Result<(), AllocError>
     ensures { OnOk result (out.new.items ≡ out.old.items ++ flat_map (λ word. codes " " ++ octal_text word 4) words.now) }
 {
     for word in words {

@@ -54,7 +54,7 @@ fn others(words: &[u16]) -> &[u16]
 }
 
 /// Returns the text of the line of a row.
-fn text_of<'a>(made: &'a Assembly, row: &Row) -> &'a [u8]
+pub fn text_of<'a>(made: &'a Assembly, row: &Row) -> &'a [u8]
     ensures { result.now ≡ text_of made.now (slice_get made.now.lines.all.items row.now.statement) }
 {
     match line_of(made, row) {

@@ -31,5 +31,5 @@ def main() -> int:
         print(*made.complaints, sep="\n", file=sys.stderr)
     if made.is_wrong:
         return WRONG
-    write_lines(made.lines())
+    write_lines(made.lines)
     return 0

@@ -1,8 +1,9 @@
 """Cells as a source in COMPASS notation."""
 
-from typing import Iterable, Mapping, Sequence
+from typing import List, Mapping, Sequence
 
 from ..engine.assembler import assembler_here
+from ..language.labelled import Labelled
 from ..language.listing import Listing
 from ..shell.command_line import Failure, Parser, cell, write_lines
 from ..shell.text_files import lines_of, named
@@ -24,10 +25,7 @@ def main() -> None:
     write_lines(source_of(cells, asked.entry or [min(cells)], listing.names.labels))
 
 
-def source_of(cells: Mapping[int, int], entries: Sequence[int], labels: Mapping[int, Sequence[str]]) -> Iterable[str]:
-    """Returns the lines of a source: those of the library, or if addresses have labels or there is no library those in Python."""
-    assembler = None if labels else assembler_here()
-    if assembler:
-        return lines_of(assembler.disassembled(cells, entries).decode("ascii"))
-    from ..language.source.disassembler import Disassembler
-    return Disassembler(cells, entries, labels).lines()
+def source_of(cells: Mapping[int, int], entries: Sequence[int], labels: Mapping[int, Sequence[str]] = {}) -> List[str]:
+    """Returns the lines of a source that assembles to cells, of which addresses may have labels."""
+    lines = lines_of(assembler_here().disassembled(cells, entries).decode("ascii"))
+    return list(Labelled(cells, labels, lines).lines()) if labels else lines

@@ -6,25 +6,36 @@ from __future__ import annotations
 import ctypes
 import functools
 import os
-from ctypes import byref, c_size_t, c_uint16, c_uint32
-from typing import Any, Dict, Iterable, Mapping, Optional, Tuple
+from ctypes import byref, c_char_p, c_size_t, c_uint16, c_uint32
+from typing import Any, Dict, Iterable, Mapping, NamedTuple, Optional, Sequence, Tuple
 
 from ..failure import Failure
 from .choose import PLAIN, SUFFIXES, default_engine, libraries_beside
 from .numbers_of_calls import checked
 
-COMPLAINTS, WORDS, LISTING, LINES, NAMES = range(5)
+COMPLAINTS, WORDS, LISTING, LINES, NAMES, ROWS, UNITS = range(7)
 DONE, ROOM = range(2)
-CALLS = ("assemble", "load_lines", "disassemble")
+CALLS = ("assemble_with", "load_lines", "disassemble")
 LEAST_ROOM = 1 << 16  # bytes
+
+
+class Text(NamedTuple):
+    """A common deck: its name in capitals, and its lines."""
+
+    name: bytes
+    lines: bytes
 
 
 class Cell(ctypes.Structure):
     _fields_ = [("address", c_uint16), ("word", c_uint16), ("line", c_uint32)]
 
 
+class CommonDeck(ctypes.Structure):
+    _fields_ = [("name", c_char_p), ("name_bytes", c_size_t), ("lines", c_char_p), ("line_bytes", c_size_t)]
+
+
 class Assembler:
-    """The assembler of a library. It takes a part of the notation, and refuses the rest by name."""
+    """The assembler of a library."""
 
     def __init__(self, path: str) -> None:
         try:
@@ -35,10 +46,12 @@ class Assembler:
         for call in self._calls.values():
             call.restype = c_uint32
 
-    def text(self, source: bytes, form: int) -> Tuple[bytes, int]:
-        """Returns what is written of a source in a form, and how many faults the source has."""
-        messages = c_size_t()
-        text = self._written("assemble", 4 * len(source), source, c_size_t(len(source)), *checked("assemble", form), after=(byref(messages),))
+    def text(self, source: bytes, form: int, texts: Sequence[Text] = ()) -> Tuple[bytes, int]:
+        """Returns what is written of a source in a form, and how many faults the source has. It may name common decks."""
+        messages, of_source = c_size_t(), (source, c_size_t(len(source)))
+        given = (CommonDeck * len(texts))(*(CommonDeck(name, len(name), lines, len(lines)) for name, lines in texts))
+        text = self._written("assemble_with", 4 * len(source), *of_source, given, c_size_t(len(texts)), *checked("assemble_with", form),
+                             after=(byref(messages),))
         return text, messages.value
 
     def load_lines(self, source: bytes, processor: int) -> bytes:
@@ -63,10 +76,13 @@ class Assembler:
         return ctypes.string_at(into, count.value)
 
 
-def assembler_here() -> Optional[Assembler]:
-    """Returns the assembler of the library that the tools run on; None where there is none."""
+def assembler_here() -> Assembler:
+    """Returns the assembler of the library that the tools run on. Fails where there is none."""
     name = default_engine()
-    return assembler_of(os.environ.get("PP6600_ENGINE") or name if os.path.basename(name) == "pp6600" else name)
+    found = assembler_of(os.environ.get("PP6600_ENGINE") or name if os.path.basename(name) == "pp6600" else name)
+    if not found:
+        raise Failure("this needs the assembler of the proved library, and no library starts here")
+    return found
 
 
 @functools.lru_cache(maxsize=None)

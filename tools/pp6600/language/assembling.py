@@ -1,55 +1,67 @@
-"""A source assembled for a tool: by the proved assembler of the library, or by the one in Python where there is no library, or where the
-source has what the library does not take."""
+"""What the tool assemble writes of a source, by the proved assembler of the library."""
 
-import re
-from typing import Callable, List, NamedTuple, Optional
+from typing import Dict, List, NamedTuple, Optional, Sequence, Union
 
-from ..engine.assembler import COMPLAINTS, LISTING, WORDS, Assembler, assembler_here
+from ..engine.assembler import LISTING, UNITS, Text, assembler_here
+from ..failure import Failure
+from ..run.forms import COLUMNS_OF_CARD
 from ..shell.ending import shown_text
 from ..shell.text_files import lines_in, lines_of, named
+from .cells import in_rows
+from .decks import texts_of
+from .listing import without_mark
+from .program import Program, Unit, assembled, complaints_of, source_of, units_of, written
+from .sources import set_lines
 
-# How the only message of the library ends where it stops: Python's assembler may take what it does not, and warns up to a limit.
-STOPS = (" is not taken by this assembler yet", "more than 100000 (decimal) words", "more than 100000 (decimal) statements",
-         "lines are nested more than 100 (decimal) deep")
-PLAIN_TEXT = re.compile(rb"[\t\n\r -~]*")  # in other texts a column may be something else
+PANEL = range(0o1, 0o15)  # the cells of PP 00 that a dead start fills from the panel
 
 
 class Assembled(NamedTuple):
-    """What is written of a source: what is wrong with it, whether it is not to be used, and its lines."""
+    """What is written of a source: what is wrong with it, or to be known; whether it is not to be used; and its lines."""
 
     complaints: List[str]
     is_wrong: bool
-    lines: Callable[[], List[str]]
+    lines: Sequence[str]
 
 
-def assembled_lines(source: bytes, path: Optional[str], form: str, processor: int, decks: Optional[str], unit: Optional[str]) -> Assembled:
+def assembled_lines(data: bytes, path: Optional[str], form: str, processor: int, decks: Optional[str], name: Optional[str]) -> Assembled:
     """Assembles the source of a file, with the folder of its common decks, if it has some. The lines are those of a form and, if they load
     the program, for a processor; of the unit with a name, if there is one."""
-    assembler = assembler_here() if form in ("words", "set", "listing") and decks is None and unit is None else None
-    made = by_library(assembler, source, path, form, processor) if assembler and PLAIN_TEXT.fullmatch(source) else None
-    return made or in_python(source, path, form, processor, decks, unit)
+    lines = without_mark(lines_in(data, path))
+    texts = texts_of(decks, lines)
+    complaints, faults = complaints_of(lines, texts)
+    return Assembled([shown_text(f"{named(path)}:{complaint}") for complaint in complaints], faults > 0,
+                     [] if faults else lines_of_form(lines, texts, form, processor, name))
 
 
-def by_library(assembler: Assembler, source: bytes, path: Optional[str], form: str, processor: int) -> Optional[Assembled]:
-    """Assembles a source by the library; None if it does not take it."""
-    text, faults = assembler.text(source, COMPLAINTS)
-    complaints = lines_of(text.decode("ascii"))
-    if faults and any(complaint.endswith(STOPS) for complaint in complaints[:faults]):
-        return None
+def lines_of_form(lines: Sequence[str], texts: Sequence[Text], form: str, processor: int, name: Optional[str]) -> List[str]:
+    """Returns the lines of a form of a source that has no fault."""
+    if form == "listing":
+        return written(lines, LISTING, texts)
+    if form == "set" and name is None and not texts:
+        return lines_of(assembler_here().load_lines(source_of(lines), processor).decode("ascii"))
+    first = next(units_of("", written(lines, UNITS, texts)))
+    unit: Union[Program, Unit] = first if name is None else assembled(lines, texts).unit(name)
+    if form == "set":
+        return set_lines(unit, processor)
+    words = {address: f"{cell.word:04o}" for address, cell in sorted(unit.cells.items())}
+    return {"words": lines_of_words, "panel": panel, "deck": deck}[form](words)
 
-    def lines() -> List[str]:
-        if form == "set":
-            return lines_of(assembler.load_lines(source, processor).decode("ascii"))
-        found = lines_of(assembler.text(source, LISTING if form == "listing" else WORDS)[0].decode("ascii"))
-        return found[:-1] if form == "words" and found and found[-1].startswith("P") else found
-    return Assembled([shown_text(f"{named(path)}:{complaint}") for complaint in complaints], faults > 0, lines)
+
+def lines_of_words(words: Dict[int, str]) -> List[str]:
+    """Returns a line for each cell: its address and its word."""
+    return [f"{address:04o} {word}" for address, word in words.items()]
 
 
-def in_python(source: bytes, path: Optional[str], form: str, processor: int, decks: Optional[str], unit: Optional[str]) -> Assembled:
-    """Assembles a source by the assembler in Python."""
-    from .source import passes, writing
-    from .sources import complaints, texts_in, unit_of
-    from .listing import without_mark
-    program = passes.assembled(without_mark(lines_in(source, path)), texts_in(decks))
-    return Assembled(complaints(path, program), bool(program.messages),
-                     lambda: list(writing.lines_of(program if unit is None else unit_of(program, unit), form, processor)))
+def panel(words: Dict[int, str]) -> List[str]:
+    """Returns the words of a dead start panel; those that the source leaves out are zero."""
+    outside = next((address for address in words if address not in PANEL), None)
+    if outside is not None:
+        raise Failure(f"cell {outside:04o} is not on the panel, which has cells 0001 to 0014 alone")
+    return [words.get(address, "0000") for address in PANEL]
+
+
+def deck(words: Dict[int, str]) -> List[str]:
+    """Returns cards with the words from the first cell to the last one; those between that the source leaves out are zero."""
+    found = [words.get(address, "0000") for address in range(min(words, default=0), max(words, default=-1) + 1)]
+    return [" ".join(row) for row in in_rows(found, COLUMNS_OF_CARD)]

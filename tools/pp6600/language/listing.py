@@ -8,11 +8,10 @@ from ..run.forms import CELLS
 from ..run.names import EQUATES, AddressNames, Names, octal_number
 from ..shell.ending import shown_text
 from ..shell.text_files import named, read_lines
-from .cells import set_lines
-from .printed import NAME, TAB, Columns, continuity, first_runs, guessed, is_note, tokens_of, with_words
-from .reading import Printed, Printout
-from .source.messages import Message
-from .source.writing import runs_of
+from .cells import lines_of_cells
+from .notation import TAB
+from .printed import NAME, Columns, continuity, first_runs, guessed, is_note, tokens_of, with_words
+from .reading import Message, Printed, Printout
 
 MOST_DOUBTS = 20  # that are said
 Read = TypeVar("Read")
@@ -97,8 +96,7 @@ class Listing:
         return f"cell {address:04o} is filled by line {self.cells[address][1].number} (decimal) too" if address in self.cells else ""
 
     def set_lines(self, processor: int) -> List[str]:
-        runs = runs_of({address: f"{word:04o}" for address, (word, _) in self.cells.items()})
-        return [line for first, words in runs for line in set_lines(processor, first, words)]
+        return lines_of_cells(processor, {address: f"{word:04o}" for address, (word, _) in self.cells.items()})
 
     def counts(self) -> str:
         """Returns what was read, as a sentence."""

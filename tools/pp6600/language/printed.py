@@ -6,12 +6,7 @@ from itertools import takewhile
 from typing import Iterable, Iterator, List, NamedTuple, Optional, Sequence, Set, Tuple
 
 from ..failure import Failure
-from .source.blocks import ENDS, INSIDE
-from .source.codes import CODES
-from .source.directives import DIRECTIVES, LONG_FORMS, MAKERS
-from .source.messages import REFUSED
-from .source.passes import OF_LINES
-from .source.statements import FIRST_OF_COMMENTS
+from .notation import BLOCKS, CODES, DIRECTIVES, FIRST_OF_COMMENTS, INSIDE, LONG_FORMS, MAKERS, OF_LINES, REFUSED, SUBR, TAB
 
 WORD = re.compile("[0-7]{4}[bB]?")
 SHORT = re.compile("[0-7]{1,4}[bB]?")  # what is a word where zeros before it are left out
@@ -20,13 +15,11 @@ ALMOST = re.compile(r"(?=(?:\D*\d){2})\S{3,5}|\d\S{0,5}")  # a number that was r
 SPECK = re.compile(r"[^\sA-Za-z0-9*]")
 FLAG = re.compile("[A-Z]{1,3}")
 NAME = re.compile(r"[^\W\d_][^\s,+\-*/^\"()_]*:?|[.#%@&!?<>\[\];\\'][^\s,+\-*/^\"()_]*:?")
-TAB = 8
 MOST_BEFORE = 2  # numbers before an address: a carriage control and a line number
 GAP = 3  # blanks between a carriage control and the address
 FIRST_OF_OPERATIONS = 2  # the first column of a source line in which an operation may begin
 MOST_OTHERS = 8  # one line of so many may have its fields in other columns
-SUBR = "SUBR"  # a macro whose label is the second word of its jump
-OPERATIONS = frozenset((*CODES, *DIRECTIVES, *ENDS, *INSIDE, *OF_LINES, *REFUSED, SUBR))
+OPERATIONS = frozenset((*CODES, *DIRECTIVES, *BLOCKS, *INSIDE, *OF_LINES, *REFUSED, SUBR))
 WITH_WORDS = frozenset((*CODES, *MAKERS, *LONG_FORMS, SUBR, "LIT"))
 
 

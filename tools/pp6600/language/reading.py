@@ -6,24 +6,30 @@ from typing import Dict, List, NamedTuple, Optional, Sequence, Tuple
 
 from ..run.forms import CELLS
 from ..run.names import EQUATES, octal_number
-from .listed_words import Told, told_by
+from .listed_words import Listed, fields_of, told_by
+from .notation import BASES, CODES, LITERAL, LITERALS, MICROS, MNEMONICS, NOMINAL, SUBR, SYMBOL, TAB, WORD_BITS, size_of, statement_of
+from .performing import number_of
 from .printed import (
-    ADDRESS, SHORT, SUBR, TAB, WITH_WORDS, WORD, Columns, Parts, Token, guessed, is_note, is_operation, operation_columns, parts_of,
-    with_fields)
-from .source.codes import CODES, MNEMONICS, size_of
-from .source.directives import BASES, SYMBOLS_OF_MICRO
-from .source.messages import Message
-from .source.scope import LITERAL, LITERALS, NOMINAL, WORD_BITS
+    ADDRESS, SHORT, WITH_WORDS, WORD, Columns, Parts, Token, guessed, is_note, is_operation, operation_columns, parts_of, with_fields)
 
 HERE = re.compile(r"\*[LO]?([-+][0-9]+[BDO]?)?")  # an operand that is an address near that of its line
 MICRO, DEFINE_MICROS = re.compile('"([^"]+)"'), ("MICRO", "DECMIC", "OCTMIC")
 WITH_PARAMETERS = ("MACRO", "MACROE", "OPDEF", "LOCAL", "ECHO", "IRP")  # for which something else stands in lines that are printed
 DUPLICATED = re.compile(r"\bDUPLICATED? LINES?\b", re.I)
 LABELLED = ("BSS", "ORG", "LOC", "END", "USE", "BSSZ")  # of the operations without words those whose label is an address
+NAMES_OF_BASES = {8: "OCTAL", 10: "DECIMAL"}
 BITS = re.compile("(?:^|,)([0-9]{1,2})/")  # of the fields of a VFD
 FULL = 4  # digits of an address before which zeros are printed
 Pairs = Tuple[Tuple[str, int], ...]  # of names and numbers
 WITH_ZEROS = re.compile(f">?0[0-7]{{{FULL - 1}}}[bB]?")
+
+
+class Message(NamedTuple):
+    """What is wrong in a text: the line and the column, counted from 1, and what it is."""
+
+    line: int
+    column: int
+    text: str
 
 
 class Printed(NamedTuple):
@@ -69,11 +75,13 @@ class PrintedReading:
     """Reads the lines of a listing one after the other, with the names that are known of it."""
 
     def __init__(self, printout: Printout, known: Dict[str, Optional[int]], base: int) -> None:
-        self.printout, self.known, self.base = printout, known, base
+        self.printout, self.base = printout, base
+        self.known = {name: number for name, number in known.items() if number is not None}
         self.names: Dict[str, Optional[int]] = {}  # None: of several numbers
         self.doubts: List[Message] = []
         self.entries: List[Printed] = []
         self.statement: List[Printed] = []  # a line with an operation that makes words, and those that go on with it
+        self.checks: List[Tuple[int, Parts, Listed, bool]] = []  # the statements, and whether each is of another program
         self.origin: Optional[int] = None  # the cell after the last word, if that is known
         self.moved: Optional[int] = 0  # how many cells code for another place is loaded off its addresses; None: the next line says it
         self.has_ended = self.is_repeated = False
@@ -83,7 +91,7 @@ class PrintedReading:
         self.start: Optional[int] = None  # that END names
         self.bits = 0  # of the last word that a VFD has filled
         self.is_other = False  # the program: a second one of the source, which is not loaded
-        self.micros = set(SYMBOLS_OF_MICRO)
+        self.micros = set(MICROS)
         self.literals: List[Tuple[Message, int, Tuple[int, ...]]] = []  # the address of each that a line names, its words, and what is to be said
         self.fields: Dict[Tuple[str, str], Tuple[int, int]] = {}  # of names that the listing does not have: the number, and the line
         for self.number, parts in enumerate(printout.parts, 1):
@@ -91,6 +99,7 @@ class PrintedReading:
                 self.entries.append(self.of_program(self.entry(parts)))
                 self.end = max(self.end, self.origin or 0) if self.used[-1] == NOMINAL else self.end
         self.check_statement()
+        self.check_statements()
         self.check_literals()
         if self.is_repeated:
             self.doubt(None, "no line says where the duplicated lines end")
@@ -382,32 +391,38 @@ class PrintedReading:
 
     def value(self, parts: Parts) -> Optional[int]:
         """Returns the number of an operand; None if it has names that are not known."""
-        return Told(self.known, self.base, self.origin, self.origin and self.location).number(parts.statement)
+        operand = next(iter(statement_of(parts.statement).operand.split()), "")
+        if not operand or "*" in operand and self.origin is None:
+            return None
+        return number_of(NAMES_OF_BASES[self.base], self.origin or 0, self.location or 0, operand, self.known)
 
     def check_statement(self) -> None:
-        """Compares the words of a statement with what the assembler makes of it."""
+        """Keeps the words of a statement, to be compared with what the assembler makes of it."""
         statement, self.statement = self.statement, []
         words = [word for entry in statement for word in entry.words if word is not None]
         if not statement or not self.known or any(None in entry.words for entry in statement):
             return
         first, parts = statement[0], self.printout.parts[statement[0].number - 1]
-        if self.micros.intersection(MICRO.findall(parts.text.upper())):  # what stands for it is not printed
-            return
-        told = Told(self.known, self.base, first.load, first.address)
-        wanted = told_by(told, parts.operation, parts.statement, words)
-        column = parts.words[0].start + 1 if parts.words else parts.column + 1
-        if wanted is not None and wanted != words:
-            said = f"{parts.operation} {parts.expression}".rstrip()
-            self.doubts.append(Message(first.number, column, f"the line has {digits_of(words)}, and {said} makes {digits_of(wanted)}"))
-        for text, (field, number) in told.fields(parts.operation, parts.expression, words).items():
-            if text in told.met:
-                made = told.met[text]
-                said = f"{text} is at {number:04o} by this line, and makes {digits_of(made)}"
-                self.literals += [] if self.is_other else [(Message(first.number, column, said), number, made)]
-            if text in told.unknown and text.upper() not in self.printout.named and not self.is_other:
-                was, line = self.fields.setdefault((text, field), (number, first.number))
-                if was != number:
-                    self.doubts.append(Message(first.number, column, f"{text} is {number:o} in this line, and {was:o} in line {line} (decimal)"))
+        is_changed = self.micros.intersection(MICRO.findall(parts.text.upper()))  # what stands for a micro is not printed
+        if not is_changed and statement_of(parts.statement).operation == parts.operation:
+            listed = Listed(parts.statement, NAMES_OF_BASES[self.base], first.load, first.address, words)
+            self.checks.append((first.number, parts, listed, self.is_other))
+
+    def check_statements(self) -> None:
+        """Compares the words of statements with what the assembler makes of them."""
+        for (number, parts, listed, is_other), told in zip(self.checks, told_by([listed for _, _, listed, _ in self.checks], self.known)):
+            column, words = (parts.words[0].start if parts.words else parts.column) + 1, listed.words
+            if told.words is not None and told.words != words:
+                said = f"{parts.operation} {parts.expression}".rstrip()
+                self.doubts.append(Message(number, column, f"the line has {digits_of(words)}, and {said} makes {digits_of(told.words)}"))
+            for text, (field, found) in fields_of(parts.operation, parts.expression, words).items():
+                if text in told.literals:
+                    said = f"{text} is at {found:04o} by this line, and makes {digits_of(told.literals[text])}"
+                    self.literals += [] if is_other else [(Message(number, column, said), found, told.literals[text])]
+                is_unknown = SYMBOL.fullmatch(text) and text not in self.known and text.upper() not in self.printout.named
+                was, line = self.fields.setdefault((text, field), (found, number)) if is_unknown and not is_other else (found, number)
+                if was != found:
+                    self.doubts.append(Message(number, column, f"{text} is {found:o} in this line, and {was:o} in line {line} (decimal)"))
 
     def check_literals(self) -> None:
         """Compares the words of literals with what is printed at their addresses, if literals are printed."""

@@ -5,21 +5,20 @@ program that moved itself by LOC keeps its lines. The second word of an instruct
 
 import os
 from itertools import groupby
-from typing import Dict, Iterator, List, NamedTuple, Optional, Sequence, Tuple
+from typing import Dict, Iterator, List, NamedTuple, Optional, Sequence, Tuple, Union
 
 from ..failure import Failure, Faults
-from ..run.forms import Place
+from ..run.forms import CELLS, Place
 from ..run.names import AddressNames, Names
 from ..run.tape import SourceLine
 from ..run.turn import TWO_WORDS, places_of_setting
+from ..shell.ending import shown_text
 from ..shell.text_files import named, read_lines
-from .listing import Listing, is_printed, shown_messages, without_mark
-from .source.codes import CELLS, CODES
-from .source.passes import Program, Texts, assembled
-from .source.scope import FilledCell, ListingRow
-from .source.statements import TAB, Line, statement_or_none
-from .source.symbols import Symbol, Symbols
-from .source.writing import set_lines
+from .cells import lines_of_cells
+from .decks import texts_of
+from .listing import Listing, is_printed, without_mark
+from .notation import CODES, TAB
+from .program import FilledCell, ListingRow, Program, Unit, assembled
 
 
 def source_lines(path: Optional[str]) -> List[str]:
@@ -29,39 +28,13 @@ def source_lines(path: Optional[str]) -> List[str]:
 
 def complaints(path: Optional[str], program: Program) -> List[str]:
     """Returns the lines about what is wrong with a source, and what is to be known of it."""
-    return shown_messages(path, (*program.messages, *program.warnings))
+    return [shown_text(f"{named(path)}:{complaint}") for complaint in program.complaints]
 
 
-# ---- common decks, and the units of a source
-
-def texts_in(folder: Optional[str]) -> Optional[Texts]:
-    """Returns the function that finds a common deck in a folder: a file with the name of the deck, whatever is after a point, in letters
-    of either case; None without a folder."""
-    if folder is None:
-        return None
-    try:
-        names = sorted(os.listdir(folder))
-    except OSError as error:
-        raise Failure(f"can't read the folder {folder}: {error.strerror}") from error
-
-    def lines(deck: str) -> Optional[List[str]]:
-        found = [name for name in names if deck and deck.upper() in (name.upper(), name.upper().partition(".")[0])]
-        if not found:
-            return None
-        path = os.path.join(str(folder), found[0])
-        if not os.path.isfile(path):  # one that is a pipe would be waited for
-            raise Failure(f"can't read {path}: it is no plain file")
-        return source_lines(path)
-    return lines
-
-
-def unit_of(program: Program, name: str) -> Program:
-    """Returns the program of a source that an IDENT names."""
-    unit = next((unit for unit in program.units if unit.name == name.upper()), None)
-    if not unit:
-        names = ", ".join(unit.name for unit in program.units if unit.name)
-        raise Failure(f"the source has no IDENT {name}; {f'it has {names}' if names else 'it has none at all'}")
-    return program._replace(cells=unit.cells, start=unit.start, literals=unit.literals)
+def set_lines(program: Union[Program, Unit], processor: int) -> List[str]:
+    """Returns the lines of the console that load a program, and set P if END says where it begins."""
+    start = [] if program.start is None else [f"SET P {processor:o} {program.start:o}"]
+    return lines_of_cells(processor, {address: f"{cell.word:o}" for address, cell in program.cells.items()}) + start
 
 
 class Word(NamedTuple):
@@ -118,7 +91,7 @@ class Source(AddressNames):
         for word in words_of(program.rows):
             self.at_location.setdefault((word.row.location + word.at) % CELLS, []).append(word)
             cell = word.row.origin + word.at
-            if program.cells.get(cell) == (word.row.words[word.at], word.row.line.number):  # a source with several units has others too
+            if program.cells.get(cell) == (word.row.words[word.at], word.row.number):  # a source with several units has others too
                 self.at_origin[cell] = word
         super().__init__(names_of(program), {*self.at_location, *(cell for row in program.rows for cell in row.left_out)})
         self.jumps = {**super().entries(), **jumps_back(program.rows)}
@@ -129,15 +102,16 @@ class Source(AddressNames):
         return self.literals.get(address) or super().name(address, farthest)
 
     @classmethod
-    def of_file(cls, path: str, texts: Optional[Texts] = None) -> "Source":
-        """Returns the source in a file, or the one that a printed listing has; of FILE#NAME the unit with this name is loaded."""
+    def of_file(cls, path: str, decks: Optional[str] = None) -> "Source":
+        """Returns the source in a file, with common decks in a folder, or the one that a printed listing has; of FILE#NAME the unit with this
+        name is loaded."""
         file, _, unit = path.rpartition("#")
         path, unit = (file, unit) if file and not os.path.exists(path) else (path, "")
         lines = source_lines(path)
-        program = program_of(Listing.of_file(path)) if is_printed(lines) else assembled(lines, texts)
-        if program.messages:
+        program = program_of(Listing.of_file(path)) if is_printed(lines) else assembled(lines, texts_of(decks, lines))
+        if program.faults:
             raise Faults(complaints(path, program))
-        program = unit_of(program, unit) if unit else program
+        program = program.unit(unit) if unit else program
         if not program.cells:
             raise Failure(f"{named(path)} has no word")
         return cls(path, program)
@@ -152,11 +126,10 @@ class Source(AddressNames):
     def place_of(self, place: Place) -> str:
         """Returns the place in the source from which the number at a place of the machine comes."""
         if place.kind == "P":
-            end = next(row for row in reversed(self.program.rows)
-                       if (statement := statement_or_none(row.line)) and statement.operation.text == "END")
-            return f"{self.path}:{end.line.number}"
+            end = next(row for row in reversed(self.program.rows) if row.statement.operation == "END")
+            return f"{self.path}:{end.number}"
         word = self.at_origin[place.numbers[1]]
-        return f"{self.path}:{word.row.line.number} WORD {word.number}"
+        return f"{self.path}:{word.row.number} WORD {word.number}"
 
     def is_loaded(self, address: int, word: int) -> bool:
         """Returns whether a cell has the word with which the source filled it."""
@@ -201,16 +174,15 @@ class Source(AddressNames):
 
 def program_of(listing: Listing) -> Program:
     """Returns the program that a printed listing is of: its source lines and its words."""
-    rows, origin, symbols = [], 0, Symbols()
+    rows, origin, names = [], 0, {}  # type: List[ListingRow], int, Dict[str, Tuple[int, bool]]
     for entry in listing.entries:
         load, address = (entry.load, entry.address) if entry.words else (origin, origin)
         words = tuple(word for word in entry.words if word is not None)
-        rows.append(ListingRow(Line(entry.number, entry.source), load, address, words, bool(words), left_out=entry.left_out))
+        rows.append(ListingRow(entry.number, entry.source, load, address, words, bool(words), left_out=entry.left_out))
         origin = load + len(words)
-        symbols.seen.update({name: Symbol(number, entry.number, True) for name, number in entry.labels})
-        symbols.seen.update({name: Symbol(number, entry.number, False) for name, number in entry.equates})
+        names.update({name: (number, is_label) for is_label, pairs in ((True, entry.labels), (False, entry.equates)) for name, number in pairs})
     cells = {address: FilledCell(word, line.number) for address, (word, line) in listing.cells.items()}
-    return Program(cells, listing.start, symbols, rows, [])
+    return Program(cells, listing.start, names, rows)
 
 
 def jumps_back(rows: Sequence[ListingRow]) -> Dict[int, int]:
@@ -221,24 +193,22 @@ def jumps_back(rows: Sequence[ListingRow]) -> Dict[int, int]:
 
 
 def words_of(rows: Sequence[ListingRow]) -> Iterator[Word]:
-    for _, rows_of_line in groupby(rows, key=lambda row: row.line.number):
+    for _, rows_of_line in groupby(rows, key=lambda row: row.number):
         places = ((row, at) for row in rows_of_line for at in range(len(row.words)))
         yield from (Word(row, at, number) for number, (row, at) in enumerate(places, 1))
 
 
 def names_of(program: Program) -> Names:
-    """Returns the names of a source: labels, and names of numbers that are not minus; those that a macro has for itself are none."""
+    """Returns the names of a source."""
     names = Names()
-    for name, symbol in program.symbols.named():
-        value = symbol.value
-        if value is not None and value >= 0 and name not in program.symbols.made:
-            names.add(name, value, symbol.is_address and value < CELLS)
+    for name, (number, is_label) in program.names.items():
+        names.add(name, number, is_label and number < CELLS)
     return names
 
 
 def text_of(row: ListingRow) -> str:
-    return row.line.text.expandtabs(TAB).strip()
+    return row.text.expandtabs(TAB).strip()
 
 
 def cell_line(word: Word, is_there: bool, second: Optional[int] = None) -> CellLine:
-    return CellLine(word.row.line.number, text_of(word.row), word.at, is_there, second, word.row)
+    return CellLine(word.row.number, text_of(word.row), word.at, is_there, second, word.row)

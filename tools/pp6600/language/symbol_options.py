@@ -43,8 +43,8 @@ def symbols_from(listings: Iterable[Sequence[str]], sources: Iterable[Sequence[s
             raise Failure(f"processor {number:o} is given symbols twice")
         symbols.of[number] = ListingSymbols.of_file(path)
     for number, path in [(processor(text), path) for text, path in sources]:
-        from .sources import Source, texts_in
+        from .sources import Source
         if number in symbols.of:
             raise Failure(f"processor {number:o} is given a source, and symbols or a source again")
-        symbols.of[number] = Source.of_file(path, texts_in(decks))
+        symbols.of[number] = Source.of_file(path, decks)
     return symbols

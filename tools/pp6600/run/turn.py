@@ -9,7 +9,7 @@ from __future__ import annotations
 from typing import Callable, Dict, List, NamedTuple, Optional, Sequence, Tuple
 
 from ..engine import interface as flat
-from ..engine.plain.instructions import CODES, TWO_WORDS
+from ..engine.plain.instructions import CODES, TWO_WORDS as TWO_WORDS
 from .forms import CELLS, CLOCK, PROCESSORS, Place, Registers
 
 Cell = Callable[[int], int]  # the number in a cell of a processor, by its address

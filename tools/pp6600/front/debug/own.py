@@ -23,7 +23,7 @@ class SourceLines:
         self.source, self.rows, self.addresses = source, rows_of_lines(source.program.rows), {}
         for row in source.program.rows:
             cells = ((first + at) % CELLS for at in range(len(row.words)) for first in (row.location, row.origin))
-            self.addresses.setdefault(row.line.number, set()).update(cells)
+            self.addresses.setdefault(row.number, set()).update(cells)
 
 
 class SourceFile:
@@ -49,7 +49,7 @@ class SourceFile:
         for number, lines in self.of.items():
             for row in lines.rows.get(line, ()):
                 for address in {row.location % CELLS, row.origin}:
-                    found.setdefault(ProcessorCell(number, address), set()).add(row.line.number)
+                    found.setdefault(ProcessorCell(number, address), set()).add(row.number)
         return {cell: frozenset(lines) for cell, lines in found.items()}
 
     def next_line(self, line):
@@ -99,7 +99,7 @@ def rows_of_lines(rows):
     time that it is assembled, of a macro's call the first one that the call makes, and of a line of a macro that of each call."""
     found, due = {}, set()
     for row in rows:
-        lines = (row.line.number, *(row.line.call.lines if row.line.call else ()))
+        lines = (row.number, *row.macros)
         due = due.intersection(lines) | {lines[-1]}
         if row.words:
             for line in due - {0}:

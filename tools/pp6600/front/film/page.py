@@ -14,7 +14,7 @@ import zlib
 from typing import Any, Dict, Mapping, NamedTuple, Optional
 
 from ...language.display_code import SYMBOLS
-from ...language.source.statements import TAB
+from ...language.notation import TAB
 from ...language.sources import Source, words_of
 from ...run import conditions, sentences
 from ...run.forms import MODES, STATES
@@ -118,10 +118,10 @@ def of_symbols(symbols: AllSymbols) -> Dict[str, Any]:
 def source_of(source: Source) -> Dict[str, Any]:
     """Returns the lines of a source, each with the address of its first word if it has words; and of each word its line, its location,
     its origin, its number, itself, and the second word if an instruction begins there that has one."""
-    words = [(word.row.line.number, word.row.location, word.row.origin, word.at, word.row.words[word.at],
+    words = [(word.row.number, word.row.location, word.row.origin, word.at, word.row.words[word.at],
               None if word.second is None else int(word.second, 8)) for word in words_of(source.program.rows)]
     firsts = {line: location for line, location, *_ in reversed(words)}
-    texts = {row.line.number: row.line.text for row in source.program.rows if row.line.call is None}
+    texts = {row.number: row.text for row in source.program.rows if not row.is_made}
     lines = [(texts.get(number, "").expandtabs(TAB), *((firsts[number],) if number in firsts else ()))
              for number in range(1, max(texts) + 1)]
     return {"name": readable(os.path.basename(source.path)), "lines": lines, "words": words}

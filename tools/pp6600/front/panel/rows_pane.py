@@ -6,13 +6,14 @@ import os
 from typing import TYPE_CHECKING, NamedTuple, Optional
 
 from ...language.display_code import text_of
-from ...language.source.statements import TAB, Line as SourceText
+from ...language.notation import TAB
 from ...run.disassembly import Row, rows_above, rows_around, rows_from
 from ...run.forms import CELLS
 from ...run.sentences import sentence
 from .text import HEAD, HERE, OVERWRITTEN, MarkedLine
 
 if TYPE_CHECKING:
+    from ...language.program import ListingRow
     from ...language.sources import CellLine
 
 TEXT_FROM, LABEL_FROM = 17, 33  # the columns of an instruction and of its label
@@ -25,7 +26,7 @@ class Entry(NamedTuple):
 
     row: Row
     line: Optional["CellLine"] = None
-    note: Optional[SourceText] = None
+    note: Optional["ListingRow"] = None
 
     def has(self, address):
         return self.note is None and self.row.has(address)
@@ -38,12 +39,12 @@ class Notes:
     def __init__(self, rows):
         """The rows are those of the listing."""
         self.before, self.at, waiting = {}, {}, []
-        self.digits = len(str(max(row.line.number for row in rows)))
+        self.digits = len(str(max(row.number for row in rows)))
         for row, after in zip(rows, [*rows[1:], None]):
             if row.words:
                 self.before[row], waiting = waiting, []
                 continue
-            waiting += [] if row.line.call else [row.line]
+            waiting += [] if row.is_made else [row]
             if after is None or row.has_address and after.origin != row.origin:
                 self.at.setdefault((row.location if after else row.origin) % CELLS, []).extend(waiting)
                 waiting = []
@@ -130,11 +131,11 @@ def instruction_line(shown, entry):
 def source_line(shown, entry, width):
     """Returns the line of an entry as its source line. The present one has > before its number; a + after it says that a macro made the
     text."""
-    cells, cell, source = shown.view.rows, entry.line, entry.note or entry.line.row.line
+    cells, cell, source = shown.view.rows, entry.line, entry.note or entry.line.row
     mark = HERE if not entry.note and entry.row.address == cells.here else None
     text, note = "" if cell and cell.at else source.text.expandtabs(TAB).rstrip(), cell.note if cell else ""
     line = (MarkedLine() if entry.note else cells_line(shown, entry.row)).fit(TEXT_FROM)
-    line.add(f"{'>' if mark else ' '}{source.number:{notes_of(cells.source).digits}}{'+' if source.call else ' '}", mark)
+    line.add(f"{'>' if mark else ' '}{source.number:{notes_of(cells.source).digits}}{'+' if source.is_made else ' '}", mark)
     room = width - len(line.text) - len(note)
     has_other_word = cell and cell.second is not None
     return line.add_line(MarkedLine(text, mark).fit(min(len(text), room))).add(note, OVERWRITTEN if has_other_word else None)

@@ -22,7 +22,7 @@ export const openLibrary = async (bytes) => (await WebAssembly.instantiate(bytes
 // How many bits of its numbers a call takes, in turn. It would leave out those above.
 const WIDTHS = {
   open: [32, 32, 8, 8], numbers: [32], turns: [32], origins: [32], again: [32], looks: [32], until: [32], form: [32, 32, 64, 64],
-  back: [32], forward: [32], assemble: [32], load_lines: [32],
+  back: [32], forward: [32], assemble: [32], assemble_with: [32], load_lines: [32],
 };
 
 // Returns the numbers for a call. Throws a RangeError if one has more bits than the call takes, is less than 0 or is no whole number.
@@ -197,13 +197,28 @@ export class LibrarySession extends Rooms {
 
 // The assembler, whose calls need no session.
 export class Assembler extends Rooms {
-  // Returns the lines that a call writes of a source, for a form or a processor, and how many faults the source has.
-  written(call, source, number, room = 1 << 16) {
-    const given = this.given("source", new TextEncoder().encode(source)), into = this.room("text", room), numbers = checked(call, number);
+  // Returns the lines that a call writes of a source, for a form or a processor, and how many faults the source has. By "assemble_with" it may
+  // read common decks, each of which is a name and its lines.
+  written(call, source, number, decks = [], room = 1 << 16) {
+    const given = [...this.given("source", new TextEncoder().encode(source)), ...(call === "assemble_with" ? this.decks(decks) : [])];
+    const into = this.room("text", room), numbers = checked(call, number);
     const status = this.calls[`pp6600_${call}`](...given, ...numbers, into, BigInt(room), ...this.outs(2));
     const [count, faults] = this.results(2);
-    if (status === STATUS.ROOM) return this.written(call, source, number, count);
+    if (status === STATUS.ROOM) return this.written(call, source, number, decks, count);
     if (status !== STATUS.DONE) throw new LibraryError(status);
     return { lines: new TextDecoder().decode(this.view(Uint8Array, into, count)).split("\n").slice(0, -1), faults };
+  }
+
+  // Puts common decks into the memory: of each text its address and its size. Returns the address of these, and how many decks there are.
+  decks(decks) {
+    const texts = decks.flat().map((text) => new TextEncoder().encode(text)), words = new BigUint64Array(2 * texts.length);
+    const at = this.room("texts", 8 + texts.reduce((sum, { length }) => sum + length, 0));
+    let first = 0;
+    texts.forEach((text, index) => {
+      this.view(Uint8Array, Number(at) + first, text.length).set(text);
+      words.set([at + BigInt(first), BigInt(text.length)], 2 * index);
+      first += text.length;
+    });
+    return [this.given("decks", new Uint8Array(words.buffer))[0], BigInt(decks.length)];
   }
 }

@@ -1,6 +1,6 @@
 use Rattle.std.proofs.Common.{◌∙◌, inl, arith}
 use Rattle.pp_library.proofs.Assemblies.{puts_same}
-use Rattle.pp_library.proofs.assembling.pp6600_assemble.Goals as goal
+use Rattle.pp_library.proofs.assembling.pp6600_assemble_with.Goals as goal
 
 pub returns : goal.returns
 returns c = inl (

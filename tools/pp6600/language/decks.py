@@ -1,0 +1,44 @@
+"""The common decks that a source names by XTEXT or *CALL: files in a folder."""
+
+import os
+from typing import Iterator, List, Optional, Sequence
+
+from ..engine.assembler import Text
+from ..failure import Failure
+from ..shell.text_files import read_lines
+from .listing import without_mark
+
+NONE = Text(b"", b"")
+
+
+def texts_of(folder: Optional[str], lines: Sequence[str]) -> List[Text]:
+    """Returns the common decks in a folder whose names are in the lines of a source, or of such a deck: files with the name of the deck,
+    whatever is after a point, in letters of either case. There are none without a folder, and with one there is a deck without a name, which
+    no line can read: then a deck that is not there is said to be missing in the folder."""
+    try:
+        names = [] if folder is None else sorted(os.listdir(folder))
+    except OSError as error:
+        raise Failure(f"can't read the folder {folder}: {error.strerror}") from error
+    paths = {deck: os.path.join(str(folder), name) for name in reversed(names) for deck in (name.upper(), name.upper().partition(".")[0]) if deck}
+    found = [] if folder is None else [NONE]
+    waiting = list(lines) if paths else []
+    while waiting:
+        for deck in words_in(waiting.pop()):
+            if deck in paths:
+                own = lines_of_deck(paths.pop(deck))
+                waiting += own
+                found.append(Text(deck.encode("utf-8"), "".join(f"{line}\n" for line in own).encode("utf-8")))
+    return found
+
+
+def words_in(line: str) -> Iterator[str]:
+    """Yields the words of a line that may name a deck."""
+    words = line.upper().split()
+    yield from words[1:] if words[:1] == ["*CALL"] else words if "XTEXT" in words else ()
+
+
+def lines_of_deck(path: str) -> List[str]:
+    """Returns the lines of a common deck."""
+    if not os.path.isfile(path):  # one that is a pipe would be waited for
+        raise Failure(f"can't read {path}: it is no plain file")
+    return without_mark(read_lines(path))
