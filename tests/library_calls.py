@@ -19,6 +19,7 @@ from pp6600.engine import interface
 from pp6600.engine.interface import Form
 from pp6600.engine.library import Made, turns_of
 from pp6600.engine.plain import places
+from pp6600.engine.plain.instructions import CODES
 from pp6600.engine.plain_engine import PlainEngine
 
 DONE, ROOM, WATCHED, CLOSED, OPEN, NO_MEMORY, REFUSED, LIMIT, NOT_FOUND = range(9)
@@ -33,7 +34,7 @@ BOUNDS = (0, 1, 2, 2 ** 31, 2 ** 32 - 1)
 # How many bits of its numbers each call takes, in the order of the header.
 NUMBERS = {"open": [32, 32, 8, 8], "numbers": [32], "turns": [32], "origins": [32], "again": [32], "looks": [32, 32], "until": [32],
            "form": [32, 32, 64, 64], "back": [32], "forward": [32], "assemble": [32], "assemble_with": [32], "load_lines": [32],
-           "disassemble": [16, 16, 16], "text_of_status": [32]}
+           "disassemble": [16, 16, 16], "text_of_status": [32], "last_write": [32, 32], "instruction": [32]}
 SOURCES = (b"", b"          LDN    5\n", b"          ORG    100B\nSTART     LDN    5\n          UJN    START\n          END    START\n")
 FAULTY = (b"          LDN    LATER\n", b"A         LDN    5\nA         LDN\n")
 FILES = ((b"", ""), (b"1\n8\n", "DECK LINE 2 NOT OCTAL"), (b"1\n" * 2001, "DECK TOO LONG"))
@@ -123,7 +124,8 @@ class Sequence:
         self.native, self.choose = native, random.Random(seed)
         self.models, self.seed = [None] * 3, seed
         self.actions = [(self.open, 3), (self.answer, 6), (self.numbers, 3), (self.counts, 2), (self.turns, 5), (self.again, 4), (self.looks, 3),
-                        (self.origins, 3), (self.next_origins, 2), (self.until, 4), (self.back_until, 3), (self.back, 3), (self.forward, 2),
+                        (self.origins, 3), (self.next_origins, 2), (self.until, 4), (self.back_until, 3), (self.last_write, 3),
+                        (self.back, 3), (self.forward, 2),
                         (self.close, 1), (self.about, 1), (self.assembler, 1), (self.cells, 1)]
 
     def run(self, calls=30):
@@ -399,6 +401,24 @@ class Sequence:
             assert status == (DONE if undone else NOT_FOUND) and (out.number() == undone if undone else out.is_same)
         self.check_machine(handle)
 
+    def last_write(self, handle):
+        choose = self.choose
+        first = choose.choice((0, interface.SLOT, PLACES - 1, PLACES, PLACES + 1, 2 ** 32 - 1,
+                               choose.randrange(interface.A, interface.CARD)))
+        count = choose.choice((0, 1, 1, 5, interface.A, 2 ** 32 - 1)) if first < interface.CARD else choose.choice((0, 1, 2, 2 ** 32 - 1))
+        room = choose.choice((0, 43, 44, 45))
+        newer, turn, links = outs = self.outs(4, 16, 24 * room)
+        status = self.native.call("last_write", handle, ("u32", first), ("u32", count), newer, turn, links, size(room))
+        if self.is_closed(handle, status, *outs):
+            return
+        wanted = self.models[handle].last_write(first, count) if first + count <= PLACES and room >= MOST_TURN_LINKS else None
+        assert status == (DONE if wanted else REFUSED if first + count > PLACES else ROOM if room < MOST_TURN_LINKS else NOT_FOUND)
+        if wanted:
+            found = next(turns_of([Made.from_buffer_copy(turn.new)], links.new))
+            assert (newer.number(), sorted_turn(found)) == (wanted[0], sorted_turn(wanted[1]))
+        assert wanted or all(one.is_same for one in outs)
+        self.check_machine(handle)
+
     def back(self, handle):
         self.move(handle, "back", 0)
 
@@ -436,6 +456,18 @@ class Sequence:
             assert found == REFUSED and into.is_same and count.is_same
         else:
             self.check_text(found, into, count, None)
+        self.instruction()
+
+    def instruction(self):
+        code = self.choose.choice((*range(64), 64, 2 ** 32 - 1))
+        into, count, words, form = self.outs(self.choose.choice((0, 2, 3, 8)), 8, 4, 4)
+        status = self.native.call("instruction", ("u32", code), into, size(len(into.old)), count, words, form)
+        if code > 0o77:
+            assert status == REFUSED and all(one.is_same for one in (into, count, words, form))
+            return
+        name, wanted, _ = CODES[code]
+        self.check_text(status, into, count, name[3:].encode())
+        assert (words.number(), form.number() in (3, 4, 5)) == (wanted, wanted == 2)
 
     @staticmethod
     def check_text(status, into, count, wanted):

@@ -81,7 +81,7 @@ class Screens(PageCase):
                     with self.subTest(picture=os.path.basename(picture)):
                         fits, header = self.value(self.FITS)
                         self.assertTrue(fits)
-                        self.assertLessEqual(header, 0.15 if look == "debug" and width >= 1280 else 0.25)
+                        self.assertLessEqual(header, 0.15 if width >= 1280 else 0.25)
                         self.assertGreater(os.path.getsize(picture), 10000)
 
     def test_film(self):

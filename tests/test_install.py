@@ -9,16 +9,17 @@ import sys
 from tests.support import TOP, Case, add_tests
 from tests.transcripts import TranscriptCase, transcripts
 
-# Prints checksums of what is packed: the package for pip without a program, which has all pages, and data in gzip's form.
+# Prints checksums of what is packed: the package for pip without a program, which has all pages, a film, and data in gzip's form.
 MADE = """import sys
 if sys.version_info < (3, 9):
     sys.exit()
 sys.path.append(sys.argv[1])
 import hashlib
 import wheels
+from pp6600.front.film.page import page
 from pp6600.shell.archives import gzipped
 print(*sys.version_info[:2], *(hashlib.sha256(data).hexdigest() for data in (
-    wheels.wheel(wheels.ANY, {}, wheels.pages())[1], *(gzipped(bytes(size)) for size in (0, 65535, 65536)))))
+    wheels.wheel(wheels.ANY, {}, wheels.pages())[1], page("a film", bytes(65536), {}).encode(), *(gzipped(bytes(size)) for size in (0, 65535, 65536)))))
 """
 
 

@@ -5,9 +5,11 @@ Lists that are made of one of these are compared where they are made: the card, 
 import glob
 import os
 import re
+import unittest
 
-from tests.support import TOP, Case, names_of_codes, read
+from tests.support import PROVED, TOP, Case, names_of_codes, read
 
+from pp6600.engine import library
 from pp6600.engine.plain.instructions import CODES as PLAIN
 from pp6600.language.notation import MNEMONICS, size_of
 from pp6600.run.sentences import TEXT
@@ -57,6 +59,13 @@ class Instructions(Case):
 
     def test_second_simulator(self):
         self.assertEqual([(f"{code:02o} {NAMES[code]}", WORDS[code]) for code in range(64)], [one[:2] for one in PLAIN])
+
+    @unittest.skipUnless(PROVED, "dist/libpp6600.so was not built")
+    def test_library(self):
+        """The library's names and words are those of the table; a form with m has two words."""
+        found = [library.instruction(code, PROVED) for code in range(64)]
+        self.assertEqual(list(zip(NAMES, WORDS)), [one[:2] for one in found])
+        self.assertEqual(TWO, {code for code, (*_, form) in enumerate(found) if form > 2})
 
     def test_sentences(self):
         """Each code has a sentence without a condition; 40 to 57 have those of 30 to 37."""

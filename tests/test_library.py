@@ -169,12 +169,14 @@ class WrongHands(LibraryCase):
             "looks": lambda at, number: session.looks(*((number, [40960]), (1, [number]))[at]),
             "until": lambda _, number: session.until([], number),
             "form": lambda at, number: session.back_until([Form(*[0] * at, number)]),
+            "last_write": lambda at, number: session.last_write(*((number,), (0, number))[at]),
             "back": lambda _, number: session.back(number),
             "forward": lambda _, number: session.forward(number),
             "assemble": lambda _, number: assembler.text(b"", number),
             "load_lines": lambda _, number: assembler.load_lines(b"", number),
             "disassemble": lambda at, number: assembler.disassembled(*(({number: 0}, []), ({0: number}, []), ({0: 0}, [number]))[at]),
             "text_of_status": lambda _, number: library.text_of_status(number, PROVED),
+            "instruction": lambda _, number: library.instruction(number, PROVED),
         }
         for call, widths in library_calls.NUMBERS.items():
             for at, bits in enumerate(widths):

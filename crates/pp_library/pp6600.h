@@ -18,7 +18,7 @@
 
 /* The version of this header; pp6600_version() returns that of the library. */
 #define PP6600_VERSION_MAJOR 5
-#define PP6600_VERSION_MINOR 2
+#define PP6600_VERSION_MINOR 3
 #define PP6600_VERSION_PATCH 0
 #define PP6600_VERSION (1000000 * PP6600_VERSION_MAJOR + 1000 * PP6600_VERSION_MINOR + PP6600_VERSION_PATCH)
 
@@ -60,11 +60,12 @@ enum {
     PP6600_CLOSED = 3,    /* the handle has no session */
     PP6600_OPEN = 4,      /* the handle has a session already */
     PP6600_NO_MEMORY = 5, /* memory ran out */
-    PP6600_REFUSED = 6,   /* open: the program refuses this; numbers, looks: no such place; back, forward, again: too few actions;
-                           * assemble: no such form; load_lines: a fault, or no such processor; disassemble: more than 12 bits, or an
-                           * address twice; text_of_status: no such status; until, back_until: no condition of this machine */
+    PP6600_REFUSED = 6,   /* open: the program refuses this; numbers, looks, last_write: no such place; back, forward, again: too few
+                           * actions; assemble: no such form; load_lines: a fault, or no such processor; disassemble: more than 12 bits,
+                           * or an address twice; text_of_status: no such status; instruction: no such code; until, back_until: no
+                           * condition of this machine */
     PP6600_LIMIT = 7,     /* answer: it stopped before a line past 1,000,000 lines or 268,435,456 bytes */
-    PP6600_NOT_FOUND = 8  /* until, back_until: the condition came to hold in no action that was searched */
+    PP6600_NOT_FOUND = 8  /* until, back_until: the condition came to hold in no action that was searched; last_write: none wrote one */
 };
 
 /* A test of an action, or the beginning of another alternative. */
@@ -90,6 +91,21 @@ uint32_t pp6600_version(void);
 /* Writes the text of a status, as "no memory", without a line feed and without a 0 at its end. *count: its bytes, at most 32. ROOM: `into`
  * has room for fewer, and is as it was. REFUSED: there is no such status. */
 uint32_t pp6600_text_of_status(uint32_t status, uint8_t *into, size_t room, size_t *count);
+
+/* What an instruction has as operand. */
+enum {
+    PP6600_OPERAND_ALONE = 0,    /* d, which means nothing */
+    PP6600_OPERAND_D = 1,        /* d: a number, a cell, a cell with an address, or a channel */
+    PP6600_OPERAND_TARGET = 2,   /* d: a distance */
+    PP6600_OPERAND_CONSTANT = 3, /* d and m: a number of 18 bits */
+    PP6600_OPERAND_INDEXED = 4,  /* m: an address; and d: 0, or a cell whose number is added */
+    PP6600_OPERAND_BOTH = 5      /* m: an address or a function code; and d: a channel, or a cell */
+};
+
+/* Writes the name of the instruction with a code, 0 to 077, without a 0 at its end. *count: its three bytes. *words: how many words it has.
+ * *form: what it has as operand. ROOM: `into` has room for fewer bytes, and is as it was. REFUSED: there is no such code, and nothing is
+ * written. */
+uint32_t pp6600_instruction(uint32_t code, uint8_t *into, size_t room, size_t *count, uint32_t *words, uint32_t *form);
 
 /* The places of a machine in one order: the first of each kind. */
 enum {
@@ -214,6 +230,13 @@ uint32_t pp6600_origins(pp6600 *session, uint32_t most, pp6600_origin_turn *made
  * change. No turn is performed. ROOM, and nothing is written: there is room for fewer than 33 links or 7 places. */
 uint32_t pp6600_next_origins(pp6600 *session, pp6600_origin_turn *turn, pp6600_link *links, size_t links_room, size_t *count,
     uint64_t *control, size_t control_room, size_t *control_count);
+
+/* Writes the newest action that can be undone and wrote one of `count` places from the place `first` on, with another number or with the same:
+ * *newer, how many actions are newer; *turn as pp6600_origins writes it; and links[0] to links[turn->links - 1]. If it is no turn, *turn has
+ * processor 10, no instruction and no links. What is in links behind these may change. The session is as it was. NOT_FOUND: there is none, and
+ * nothing is written. ROOM: there is room for fewer than 44 links. REFUSED: the machine does not have the places. */
+uint32_t pp6600_last_write(pp6600 *session, uint32_t first, uint32_t count, uint32_t *newer, pp6600_origin_turn *turn, pp6600_link *links,
+    size_t links_room);
 
 /* Performs turns as pp6600_turns does. After each it appends the numbers at the places, 1 to 16 of them, to `into`, which has room for
  * `room` numbers; what is behind them may change. ROOM: there is no room for the numbers after one more turn. REFUSED: there are not 1 to

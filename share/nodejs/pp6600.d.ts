@@ -109,8 +109,11 @@ export declare function open(options?: Options, module?: Module): Promise<Sessio
 /** Returns the assembler. */
 export declare function assembler(module?: Module): Promise<Assembler>;
 
-/** Returns the version of the module, as "5.2.0". */
+/** Returns the version of the module, as "5.3.0". */
 export declare function version(module?: Module): Promise<string>;
+
+/** Returns the name of the instruction with a code, 0 to 0o77, how many words it has, and its operand, as pp6600.h numbers it. */
+export declare function instruction(code: number, module?: Module): Promise<{ name: string; words: number; form: number }>;
 
 /** A machine with its undo history. A number that a call does not take is a RangeError, and else what fails is a LibraryError; then nothing
  *  has changed. */
@@ -131,6 +134,9 @@ export declare class Session {
   origins(most: number, room?: number, linkRoom?: number, oldRoom?: number): { status: number; made: OriginTurn[]; olds: BigUint64Array };
   /** Returns the next turn, with the links of its processor alone, and the places whose numbers decide what it reads and writes. */
   nextOrigins(): OriginTurn & { control: number[] };
+  /** Returns the newest action that can be undone and wrote one of `count` places, 1 if it is left out, and how many actions are newer;
+   *  undefined if there is none. The processor of one that is no turn is 10. */
+  lastWrite(first: number, count?: number): OriginTurn & { newer: number } | undefined;
   /** Makes turns, at most so many, up to the first in which a condition comes to hold. Returns how many, and whether it does in the last. */
   until(condition: Form[], most: number): { turns: number; found: boolean };
   /** Goes back to the end of the last action before the newest in which a condition came to hold. Returns how many actions were undone; 0 if

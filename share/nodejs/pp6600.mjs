@@ -12,6 +12,7 @@ export const PLACE = Object.freeze({
 });
 export const FORM = Object.freeze({ COMPLAINTS: 0, WORDS: 1, LISTING: 2, LINES: 3, NAMES: 4, ROWS: 5, UNITS: 6 });
 const MOST_LINKS = 33, MOST_CONTROL = 7; // of the next turn
+const MOST_TURN_LINKS = 44, NAME_BYTES = 8;
 
 // Loads the module from its bytes, or from an address; else from pp6600.wasm beside this file. One module can have many sessions.
 export async function load(source = new URL("pp6600.wasm", import.meta.url)) {
@@ -38,7 +39,7 @@ export const open = async (options = {}, module = undefined) => new Session(modu
 // Returns the assembler.
 export const assembler = async (module = undefined) => new Assembler(module ?? await ownModule());
 
-// Returns the version of the module, as "5.2.0".
+// Returns the version of the module, as "5.3.0".
 export async function version(module = undefined) {
   const number = (module ?? await ownModule()).pp6600_version();
   return [Math.floor(number / 1e6), Math.floor(number / 1e3) % 1e3, number % 1e3].join(".");
@@ -49,6 +50,16 @@ function placesOf(places) {
   const wrong = [...places].find((place) => !Number.isInteger(place) || place < 0 || place >= 2 ** 32);
   if (wrong !== undefined) throw new RangeError(`pp6600.wasm: ${wrong} is no number of 32 bits`);
   return Uint32Array.from(places);
+}
+
+// Returns the name of the instruction with a code, how many words it has, and the number of its operand. It needs no session.
+export async function instruction(code, module = undefined) {
+  const rooms = new Assembler(module ?? await ownModule()), into = rooms.room("name", NAME_BYTES), outs = rooms.outs(3);
+  const status = rooms.calls.pp6600_instruction(...placesOf([code]), into, BigInt(NAME_BYTES), ...outs), [count, words, form] = rooms.results(3);
+  const name = status === STATUS.DONE ? rooms.text(into, count) : "";
+  rooms.release();
+  if (!name) throw new LibraryError(status);
+  return { name, words, form };
 }
 
 // Returns turns that a call wrote, each with its links. The source of a link is undefined if a number is read nowhere.
@@ -93,6 +104,16 @@ export class Session extends LibrarySession {
     const [linked, count] = this.results(2), words = this.view(Uint32Array, links, LINK_BYTES / 4 * linked);
     const [turn] = turnsIn(this.view(Uint16Array, made, MADE_BYTES / 2), words);
     return { ...turn, control: [...this.view(BigUint64Array, control, count)].map(Number) };
+  }
+
+  // Returns the newest action that can be undone and wrote one of so many places, as `origins` has a turn, with `newer`, how many actions
+  // are newer; undefined if there is none. The processor of one that is no turn is 10.
+  lastWrite(first, count = 1) {
+    const made = this.room("made", MADE_BYTES), links = this.room("links", LINK_BYTES * MOST_TURN_LINKS), room = BigInt(MOST_TURN_LINKS);
+    const status = this.call("last_write", ...placesOf([first, count]), ...this.outs(1), made, links, room), [newer] = this.results(1);
+    if (status === STATUS.NOT_FOUND) return undefined;
+    const words = this.view(Uint32Array, links, LINK_BYTES / 4 * MOST_TURN_LINKS);
+    return { newer, ...turnsIn(this.view(Uint16Array, made, MADE_BYTES / 2), words)[0] };
   }
 
   // Makes turns in the same way, and returns the numbers at 1 to 16 places after each.

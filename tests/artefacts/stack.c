@@ -47,6 +47,8 @@ static void others(void) {
     pp6600_looks(&session, 100, places, 2, numbers, 1000, &count);
     pp6600_origins(&session, 100, turns, 100, links, 1000, olds, 1000, &count, &linked, &used);
     pp6600_next_origins(&session, turns, links, 1000, &count, numbers, 1000, &used);
+    pp6600_last_write(&session, PP6600_P, 1, &lines, turns, links, 1000);
+    pp6600_instruction(0, text, ROOM, &count, &lines, &ahead);
     pp6600_close(&session);
 }
 

@@ -1,5 +1,8 @@
--- What the library says of itself.
-use Rattle.std.specs.Prelude.{ℕ, ◌<◌, ◌≤◌, ◌==◌, ◌⊎◌, List, codes, if◌then◌else◌}
+-- What the library says of itself, and of an instruction.
+use Rattle.std.specs.Prelude.{◌≡◌, ℕ, ◌<◌, ◌≤◌, ◌==◌, ◌⊎◌, List, codes, if◌then◌else◌}
+use denote.Enum.Declared.{tag_of}
+use Rattle.pp_notation.specs.contracts.instructions.Form.{the_type as form_type}
+use Rattle.pp_notation.specs.{Instructions.form, Instructions.size, Mnemonics.mnemonic}
 use Rattle.pp_library.specs.Outcomes.{OnlyReturns, PutsText, TextOuts}
 use Rattle.pp_library.specs.declared.status.TheConstants.{CLOSED, DONE, LIMIT, NO_MEMORY, NOT_FOUND, OPEN, REFUSED, ROOM, WATCHED}
 
@@ -21,3 +24,19 @@ abbrev pub WritesStatus : ℕ → TextOuts → TextOuts → ℕ → Type 0
 WritesStatus status before after result =
     ((status ≤ NOT_FOUND) × PutsText (status_text status) before.into after.into after.count result)
     ⊎ ((NOT_FOUND < status) × OnlyReturns REFUSED before after result)
+
+-- ---- pp6600_instruction
+
+pub record InstructionOuts : Type 0 where
+  pub into : List ℕ
+  pub count : ℕ
+  pub words : ℕ
+  pub form : ℕ
+
+-- The name of the instruction with a code is written (DONE), or there is no room for it (ROOM), with how many words it has and the number of
+-- its form; or there is no such code (REFUSED).
+abbrev pub WritesInstruction : ℕ → InstructionOuts → InstructionOuts → ℕ → Type 0
+WritesInstruction code before after result =
+    ((code < 0o100) × PutsText (mnemonic code) before.into after.into after.count result
+    × (after.words ≡ size (form code)) × (after.form ≡ tag_of form_type (form code)))
+    ⊎ ((0o100 ≤ code) × OnlyReturns REFUSED before after result)

@@ -6,9 +6,9 @@ use Rattle.pp_history.specs.SessionValue.{IsAt, Moves}
 use Rattle.pp_library.specs.Outcomes.{OnlyReturns}
 use Rattle.pp_library.specs.Status.{run_status}
 use Rattle.pp_library.specs.declared.console.Console.{Console}
-use Rattle.pp_library.specs.declared.status.TheConstants.{CLOSED, DONE, ROOM}
+use Rattle.pp_library.specs.declared.status.TheConstants.{CLOSED, DONE, NOT_FOUND, REFUSED, ROOM}
 use Rattle.pp_machine.specs.Machine.{Machine}
-use Rattle.pp_machine.specs.Numbering.{place_number}
+use Rattle.pp_machine.specs.Numbering.{fixed_places, place_number}
 use Rattle.pp_machine.specs.WriteList.{list_room}
 use Rattle.pp_machine.specs.declared.olds.Old.{Old}
 use Rattle.pp_origins.specs.Links.{links_of}
@@ -18,7 +18,8 @@ use Rattle.pp_rig.specs.Columns.{EndsAsStep}
 use Rattle.pp_rig.specs.Recording.{olds_of}
 use Rattle.pp_rig.specs.Rules.{rules}
 use Rattle.pp_rig.specs.Stopping.{after_turns}
-use Rattle.pp_turn_origins.specs.Recording.{all_links, all_made, coming}
+use Rattle.pp_search.specs.Search.{last_write}
+use Rattle.pp_turn_origins.specs.Recording.{IsKept, all_links, all_made, coming}
 use Rattle.pp_turn_origins.specs.Turn.{processor_origins, turn_control}
 use Rattle.pp_turn_origins.specs.declared.control.TheConstants.{MOST_CONTROL}
 use Rattle.pp_turn_origins.specs.declared.recording.{Made.Made, TheConstants.MOST_TURN_LINKS}
@@ -84,3 +85,37 @@ Coming s before after result =
 abbrev pub NextOrigins : NextOuts → NextOuts → ℕ → Type 0
 NextOrigins before after result = MatchOption before.session (OnlyReturns CLOSED before after result)
     (λ old. (v : Value) → IsAt rules old.session v → Coming (present v) before after result)
+
+-- ---- pp6600_last_write
+
+pub record LastWriteOuts : Type 0 where
+  pub session : Option Console
+  pub newer : ℕ
+  pub turn : Made
+  pub links : List Link
+
+-- The machine has so many places from the one with this number on.
+abbrev pub HasPlacesFrom : ℕ → ℕ → Machine → Type 0
+HasPlacesFrom first count s = first + count ≤ fixed_places + s.setup.central_words
+
+-- The action was written that has so many newer ones, with where each number that it wrote comes from.
+pub record TellsKept (v : Value) (newer : ℕ) (after : LastWriteOuts) (result : ℕ) : Type 0 where
+  pub done : result ≡ DONE
+  pub newer : after.newer ≡ newer
+  pub kept : IsKept newer v after.turn after.links
+  pub within : after.turn.links ≤ length after.links
+
+-- The newest action that can be undone and wrote one of the places was written, or there is none. The session is where it was.
+abbrev pub TellsWrite : ℕ → ℕ → State → State → LastWriteOuts → LastWriteOuts → ℕ → Type 0
+TellsWrite first count old new before after result =
+    (v : Value) → IsAt rules old v → IsAt rules new v × MatchOption (last_write first count v)
+    ((result ≡ NOT_FOUND) × (after ≡ record before { session = after.session }))
+    (λ newer. TellsKept v newer after result)
+
+-- It was searched, or there is too little room, or the machine does not have the places, and nothing is changed.
+abbrev pub LastWrite : ℕ → ℕ → LastWriteOuts → LastWriteOuts → ℕ → Type 0
+LastWrite first count before after result = MatchOption before.session (OnlyReturns CLOSED before after result)
+    (λ old. (HasPlacesFrom first count old.session.machine × (MOST_TURN_LINKS ≤ length before.links)
+    × IsSomeAnd after.session (λ new. TellsWrite first count old.session new.session before after result))
+    ⊎ ((HasPlacesFrom first count old.session.machine × (length before.links < MOST_TURN_LINKS) × OnlyReturns ROOM before after result)
+    ⊎ ((HasPlacesFrom first count old.session.machine → ⊥) × OnlyReturns REFUSED before after result)))

@@ -6,7 +6,9 @@ use crate::status::{NO_MEMORY, REFUSED};
 use crate::texts::put_text;
 use pp_assembler::{Assembly, Text, assemble, assemble_with};
 use pp_disassembly::{disassemble, write_source};
-use pp_listing::{complaints_text, lines_text, listing_text, names_text, rows_text, units_text, words_text};
+use pp_listing::{
+    complaints_text, lines_text, listing_text, names_text, rows_text, units_text, words_text,
+};
 use pp_loading::load_lines;
 use pp_notation::{Cell, are_cells};
 use std::alloc::{AllocError, Global};
@@ -56,12 +58,10 @@ fn text_of(alloc: Global, made: &Assembly, form: u32) -> Result<Vec<u8>, AllocEr
 fn texts_of<'a>(alloc: Global, decks: &[CommonDeck<'a>]) -> Result<Vec<Text<'a>>, AllocError> {
     let mut texts = Vec::new(alloc);
     for deck in decks {
-        texts.push(
-            Text {
-                name: deck.name,
-                lines: deck.lines,
-            },
-        )?;
+        texts.push(Text {
+            name: deck.name,
+            lines: deck.lines,
+        })?;
     }
     Ok(texts)
 }

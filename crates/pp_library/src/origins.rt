@@ -1,10 +1,13 @@
 //! Where numbers come from, for C.
-ghost use Rattle.pp_library.specs.Origins.{NextOrigins, TurnsWithOrigins};
+ghost use Rattle.pp_library.specs.Origins.{LastWrite, NextOrigins, TurnsWithOrigins};
 
 use crate::handle::Handle;
-use crate::status::{CLOSED, DONE, ROOM, run_status};
+use crate::status::{CLOSED, DONE, NOT_FOUND, REFUSED, ROOM, run_status};
+use pp_rig::place_count;
+use pp_search::last_write;
 use pp_turn_origins::{
-    Link, MOST_CONTROL, MOST_LINKS, Made, Old, coming, next_control, record_origins,
+    Link, MOST_CONTROL, MOST_LINKS, MOST_TURN_LINKS, Made, Old, coming, kept_origins, next_control,
+    record_origins,
 };
 use std::alloc::Global;
 
@@ -66,4 +69,44 @@ pub extern "C" fn pp6600_next_origins(
     }
     *session = Handle::of_box(console);
     if has_room { DONE } else { ROOM }
+}
+
+/// Writes the newest action that can be undone and wrote one of `count` places, from the place `first` on (`DONE`), with
+/// where each number that it wrote comes from; `newer` is how many actions are newer. Returns `NOT_FOUND` if there is none,
+/// `ROOM` if `links` has room for fewer than 44 (decimal), and `REFUSED` if the machine does not have the places. The
+/// session is then as it was.
+#[unsafe(no_mangle)]
+pub extern "C" fn pp6600_last_write(
+    alloc: Global,
+    session: &mut Handle,
+    first: u32,
+    count: u32,
+    newer: &mut u32,
+    turn: &mut Made,
+    links: &mut [Link],
+) -> u32
+    ensures { LastWrite first count
+        (record { session = session.old.value; newer = newer.old; turn = turn.old; links = links.old })
+        (record { session = session.new.value; newer = newer.new; turn = turn.new; links = links.new }) result }
+{
+    let Some(mut console) = session.take(alloc) else {
+        return CLOSED;
+    };
+    let places = place_count(console.session.machine());
+    let status = if first > places || count > places - first {
+        REFUSED
+    } else if links.len() < MOST_TURN_LINKS {
+        ROOM
+    } else {
+        match last_write(&mut console.session, first, count) {
+            Some(k) => {
+                *newer = k;
+                *turn = kept_origins(&mut console.session, k, links);
+                DONE
+            }
+            None => NOT_FOUND,
+        }
+    };
+    *session = Handle::of_box(console);
+    status
 }

@@ -3,7 +3,7 @@ ghost use Rattle.pp_library.specs.Searches.{BackUntil, Until};
 
 use crate::handle::Handle;
 use crate::status::{CLOSED, DONE, NOT_FOUND, REFUSED};
-use pp_search::{Form, back_until, condition_of, until};
+use pp_search::{Condition, Form, back_until, condition_into, until};
 use std::alloc::Global;
 
 /// Performs turns until a condition comes to hold in one (`DONE`), or `most` were performed (`NOT_FOUND`). `turns` is how
@@ -23,8 +23,11 @@ pub extern "C" fn pp6600_until(
     let Some(mut console) = session.take(alloc) else {
         return CLOSED;
     };
-    let status = match condition_of(console.session.machine(), condition) {
-        Some(condition) => match until(&mut console.session, &condition, most) {
+    let mut searched = Condition::default();
+    let status = if !condition_into(console.session.machine(), condition, &mut searched) {
+        REFUSED
+    } else {
+        match until(&mut console.session, &searched, most) {
             Some(k) => {
                 *turns = k;
                 DONE
@@ -33,8 +36,7 @@ pub extern "C" fn pp6600_until(
                 *turns = most;
                 NOT_FOUND
             }
-        },
-        None => REFUSED,
+        }
     };
     *session = Handle::of_box(console);
     status
@@ -57,15 +59,17 @@ pub extern "C" fn pp6600_back_until(
     let Some(mut console) = session.take(alloc) else {
         return CLOSED;
     };
-    let status = match condition_of(console.session.machine(), condition) {
-        Some(condition) => match back_until(&mut console.session, &condition) {
+    let mut searched = Condition::default();
+    let status = if !condition_into(console.session.machine(), condition, &mut searched) {
+        REFUSED
+    } else {
+        match back_until(&mut console.session, &searched) {
             Some(k) => {
                 *undone = k;
                 DONE
             }
             None => NOT_FOUND,
-        },
-        None => REFUSED,
+        }
     };
     *session = Handle::of_box(console);
     status

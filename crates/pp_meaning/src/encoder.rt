@@ -25,7 +25,7 @@ pub fn encode(alloc: Global, symbols: &[Symbol], statements: &[Statement]) -> Re
     // The names are names, and no two are one.
     ensures names { OnOk result (AreNames symbols.now) }
 {
-    if !are_names(symbols) {
+    if !are_names(alloc, symbols)? {
         return Err(Refusal::At(statements.len()));
     }
     are_written(alloc, symbols, statements)?;

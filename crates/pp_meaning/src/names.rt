@@ -1,10 +1,12 @@
 //! The names of symbols.
-ghost use Rattle.std.specs.Prelude.{◌≡◌, ◌≢◌, ◌⊎◌, ◌<◌, ℕ, IsTrue, length, slice_get, true};
+ghost use Rattle.std.specs.Prelude.{◌≡◌, ◌≢◌, ◌⊎◌, ◌<◌, ◌+◌, ℕ, IfOk, IfSome, IsTrue, length, slice_get, true};
 ghost use Rattle.std.specs.List.{AllByRecursion, list_all};
 ghost use Rattle.pp_meaning.specs.Lines.{symbol_name};
-ghost use Rattle.pp_meaning.specs.Names.{AreNames, begins, is_name, is_renamed, is_sign};
+ghost use Rattle.pp_meaning.specs.Names.{AreNames, IsLast, begins, is_name, is_renamed, is_sign, name_number, number_from};
 
 use crate::expressions::Symbol;
+use std::alloc::{AllocError, Global};
+use std::collections::BTreeMap;
 
 /// How many characters a name has.
 const LONGEST: usize = 8;
@@ -52,16 +54,6 @@ fn all_right(symbols: &[Symbol]) -> bool
     true
 }
 
-/// Returns whether two texts are different.
-fn are_different(one: &[u8], other: &[u8]) -> bool
-    ensures { IsTrue result → one.now ≢ other.now }
-{
-    if one == other {
-        return false;
-    }
-    true
-}
-
 /// Returns whether the next SET of the name of a symbol is at an index, or before.
 fn has_next(symbols: &[Symbol], one: usize, index: usize) -> bool
     ensures { result ≡ is_renamed index (slice_get symbols.now one) }
@@ -72,56 +64,65 @@ fn has_next(symbols: &[Symbol], one: usize, index: usize) -> bool
     }
 }
 
-/// Returns whether two symbols have different names.
-fn have_different_names(symbols: &[Symbol], one: usize, other: usize) -> bool
-    ensures { IsTrue result → symbol_name (slice_get symbols.now one) ≢ symbol_name (slice_get symbols.now other) }
+/// Returns the number whose digits to the base 256 (decimal) are bytes.
+fn number_of_bytes(bytes: &[u8]) -> Option<u64>
+    ensures { IfSome result (λ number. number ≡ number_from 0 bytes.now) }
 {
-    match (symbols.get(one), symbols.get(other)) {
-        (Some(one), Some(other)) => are_different(&one.name, &other.name),
-        _ => false,
+    let mut number: u64 = 0;
+    for byte in bytes {
+        number = number.checked_mul(0x100)?.checked_add(u64::from(*byte))?;
+    }
+    Some(number)
+}
+
+/// Returns the name of a symbol as a number.
+fn number_of(symbols: &[Symbol], index: usize) -> Option<u64>
+    ensures { IfSome result (λ number. number ≡ name_number symbols.now index) }
+{
+    match symbols.get(index) {
+        Some(symbol) => number_of_bytes(&symbol.name),
+        None => None,
     }
 }
 
-/// Returns whether two symbols are two, or SET makes the second one.
-fn are_two(symbols: &[Symbol], one: usize, other: usize) -> bool
-    ensures { IsTrue result → (symbol_name (slice_get symbols.now one) ≢ symbol_name (slice_get symbols.now other)) ⊎ (is_renamed other (slice_get symbols.now one) ≡ true) }
+/// Notes that a symbol is the last one of its name. Returns whether none before it has this name, but for SET.
+fn note(
+    last: &mut BTreeMap<u64, usize>,
+    symbols: &[Symbol],
+    index: usize,
+) -> Result<bool, AllocError>
+    requires { IsLast symbols.now last.old index }
+    ensures last { IfOk result (λ yes. IsTrue yes → IsLast symbols.now last.new (index + 1)) }
+    ensures different { IfOk result (λ yes. IsTrue yes → (i : ℕ) → i < index → (symbol_name (slice_get symbols.now i) ≢ symbol_name (slice_get symbols.now index)) ⊎ (is_renamed index (slice_get symbols.now i) ≡ true)) }
 {
-    if have_different_names(symbols, one, other) {
-        return true;
+    let Some(number) = number_of(symbols, index) else {
+        return Ok(false);
+    };
+    match last.insert(number, index)? {
+        None => Ok(true),
+        Some(before) => Ok(has_next(symbols, before, index)),
     }
-    if has_next(symbols, one, other) {
-        return true;
-    }
-    false
-}
-
-/// Returns whether a symbol is none of those before it.
-fn is_new(symbols: &[Symbol], index: usize) -> bool
-    ensures { IsTrue result → (i : ℕ) → i < index → (symbol_name (slice_get symbols.now i) ≢ symbol_name (slice_get symbols.now index)) ⊎ (is_renamed index (slice_get symbols.now i) ≡ true) }
-{
-    for at in 0..index {
-        if !are_two(symbols, at, index) {
-            return false;
-        }
-    }
-    true
 }
 
 /// Returns whether no two symbols are one.
-fn all_new(symbols: &[Symbol]) -> bool
-    ensures { IsTrue result → (i j : ℕ) → i < j → j < length symbols.now → (symbol_name (slice_get symbols.now i) ≢ symbol_name (slice_get symbols.now j)) ⊎ (is_renamed j (slice_get symbols.now i) ≡ true) }
+fn all_new(alloc: Global, symbols: &[Symbol]) -> Result<bool, AllocError>
+    ensures { IfOk result (λ yes. IsTrue yes → (i j : ℕ) → i < j → j < length symbols.now → (symbol_name (slice_get symbols.now i) ≢ symbol_name (slice_get symbols.now j)) ⊎ (is_renamed j (slice_get symbols.now i) ≡ true)) }
 {
+    let mut last: BTreeMap<u64, usize> = BTreeMap::new(alloc);
     for index in 0..symbols.len() {
-        if !is_new(symbols, index) {
-            return false;
+        if !note(&mut last, symbols, index)? {
+            return Ok(false);
         }
     }
-    true
+    Ok(true)
 }
 
 /// Returns whether the names of symbols are names, and no two are one.
-pub fn are_names(symbols: &[Symbol]) -> bool
-    ensures { IsTrue result → AreNames symbols.now }
+pub fn are_names(alloc: Global, symbols: &[Symbol]) -> Result<bool, AllocError>
+    ensures { IfOk result (λ yes. IsTrue yes → AreNames symbols.now) }
 {
-    all_right(symbols) && all_new(symbols)
+    if !all_right(symbols) {
+        return Ok(false);
+    }
+    all_new(alloc, symbols)
 }

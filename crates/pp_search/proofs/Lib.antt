@@ -1,6 +1,7 @@
 pub mod AnyPlace
 pub mod Chosen
 pub mod Firsts
+pub mod LastWrite
 pub mod Least
 pub mod Listed
 pub mod Owned

@@ -1,12 +1,13 @@
--- The first turn in which a condition comes to hold, and the last action before the newest in which it did.
+-- The first turn in which a condition comes to hold, the last action before the newest in which it did, and the last that wrote a place.
 use Rattle.std.specs.Prelude.{◌≡◌, ℕ, zero, suc, ◌+◌, ◌-◌, ◌<◌, ◌≤◌, Bool, false, true, List, [], ◌∷◌, drop, Option, Some, None, if◌then◌else◌}
 use Rattle.pp_actions.specs.declared.action.Action.{Action}
 use Rattle.pp_actions.specs.declared.action.Action.TheVariants.{Turn}
 use Rattle.pp_history.specs.SessionValue.{SessionValue, replay}
 use Rattle.pp_machine.specs.Machine.{Machine}
+use Rattle.pp_rig.specs.Inner.ActionRecords.{old_values_of}
 use Rattle.pp_rig.specs.Rules.{rules}
 use Rattle.pp_rig.specs.Stopping.{turned}
-use Rattle.pp_search.specs.Condition.{comes_in}
+use Rattle.pp_search.specs.Condition.{comes_in, is_of_any, is_written}
 use Rattle.pp_search.specs.declared.condition.Condition.{Condition}
 
 -- The least of so many numbers, from this one on, of which something holds.
@@ -35,6 +36,19 @@ came_in condition v k = came_in_newest condition v.start (drop k v.standing)
 -- actions that can be undone are searched.
 unfoldable pub last_before : Condition → SessionValue Machine Action → Option ℕ
 last_before condition v = least (came_in condition v) 1 (v.kept - 1)
+
+-- The newest of these actions, the newest first, wrote one of so many places from the one with this number on.
+abbrev pub wrote_newest : ℕ → ℕ → Machine → List Action → Bool
+wrote_newest first count start [] = false
+wrote_newest first count start (action ∷ earlier) = is_of_any (is_written (old_values_of (replay rules start earlier) action)) first count
+
+-- The action with k newer ones wrote one of them.
+abbrev pub wrote_in : ℕ → ℕ → SessionValue Machine Action → ℕ → Bool
+wrote_in first count v k = wrote_newest first count v.start (drop k v.standing)
+
+-- How many actions are newer than the newest that wrote one of them. Only actions that can be undone are searched.
+unfoldable pub last_write : ℕ → ℕ → SessionValue Machine Action → Option ℕ
+last_write first count v = least (wrote_in first count v) 0 v.kept
 
 -- The k-th turn is one of the first `most`. The condition comes to hold in it, and in no turn before it.
 pub record IsFirst (condition : Condition) (most : ℕ) (s : Machine) (k : ℕ) : Type 0 where

@@ -4,7 +4,7 @@ ghost use Rattle.pp_search.specs.Condition.{HasAllPlaces, HasPlaces};
 ghost use Rattle.pp_search.specs.Forms as spec;
 ghost use Rattle.pp_search.specs.Forms.{AreForms, IsForm};
 ghost use Rattle.pp_machine.specs.Ranges.{processor_count};
-ghost use Rattle.std.specs.Prelude.{◌≡◌, ◌≢◌, ◌+◌, ◌<◌, ◌≤◌, All, IfSome, IsSome};
+ghost use Rattle.std.specs.Prelude.{◌≡◌, ◌≢◌, ◌+◌, ◌<◌, ◌≤◌, All, IfSome, IsSome, true};
 
 use crate::condition::{Alternative, Condition, Test};
 use arrayvec::ArrayVec;
@@ -121,36 +121,38 @@ fn test_of(machine: &Rig, form: &Form) -> Option<Test>
     }
 }
 
-/// Returns the condition of some forms. Returns `None` if one of them is no form of this machine, or if an alternative has
-/// more than 8 tests, or if there are more than 64 alternatives (decimal).
-pub fn condition_of(machine: &Rig, forms: &[Form]) -> Option<Condition>
-    ensures is { IfSome result (λ condition. condition ≡ spec.condition_of forms.now) }
-    ensures has { IfSome result (HasAllPlaces machine.now.setup.central_words) }
-    ensures are_forms { IfSome result (λ _. AreForms machine.now.setup.central_words forms.now) }
-    ensures some { AreForms machine.now.setup.central_words forms.now → IsSome result }
+/// Makes `condition` that of some forms, and returns whether there is one. There is none if one of them is no form of this
+/// machine, or if an alternative has more than 8 tests, or if there are more than 64 alternatives (decimal). A condition is
+/// large, so it is made in place.
+pub fn condition_into(machine: &Rig, forms: &[Form], condition: &mut Condition) -> bool
+    ensures is { result ≡ true → condition.new ≡ spec.condition_of forms.now }
+    ensures has { result ≡ true → HasAllPlaces machine.now.setup.central_words condition.new }
+    ensures are_forms { result ≡ true → AreForms machine.now.setup.central_words forms.now }
+    ensures some { AreForms machine.now.setup.central_words forms.now → result ≡ true }
 {
-    let mut alternatives = ArrayVec::new();
+    let alternatives = &mut condition.alternatives;
     let mut tests = ArrayVec::new();
+    alternatives.clear();
     for form in forms {
         if form.kind == OR {
             if alternatives.is_full() {
-                return None;
+                return false;
             }
             alternatives.push(Alternative { tests });
             tests = ArrayVec::new();
         } else {
             if tests.is_full() {
-                return None;
+                return false;
             }
             match test_of(machine, form) {
                 Some(test) => tests.push(test),
-                None => return None,
+                None => return false,
             }
         }
     }
     if alternatives.is_full() {
-        return None;
+        return false;
     }
     alternatives.push(Alternative { tests });
-    Some(Condition { alternatives })
+    true
 }

@@ -121,7 +121,7 @@ fn has_changed(
 
 /// Returns whether the action wrote one of `count` places, from the one with number `first` on.
 #[tactic(auto, using(crate::proofs::AnyPlace::any_place))]
-fn has_written(
+pub(crate) fn has_written(
     machine: &Rig,
     back: &UndoRecord<ShortTurn, RigRecord>,
     first: u32,

@@ -1,5 +1,5 @@
 -- A whole turn, and turns one after another.
-use Rattle.std.proofs.Common.{◌≡◌, ℕ, ◌+◌, ◌≤◌, ◌==◌, zero, suc, List, [], ◌∷◌, ◌++◌, add-one, ap, append-nil, append_assoc, arith, if◌then◌else◌, length, refl, subst, sym, take, ◌∙◌}
+use Rattle.std.proofs.Common.{◌≡◌, ℕ, ◌+◌, ◌≤◌, ◌==◌, true, false, zero, suc, List, [], ◌∷◌, ◌++◌, add-one, ap, append-nil, append_assoc, arith, if◌then◌else◌, length, refl, subst, sym, take, ◌∙◌}
 use Rattle.std.proofs.lemmas.List.{length-append, length-take-le}
 use Rattle.pp_machine.specs.declared.place.Place.{Place}
 use Rattle.pp_machine.specs.Prelude.{Machine, Writes}
@@ -12,6 +12,7 @@ use Rattle.pp_actions.specs.declared.action.Action.TheVariants.{Turn}
 use Rattle.pp_history.specs.SessionValue.{AreNewest, replay}
 use Rattle.pp_rig.proofs.Recordings.{newest_pairs}
 use Rattle.pp_rig.proofs.Shortest.{turned-first}
+use Rattle.pp_rig.specs.Inner.ActionRecords.{old_values_of}
 use Rattle.pp_rig.specs.Inner.TurnRecords.{turn_old_values}
 use Rattle.pp_rig.specs.Rules.{rules}
 use Rattle.pp_rig.specs.Stopping.{turned}
@@ -19,8 +20,8 @@ use Rattle.pp_rig.specs.Turn.{turn}
 use Rattle.pp_turn_origins.proofs.Parts.{slot_waits}
 use Rattle.pp_turn_origins.proofs.TurnOrigins.{after_processor, after_reader}
 use Rattle.pp_turn_origins.specs.Devices.{clock_origins, from, printer_origins, reader_origins, slot_origins}
-use Rattle.pp_turn_origins.specs.Inner.{rest_origins}
-use Rattle.pp_turn_origins.specs.Recording.{all_links, all_made, made_of}
+use Rattle.pp_turn_origins.specs.Inner.{is_turn, rest_origins}
+use Rattle.pp_turn_origins.specs.Recording.{all_links, all_made, links_by, made_by, made_of}
 use Rattle.pp_turn_origins.specs.Turn.{processor_origins, turn_origins}
 use Rattle.pp_turn_origins.specs.declared.recording.Made.{Made}
 use Rattle.pp_origins.specs.declared.origin.Operation.TheVariants as by
@@ -76,17 +77,14 @@ pub record ArePut (s : Machine) (front links : List Link) (used middle end : ℕ
   pub all : end ≡ used + length (links_of (turn_origins s))
   pub items : take end links ≡ front ++ links_of (turn_origins s)
 
-pub are_put : (s m : Machine) (old first second : List Link) (used middle end : ℕ) → m ≡ s → used ≤ length old → middle ≤ length first →
-    end ≤ length second → take middle first ≡ take used old ++ links_of (processor_origins m) →
-    take end second ≡ take middle first ++ links_of (rest_origins s) → ArePut s (take used old) second used middle end
-are_put s m old first second used middle end is room within within2 own rest =
-    let front = take used old in
-    let mine = subst (λ m. take middle first ≡ front ++ links_of (processor_origins m)) is own in
-    let items = rest ∙ ap (λ ls. ls ++ links_of (rest_origins s)) mine
+pub are_put : (s : Machine) (front first second : List Link) (used middle end : ℕ) → length front ≡ used → middle ≤ length first →
+    end ≤ length second → take middle first ≡ front ++ links_of (processor_origins s) →
+    take end second ≡ take middle first ++ links_of (rest_origins s) → ArePut s front second used middle end
+are_put s front first second used middle end count within within2 own rest =
+    let items = rest ∙ ap (λ ls. ls ++ links_of (rest_origins s)) own
     ∙ append_assoc front (links_of (processor_origins s)) (links_of (rest_origins s)) ∙ ap (λ ls. front ++ ls) (sym (turn_links s)) in
-    let count = length-take-le used old room in
     record {
-      own = reaches first front (links_of (processor_origins s)) used middle within mine count;
+      own = reaches first front (links_of (processor_origins s)) used middle within own count;
       all = reaches second front (links_of (turn_origins s)) used end within2 items count;
       items = items;
     }
@@ -97,6 +95,20 @@ pub made_same : {processor processor2 address address2 word word2 kind kind2 lin
     ◌≡◌ {A = Made} (record { processor = processor; address = address; word = word; kind = kind; links = links; own = own; olds = olds })
     (record { processor = processor2; address = address2; word = word2; kind = kind2; links = links2; own = own2; olds = olds2 })
 made_same h i j k l m n = cc (h, i, j, k, l, m, n)
+
+-- an action is a turn, or one of the operator's
+pub turn_is : (action : Action) → is_turn action ≡ true → action ≡ Turn
+turn_is Turn is = refl
+turn_is action is = absurd (cc)
+
+pub made_other : (s : Machine) (action : Action) (olds : ℕ) → is_turn action ≡ false → olds ≡ length (old_values_of s action) →
+    ◌≡◌ {A = Made} (record { processor = 10; address = 0; word = 0; kind = 0; links = 0; own = 0; olds = olds }) (made_by s action)
+made_other s Turn olds is same = absurd (cc)
+made_other s action olds is same = rw same refl
+
+pub links_other : (s : Machine) (action : Action) → is_turn action ≡ false → links_by s action ≡ []
+links_other s Turn is = absurd (cc)
+links_other s action is = refl
 
 -- three lists behind another, one after the other
 pub three_more : {X : Type 0} (front a b c x y z rest : List X) → x ≡ front ++ a → y ≡ x ++ b → z ≡ y ++ c → a ++ (b ++ c) ≡ rest → z ≡ front ++ rest

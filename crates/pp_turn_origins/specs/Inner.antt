@@ -1,13 +1,21 @@
 -- For the contracts of inner functions only: the origins of what a device wrote, by the places that it wrote.
-use Rattle.std.specs.Prelude.{ℕ, Bool, [], ◌∷◌, ◌==◌, if◌then◌else◌}
+use Rattle.std.specs.Prelude.{◌≡◌, ℕ, Bool, true, false, List, [], ◌∷◌, ◌++◌, ◌+◌, ◌==◌, if◌then◌else◌, length, take}
+use Rattle.pp_actions.specs.declared.action.Action.{Action}
+use Rattle.pp_actions.specs.declared.action.Action.TheVariants.{Turn}
+use Rattle.pp_machine.specs.{Machine.processor, Olds.numbered, declared.olds.Old.Old}
 use Rattle.pp_machine.specs.{Machine.Machine, Machine.over, Printer.printer_step, Reader.reader_step}
 use Rattle.pp_machine.specs.declared.place.Place.TheVariants.{ChannelMode, ChannelWord, Clock, Card, CardColumn, ReaderMode}
 use Rattle.pp_machine.specs.declared.place.Place.TheVariants.{PaperLength, PaperColumn, PrinterMode, PaperSymbol}
 use Rattle.pp_origins.specs.Origin.{Origins}
 use Rattle.pp_origins.specs.declared.origin.Operation.TheVariants as by
+use Rattle.pp_origins.specs.Links.{links_of}
+use Rattle.pp_origins.specs.declared.origin.Link.{Link}
+use Rattle.pp_rig.specs.{Inner.ActionRecords.old_values_of, WellFormed.IsWellFormed}
 use Rattle.pp_rig.specs.Turn.{clock_step, processor_step, slot_step}
 use Rattle.pp_turn_origins.specs.Devices.{clock_origins, from, printer_origins, reader_origins, set_to, slot_origins, word_origins}
-use Rattle.pp_turn_origins.specs.Turn.{parts_origins}
+use Rattle.pp_turn_origins.specs.Recording.{made_of}
+use Rattle.pp_turn_origins.specs.Turn.{address_of, kind_of, parts_origins, processor_origins, turn_origins, word_of, writes_nothing}
+use Rattle.pp_turn_origins.specs.declared.{devices.Before.Before, reading.NextTurn.NextTurn, recording.Begun.Begun, recording.Made.Made}
 
 -- The reader on channel c wrote its mode, its column and its card or not; the new mode, and the new number of its channel's register.
 abbrev pub reader_by : (c : ℕ) (has_mode has_column has_card : Bool) (mode word : ℕ) → Origins
@@ -48,3 +56,26 @@ clock_by slot = if slot == 0o11 then (Clock, from by.After1 (Clock ∷ [])) ∷ 
 unfoldable pub rest_origins : Machine → Origins
 rest_origins s = parts_origins (reader_step ∷ printer_step ∷ clock_step ∷ slot_step ∷ [])
     (reader_origins ∷ printer_origins ∷ clock_origins ∷ slot_origins ∷ []) (over s (processor_step s))
+
+abbrev pub is_turn : Action → Bool
+is_turn Turn = true
+is_turn action = false
+
+-- What is known of the next turn of a machine: what its record will not tell, and what its processor will do, whose links are behind
+-- others.
+pub record IsBegun (s : Machine) (front links : List Link) (begun : Begun) : Type 0 where
+  pub formed : IsWellFormed s
+  pub slot : begun.before.slot ≡ s.slot
+  pub symbols : begun.before.symbols ≡ s.printer.length
+  pub column : begun.before.column ≡ s.printer.column
+  pub of_processor : begun.next.processor ≡ s.slot
+  pub address : begun.next.address ≡ address_of s
+  pub word : begun.next.word ≡ word_of s
+  pub kind : begun.next.kind ≡ kind_of (writes_nothing (processor_origins s)) (processor s s.slot).phase (word_of s)
+  pub items : take begun.next.links links ≡ front ++ links_of (processor_origins s)
+
+-- A turn on a machine, with all its links and what it overwrote, each behind others.
+pub record IsEnded (s : Machine) (front links : List Link) (older olds : List Old) (made : Made) : Type 0 where
+  pub turn : made ≡ made_of s
+  pub items : take (length front + made.links) links ≡ front ++ links_of (turn_origins s)
+  pub overwritten : take (length older + made.olds) olds ≡ older ++ numbered (old_values_of s Turn)

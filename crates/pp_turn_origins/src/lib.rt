@@ -3,12 +3,14 @@
 
 mod control;
 mod devices;
+mod kept;
 mod kind;
 mod laws;
 mod reading;
 mod recording;
 
 pub use control::{MOST_CONTROL, next_control};
+pub use kept::kept_origins;
 pub use kind::TurnKind;
 pub use laws::{device_reads_are_enough, parts_come_from_their_origins, reads_decide_the_turn};
 pub use pp_origins::{Field, Link, MOST_LINKS, NOTHING, Operation};

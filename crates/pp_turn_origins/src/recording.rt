@@ -12,13 +12,13 @@ ghost use Rattle.pp_rig.specs.Rules.{rules};
 ghost use Rattle.pp_rig.specs.Stopping.{after_turns, hit_of};
 ghost use Rattle.pp_rig.specs.Turn.{turn};
 ghost use Rattle.pp_rig.specs.WellFormed.{IsWellFormed};
-ghost use Rattle.pp_turn_origins.specs.Inner.{rest_origins};
+ghost use Rattle.pp_turn_origins.specs.Inner.{IsBegun, IsEnded, rest_origins};
 ghost use Rattle.pp_turn_origins.specs.Recording.{all_links, all_made, coming, made_of};
 ghost use Rattle.pp_turn_origins.specs.Turn.{processor_origins, turn_origins};
 ghost use Rattle.std.specs.Prelude.{◌≡◌, ◌+◌, ◌<◌, ◌≤◌, ◌++◌, ◌∷◌, ◌⊎◌, List, false, is_some, length, replicate, take};
 
 use crate::devices::{Before, MOST_REST_LINKS, put_rest};
-use crate::reading::next_origins;
+use crate::reading::{NextTurn, next_origins};
 use pp_history::Session;
 use pp_machine::Old;
 use pp_origins::{Link, MOST_LINKS};
@@ -96,7 +96,7 @@ fn turn_once(session: &mut Session<Rig>) -> bool
 /// Writes what the newest action overwrote into a slice, behind the first `used` that are there. Returns how many places
 /// that are.
 #[inline(always)]
-fn put_overwritten(session: &Session<Rig>, olds: &mut [Old], used: usize) -> usize
+pub fn put_overwritten(session: &Session<Rig>, olds: &mut [Old], used: usize) -> usize
     requires some { 1 ≤ length session.now.records }
     requires room { used + list_room ≤ length olds.old }
     ensures at_most { result ≤ list_room }
@@ -134,6 +134,64 @@ fn put_newest_rest(
     put_rest(session.machine(), before, &back, links, used)
 }
 
+/// A turn that is about to be performed: what its record will not tell, and what its processor will do.
+#[derive(Clone, Copy)]
+pub struct Begun {
+    before: Before,
+    next: NextTurn,
+}
+
+/// Returns the next turn, and writes the links of its processor into a slice, behind the first `used` that are there.
+#[inline(always)]
+pub fn begin_turn(machine: &Rig, links: &mut [Link], used: usize) -> Begun
+    requires room { used + MOST_LINKS ≤ length links.old }
+    ensures begun { IsBegun machine.now (take used links.old) links.new result }
+    ensures small { result.before.symbols ≤ 65536 }
+    ensures at_most { result.next.links ≤ used + MOST_LINKS }
+{
+    machine.keeps_ranges();
+    Begun {
+        before: Before::of(machine),
+        next: next_origins(machine, links, used),
+    }
+}
+
+/// Writes the other links of a turn that has been performed and is the newest action, and what it overwrote, into the
+/// slices, behind those that are there. Returns the turn.
+#[inline(always)]
+pub fn end_turn(
+    session: &Session<Rig>,
+    begun: &Begun,
+    links: &mut [Link],
+    used: usize,
+    olds: &mut [Old],
+    overwritten: usize,
+) -> Made
+    requires some { 1 ≤ length session.now.records }
+    requires small { begun.now.before.symbols ≤ 65536 }
+    requires at_most { begun.now.next.links ≤ used + MOST_LINKS }
+    requires links { used + MOST_TURN_LINKS ≤ length links.old }
+    requires olds { overwritten + list_room ≤ length olds.old }
+    ensures links_at_most { result.links ≤ MOST_TURN_LINKS }
+    ensures olds_at_most { result.olds ≤ list_room }
+    ensures ended { (v : SessionValue Machine Action) (earlier : List Action) (front : List Link) → IsAt rules session.now v →
+        v.standing ≡ Turn ∷ earlier → length front ≡ used → IsBegun (replay rules v.start earlier) front links.old begun.now →
+        IsEnded (replay rules v.start earlier) front links.new (take overwritten olds.old) olds.new result }
+{
+    let Begun { before, next } = *begun;
+    let end = put_newest_rest(session, &before, links, next.links);
+    let count = put_overwritten(session, olds, overwritten);
+    Made {
+        processor: u16::from(next.processor),
+        address: next.address,
+        word: next.word,
+        kind: next.kind as u16,
+        links: end.saturating_sub(used) as u16,
+        own: next.links.saturating_sub(used) as u16,
+        olds: count as u32,
+    }
+}
+
 /// Performs one turn, and writes its links and what it overwrote into the slices, behind those that are there. Returns the
 /// turn, and whether it changed the number of a watched place.
 #[inline(always)]
@@ -157,22 +215,10 @@ fn record_turn(
         ≡ take overwritten olds.old ++ numbered (old_values_of session.old.machine Turn) }
 {
     session.has_session_value();
-    session.machine().keeps_ranges();
     let _capacity = session.capacity();
-    let before = Before::of(session.machine());
-    let next = next_origins(session.machine(), links, used);
+    let begun = begin_turn(session.machine(), links, used);
     let hit = turn_once(session);
-    let end = put_newest_rest(session, &before, links, next.links);
-    let count = put_overwritten(session, olds, overwritten);
-    let made = Made {
-        processor: u16::from(next.processor),
-        address: next.address,
-        word: next.word,
-        kind: next.kind as u16,
-        links: (end - used) as u16,
-        own: (next.links - used) as u16,
-        olds: count as u32,
-    };
+    let made = end_turn(session, &begun, links, used, olds, overwritten);
     (made, hit)
 }
 

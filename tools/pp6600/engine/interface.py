@@ -1,10 +1,10 @@
-"""What simulates, as the tools ask it: a session of the machine. Two engines are one, the proved library and the simulator in plain Python."""
+"""What simulates, as the tools ask it: a session of the machine. The engines are the proved library, and the simulator in plain Python."""
 
 from __future__ import annotations
 
 import bisect
 from array import array
-from typing import List, NamedTuple, Protocol, Sequence, Tuple
+from typing import List, NamedTuple, Optional, Protocol, Sequence, Tuple
 
 from ..failure import Failure
 from .origins import Origins
@@ -91,8 +91,12 @@ class Engine(Protocol):
     def next_origins(self) -> Origins:
         """Returns the next turn, with where each number that its processor will write comes from. No turn is made."""
 
+    def last_write(self, first: int, count: int = 1) -> Optional[Tuple[int, Origins]]:
+        """Returns the newest action that can be undone and wrote one of some places: how many are newer, and where each number that it
+        wrote comes from; None if there is none. If it is no turn, its processor is 10."""
+
     def looks(self, most: int, places: Sequence[int]) -> Tuple[List[List[int]], bool]:
-        """Makes turns as `records` does. Returns the numbers at some places (1 to 16) after each, and whether the last changed a watched one."""
+        """Makes turns as `records` does. Returns the numbers at some places (1 to 16) after each, and whether a watched one changed."""
 
     def until(self, condition: Sequence[Form], most: int) -> Tuple[int, bool]:
         """Makes turns, at most so many, up to the first in which a condition comes to hold, whatever is watched. Returns how many they are,

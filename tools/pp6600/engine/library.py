@@ -82,7 +82,7 @@ class FormOfC(ctypes.Structure):
 
 
 CALLS = ("open", "answer", "numbers", "counts", "turns", "again", "looks", "back", "forward", "close")
-LATER_CALLS = ("origins", "next_origins", "until", "back_until")  # which a library before 5.2 does not have
+LATER_CALLS = ("origins", "next_origins", "until", "back_until", "last_write")  # which a library before 5.2 does not have, or before 5.3
 
 
 def load(path: Optional[str] = None) -> Any:
@@ -127,6 +127,15 @@ def text_of_status(status: int, path: Optional[str] = None) -> str:
     if call(*checked("text_of_status", status), text, c_size_t(len(text)), byref(count)) != DONE:
         raise Failure(f"there is no status {status}")
     return text.raw[:count.value].decode("ascii")
+
+
+def instruction(code: int, path: Optional[str] = None) -> Tuple[str, int, int]:
+    """Returns the name of an instruction, how many words it has, and the number of its form, what it has as operand."""
+    text, count, words, form = ctypes.create_string_buffer(TEXT_ROOM), c_size_t(), c_uint32(), c_uint32()
+    outs = byref(count), byref(words), byref(form)
+    if call_of(load(path), "instruction")(*checked("instruction", code), text, c_size_t(len(text)), *outs) != DONE:
+        raise Failure(f"there is no code {code}")
+    return text.raw[:count.value].decode("ascii"), words.value, form.value
 
 
 def room_for(kind: Any, count: int) -> Any:
@@ -215,7 +224,8 @@ class LibrarySession:
 
     def perform(self, typed: bytes) -> None:
         """Performs lines of actions. Fails if one is rejected."""
-        if self._call("answer", typed, c_size_t(len(typed)), self.text, c_size_t(ANSWER_ROOM), *self.counted) != DONE or self.answered[3].value:
+        status = self._call("answer", typed, c_size_t(len(typed)), self.text, c_size_t(ANSWER_ROOM), *self.counted)
+        if status != DONE or self.answered[3].value:
             raise Failure(f"the simulator refuses {typed.decode('latin-1')}")
 
     def numbers(self, first: int, count: int) -> List[int]:
@@ -278,6 +288,15 @@ class LibrarySession:
         control, places = (c_uint64 * MOST_CONTROL)(), c_size_t()
         self._call("next_origins", byref(made), of_links, c_size_t(MOST_LINKS), byref(count), control, c_size_t(MOST_CONTROL), byref(places))
         return next(turns_of([made], of_links.raw[:LINK_BYTES * count.value]))._replace(control=control[:places.value])
+
+    def last_write(self, first: int, count: int = 1) -> Optional[Tuple[int, Origins]]:
+        """Returns the newest action that can be undone and wrote one of so many places: how many actions are newer, and it with where the
+        numbers that it wrote come from; if it is no turn, its processor is 10. Returns None if there is none."""
+        newer, made, of_links = c_uint32(), Made(), ctypes.create_string_buffer(LINK_BYTES * MOST_LINKS)
+        status = self._call("last_write", *checked("last_write", first, count), byref(newer), byref(made), of_links, c_size_t(MOST_LINKS))
+        if status == REFUSED:
+            raise Failure(f"the machine does not have the places {first} to {first + count - 1}")
+        return (newer.value, next(turns_of([made], of_links.raw))) if status == DONE else None
 
     def looks(self, most: int, places: Sequence[int]) -> Tuple[List[List[int]], bool]:
         """Performs turns as `turns` does. Returns the numbers at the places after each, and whether the last changed a watched number."""

@@ -11,8 +11,8 @@ from ..failure import Failure
 
 # How many bits each number of a call has, in the order of pp6600.h.
 WIDTHS = {"open": (32, 32, 8, 8), "numbers": (32,), "turns": (32,), "origins": (32,), "again": (32,), "looks": (32,), "until": (32,),
-          "form": (32, 32, 64, 64), "back": (32,), "forward": (32,), "assemble": (32,), "assemble_with": (32,), "load_lines": (32,), "disassemble": (16, 16),
-          "text_of_status": (32,)}
+          "form": (32, 32, 64, 64), "back": (32,), "forward": (32,), "assemble": (32,), "assemble_with": (32,), "load_lines": (32,),
+          "disassemble": (16, 16), "text_of_status": (32,), "last_write": (32, 32), "instruction": (32,)}
 TYPES: Dict[int, Any] = {8: c_uint8, 16: c_uint16, 32: c_uint32, 64: c_uint64}
 MOST_OF_SIZE = 1 << 63  # no buffer has more elements
 

@@ -164,8 +164,8 @@ def parsed(text: str, symbols: Any = AllSymbols()) -> Condition:
 
 
 def located(failure: Failure, words: Sequence[str], rest: Sequence[str]) -> Failure:
-    """Returns what is wrong with the words of a condition, of which these are left, with the column (decimal) of the word that it begins with,
-    or else of the first one left."""
+    """Returns what is wrong with the words of a condition, of which these are left, with the column (decimal) of the word that it begins
+    with, or else of the first one left."""
     wrong = str(failure).split()[0]
     at = len(words) - len(rest) + (rest.index(wrong) if wrong in rest else 0)
     return Failure(f"{failure}, at column {len(' '.join([*words[:at], '']) if at else '') + 1}")

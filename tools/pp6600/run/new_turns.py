@@ -59,8 +59,8 @@ class NewTurns:
         return hit
 
     def _turns(self, most: int, watched: Sequence[Place]) -> Optional[Channels]:
-        """Makes turns up to the first that changes the state of a channel, or a watched number, at most so many. Returns the channels if one
-        changed a state. An instruction that changes a channel changes its state."""
+        """Makes turns up to the first that changes the state of a channel, or a watched number, at most so many. Returns the channels if
+        one changed a state. An instruction that changes a channel changes its state."""
         leaves = [[is_another(channel, state)] for channel, state in zip(self.channels, self.states)]
         count, is_found = self.engine.until(joined([*leaves, *([Form(CHANGES, place.number, 1)] for place in watched)]), most)
         self.turn += count
@@ -68,8 +68,8 @@ class NewTurns:
         return now if any(state != old for (state, _), old in zip(now, self.states)) else None
 
     def _regular_words(self, end: int) -> Optional[Channels]:
-        """Makes turns and the replies of the one device, as long as a reply comes after as many turns as the one before. Returns its channel
-        if its state changed otherwise."""
+        """Makes turns and the replies of the one device, as long as a reply comes after as many turns as the one before. Returns its
+        channel if its state changed otherwise."""
         past, gap, value, turn, engine, channel = self.pasts[0], self.gap, self.values[0], self.turn, self.engine, self.channels[0]
         device, (state,) = past.device, self.states
         values: List[Value] = []

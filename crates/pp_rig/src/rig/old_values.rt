@@ -18,7 +18,7 @@ ghost use Rattle.pp_machine.specs.Inner.AllDevices.{all_model};
 use super::{Rig, RigRecord, ShortTurn, TurnRecord, TurnRest};
 use pp_actions::{Watched, renumbered};
 use pp_history::{Session, UndoRecord};
-use pp_machine::{AllDevices, AllRecords, Devices, Old, Place, put_old, put_old_if, put_olds};
+use pp_machine::{AllDevices, AllRecords, Devices, Old, Place, put_old, put_olds};
 
 impl RigRecord {
     /// Writes each place that the record has, with its old number, into a slice, in the order of the record, behind the first
@@ -83,8 +83,12 @@ impl TurnRest {
         ensures at_most { result ≤ used + most_rest_places }
     {
         let used = self.put_devices(olds, used);
-        let clock = u64::from(self.clock);
-        let used = put_old_if(olds, used, self.slot == 9, Place::Clock, clock);
+        // The processor predicts this branch, which only each tenth turn takes.
+        let used = if self.slot == 9 {
+            put_old(olds, used, Place::Clock, u64::from(self.clock))
+        } else {
+            used
+        };
         put_old(olds, used, Place::Slot, u64::from(self.slot))
     }
 

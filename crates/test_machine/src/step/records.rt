@@ -66,11 +66,21 @@ fn with_other_rest(r: StepRecord) -> StepRecord
     let StepRecord { value, word, .. } = r;
     match r.target {
         Target::Wait | Target::Nothing => x,
-        Target::Cell => StepRecord { address, ..with_value },
+        Target::Cell => StepRecord {
+            address,
+            ..with_value
+        },
         Target::Cells | Target::Word => StepRecord { address, word, ..x },
         Target::State => with_state,
-        Target::Channel => StepRecord { value, ..with_state },
-        Target::CellAndState => StepRecord { address, value, ..with_state },
+        Target::Channel => StepRecord {
+            value,
+            ..with_state
+        },
+        Target::CellAndState => StepRecord {
+            address,
+            value,
+            ..with_state
+        },
     }
 }
 

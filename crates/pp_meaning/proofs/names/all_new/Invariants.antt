@@ -1,8 +1,11 @@
 use Rattle.std.proofs.Common.{◌≡◌, ◌≢◌, ◌⊎◌, ◌<◌, ℕ, true}
 use Rattle.std.specs.Prelude.{slice_get}
 use Rattle.pp_meaning.specs.Lines.{symbol_name}
-use Rattle.pp_meaning.specs.Names.{is_renamed}
+use Rattle.pp_meaning.specs.Names.{IsLast, is_renamed}
 use Rattle.pp_meaning.proofs.names.all_new.Given as goal
 
 abbrev pub invariant-loop-index : goal.invariant-loop-index
-invariant-loop-index l = (i j : ℕ) → i < j → j < l.index → (symbol_name (slice_get l.symbols i) ≢ symbol_name (slice_get l.symbols j)) ⊎ (is_renamed j (slice_get l.symbols i) ≡ true)
+invariant-loop-index l = record {
+  last : IsLast l.symbols l.last l.index;
+  different : (i j : ℕ) → i < j → j < l.index → (symbol_name (slice_get l.symbols i) ≢ symbol_name (slice_get l.symbols j)) ⊎ (is_renamed j (slice_get l.symbols i) ≡ true);
+}

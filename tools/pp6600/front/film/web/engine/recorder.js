@@ -114,8 +114,6 @@ export class Recorder {
     return now;
   }
 
-  // ---- other actions
-
   // A line that was performed and is an action. It is performed again, so that the library says what it overwrote.
   addLine() {
     this.session.back(1);
@@ -131,8 +129,6 @@ export class Recorder {
     this.read(0, layout.high);
     this.endMoment(kind, 0, 0, 0);
   }
-
-  // ---- numbers
 
   // The numbers at places in a row, each as two words.
   words(first, count) { return new Uint32Array(this.session.numbers(first, count).buffer); }

@@ -84,8 +84,6 @@ const SERVICES = {
   },
 };
 
-// ---- lines
-
 // What performs a line, or a search in whose condition labels may be.
 function actionOf(line, labels) {
   const [, back, text] = UNTIL.exec(line) || [];

@@ -19,8 +19,6 @@ export function stepsOf(turns) {
 // A line with blanks in the place of its tabs.
 export const untabbed = (line) => line.split("\t").reduce((before, part) => before.padEnd((before.length >> 3) * 8 + 8) + part);
 
-// ---- the places that a line writes
-
 // The places that a SET or a DEADSTART writes, each with the number of its word in the line; at a dead start that of the panel's word, or
 // 0.
 export function placesOfSetting([command, kind, ...words]) {

@@ -34,8 +34,6 @@ export function meaningOf({ names, meanings }, name) {
   return [meanings[name], x].filter(Boolean).join("\n");
 }
 
-// ---- turns and changes
-
 export const whenText = (film, moment) =>
   (film.isTurn(moment) ? `turn ${octal(film.turn[moment])}` : `before turn ${octal(film.turn[moment] + 1)}`);
 const skippedText = (film, moment) => `${octal(film.position[moment] - film.position[moment - 1])} turns that were not recorded`;

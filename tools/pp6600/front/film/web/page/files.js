@@ -14,8 +14,6 @@ async function deflated(bytes, format) {
   return btoa(letters);
 }
 
-// ---- files
-
 // The page with another film in it.
 export async function pageWith(about) {
   const text = await deflated(new TextEncoder().encode(JSON.stringify(about)), "deflate");
@@ -45,8 +43,6 @@ export function panelIn(text) {
   const words = octalRows(text).flat();
   return words.length === 12 && words.every((word) => word < CELLS) ? words : null;
 }
-
-// ---- links
 
 // A link to files of a run, and to what is shown: its letters, or null if these are too many.
 export async function linkTo(files, shown) {

@@ -188,8 +188,6 @@ export class Hands extends Part {
 
   dblclick({ target }) { if (target.closest("[data-cell], [data-place]") && canSet(this.state.chosen)) this.openField(); }
 
-  // ---- files
-
   drop(event) {
     event.preventDefault();
     return this.sharing.takeFiles([...event.dataTransfer.files], Boolean(event.target.closest?.(".pane.editor")));

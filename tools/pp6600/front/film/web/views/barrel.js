@@ -6,7 +6,8 @@ import { deviceOf } from "../machine/words.js";
 import { turning } from "../machine/turns.js";
 import { pane } from "./parts.js";
 
-const BOX = { w: 50, h: 50 }, PILL = { w: 106, h: 26 }, LEAST_WIDE = 396, LEAST_HIGH = 168, MOST_HIGH = 240, HALF = PROCESSORS / 2;
+const BOX = { w: 50, h: 50 }, PILL = { w: 106, h: 26 }, HALF = PROCESSORS / 2;
+const LEAST_WIDE = 396, HIGH = 190, LEAST_HIGH = 168, MOST_HIGH = 240;
 
 // Five above from left to right, five below back: the direction in which the slot moves.
 function sizes(width, height, count) {
@@ -77,19 +78,19 @@ function channelsShown(film, moved, waits, high) {
 // In a narrow pane the picture is smaller, and on a projector it fills its pane.
 function unitOf({ room, look }) {
   const unit = room.unit || 1, width = room.barrel || 430, least = Math.min(unit, width / LEAST_WIDE);
-  return look === "projector" ? Math.max(least, Math.min(width / 470, (room.barrelHigh || 200) / 176, 2 * unit)) : least;
+  return look === "projector" ? Math.max(least, Math.min(width / 470, (room.barrelHigh || HIGH) / 176, 2 * unit)) : least;
 }
 
 export function barrelPane(state, marks) {
   const { film, room, memory, look } = state, unit = unitOf(state);
-  const width = (room.barrel || 430) / unit, height = (room.barrelHigh || 190) / unit;
+  const isLarge = look === "projector", width = (room.barrel || 430) / unit, height = ((isLarge && room.barrelHigh) || HIGH) / unit;
   const waits = marks.waits.map((text, n) => ({ n, c: parseInt(text, 8) })).filter(({ c }) => c <= CLOCK), moved = film.wordMoved(film.at);
   const used = channelsShown(film, moved, waits, Math.max(LEAST_HIGH, Math.min(height, MOST_HIGH))), s = sizes(width, height, used.length);
   const acted = film.isTurn(film.at) ? film.processor[film.at] : -1, cell = marks.changes.find(({ place }) => place.kind === "M"),
     isSeen = moved && used.includes(moved.channel);
   const head = acted < 0 ? "" : `PP ${two(acted)}  A ${film.text(placeWith("A", acted))}  Q ${four(film.number("Q", acted))}`;
   const track = `M${s.x(0) + 25} 28H${s.x(4) + 25}q22 0 22 22V${s.high - 50}q0 22 -22 22H${s.x(0) + 25}q-14 0 -14 -22V50q0 -22 14 -22z`;
-  return pane(state, "barrel", "Barrel", "", h("div", { class: look === "projector" ? "box" : "box natural", "data-room": "barrel" },
+  return pane(state, "barrel", "Barrel", "", h("div", { class: isLarge ? "box" : "box natural", "data-room": "barrel" },
     h("svg", { viewBox: `0 0 ${width} ${s.high}`, style: `height:${s.high * unit}px`, role: "img",
       "aria-label": `the barrel, PP ${two(film.number("SLOT"))} is next` },
       h("path.track", { d: track }),

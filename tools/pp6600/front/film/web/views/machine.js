@@ -10,8 +10,6 @@ import { namesOf, number, pane } from "./parts.js";
 
 const CENTRAL_ROWS = 8, MOST_PROJECTED = 3;
 
-// ---- processors
-
 function processor({ film, memory }, marks, n) {
   const one = marks.next[n], waits = marks.waits[n], next = film.number("SLOT") === n;
   const acted = film.isTurn(film.at) && film.processor[film.at] === n;
@@ -47,8 +45,6 @@ export function processorsPane(state, marks) {
         : null))));
 }
 
-// ---- channels
-
 export function channelsPane(state, marks) {
   const { film } = state, all = range(CHANNELS).map((c) => ({ c, now: film.channelState(c), device: deviceOf(film, c) }));
   const isUsed = ({ c, now, device }) => now || device || film.number("H", c) || film.channelLanes[c].begins.length > 1;
@@ -59,8 +55,6 @@ export function channelsPane(state, marks) {
     h("tr.idle", h("td", { colspan: 5 }, all.every(isUsed) ? "" : "the others are inactive; ", "clock ",
       number(film, marks, "H", CLOCK)))))));
 }
-
-// ---- central memory and the exchange package, if the run uses them
 
 export function centralPane(state, marks) {
   const { film, chosen, central } = state, kind = chosen ? chosen.kind : "", hasWords = film.used.has("central") || kind === "C",

@@ -148,8 +148,6 @@ function originMarks(state, lanes, yOf) {
     .map((name) => [h("path", { class: name, d: lines }), h("path", { class: `${name} dots`, d: dots })]));
 }
 
-// ---- the whole
-
 export function timeline(state) {
   const { film, chosen, changes, room, look, isPhone, span, origin, allLanes } = state, unit = room.unit || 1, every = lanesOf(film);
   const shown = every.filter(({ quiet }) => !quiet || (allLanes && !isPhone)), quiet = every.filter((one) => one.quiet);

@@ -3,7 +3,7 @@ use Rattle.pp_search.specs.Condition.{HasPlaces}
 use Rattle.pp_search.specs.Forms.{IsForm, IsSmall, alternatives_of}
 use Rattle.pp_search.specs.declared.condition.Alternative.{Alternative}
 use Rattle.pp_search.specs.declared.condition.TheConstants.{MOST_ALTERNATIVES, MOST_TESTS}
-use Rattle.pp_search.proofs.forms.condition_of.Given as goal
+use Rattle.pp_search.proofs.forms.condition_into.Given as goal
 
 abbrev pub invariant-loop-form : goal.invariant-loop-form
 invariant-loop-form l = record {

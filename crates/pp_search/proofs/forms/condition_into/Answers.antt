@@ -1,4 +1,4 @@
-use Rattle.std.proofs.Common.{◌≤◌, All, arith, drop, drop_of_length-le, inl, length, rules, subst}
+use Rattle.std.proofs.Common.{◌≤◌, All, arith, drop, drop_of_length-le, inl, length, refl, rules, subst}
 use Rattle.pp_search.proofs.Chosen.{take_whole}
 use Rattle.pp_search.proofs.ReadForms.{condition_is, full_length, no_room_for_alternatives, no_room_for_tests}
 use Rattle.pp_search.specs.Forms.{HasRoom, IsForm, IsSmall}
@@ -6,8 +6,8 @@ use Rattle.pp_search.specs.declared.condition.TheConstants.{MOST_ALTERNATIVES}
 use Rattle.std.proofs.lemmas.List.Elements.{All-more, All-push}
 use Rattle.std.proofs.lemmas.Bool.Decides.{nat_tests}
 use Rattle.std.proofs.lemmas.Grind.{common_steps}
-use Rattle.pp_search.proofs.forms.condition_of.Goals as goal
-use Rattle.pp_search.proofs.forms.condition_of.Goals.{then-form-eq-OR+else-is_full, else-form-eq-OR+else-is_full-2+in-Some}
+use Rattle.pp_search.proofs.forms.condition_into.Goals as goal
+use Rattle.pp_search.proofs.forms.condition_into.Goals.{then-form-eq-OR+else-is_full, else-form-eq-OR+else-is_full-2+in-Some}
 
 pub loop-form-preserved : goal.loop-form-preserved
 loop-form-preserved c =
@@ -52,13 +52,13 @@ returns-then-is_full-3-clause-some c = λ are. absurd (full_length _ _ c.is_full
     (drop c.loop-form.form-index c.args.forms.now) are.0 c.loop-form.invariant.is))
 
 pub returns-clause-is : goal.returns-clause-is
-returns-clause-is c =
+returns-clause-is c = λ _.
     condition_is c.args.forms.now (record { alternatives = c.push-2.new.self }) c.loop-form.alternatives.items c.loop-form.tests.items _
     (drop_of_length-le c.args.forms.now c.loop-form-test.false) c.loop-form.invariant.is c.push-2.ensures.items
 
 pub returns-clause-are_forms : goal.returns-clause-are_forms
-returns-clause-are_forms c =
-    let is = returns-clause-is c in
+returns-clause-are_forms c = λ _.
+    let is = returns-clause-is c refl in
     let begun = c.loop-form.invariant in
     let all = c.push-2.new.self.items in
     let few : length all ≤ MOST_ALTERNATIVES = grind (arith, nat_tests, c.push-2.ensures.len, c.is_full-2.ensures, c.if-is_full-3.false) in
