@@ -26,6 +26,7 @@ def sum_of(lines: Sequence[str]) -> str:
 
 
 def differences() -> List[List[str]]:
-    """Returns the sources made at random whose answer is another one than that of the assembler in Python, which was written apart from this
-    one, had the same answer to all 3,000 (decimal), and went."""
-    return [lines for lines, wanted in zip(made_at_random(), read("tests", "programs", "frozen.txt").splitlines()) if sum_of(lines) != wanted]
+    """Returns the sources made at random whose answer is another one than that of the assembler in Python, which was written apart from
+    this one, had the same answer to all 3,000 (decimal), and went."""
+    sums = read("tests", "programs", "frozen.txt").splitlines()
+    return [lines for lines, wanted in zip(made_at_random(), sums) if sum_of(lines) != wanted]

@@ -1,5 +1,5 @@
-"""The assembler of the library: its answers to 3,000 (decimal) sources, which are those that an assembler in Python had; its forms, which are
-all of one program; and tools where there is no library. Sources are those of the repository, right and wrong, and others made at random.
+"""The assembler of the library: its answers to 3,000 (decimal) sources, which are those that an assembler in Python had; its forms,
+which are all of one program; and tools where there is no library. Sources are those of the repository, and others made at random.
 
     PP6600_SOURCES=N   makes N at random (decimal)
 """
@@ -89,7 +89,8 @@ class Tools(Case):
         source, rows = self.file("  LDN 5\n"), self.file("0100 1405\n")
         listing = self.file("0100 1405           LDN    5\n0101 1406  START    LDN    6\n")
         with mock.patch.dict(os.environ, PP6600_ENGINE="plain"):
-            for name, *words in (("assemble", source), ("load", "--listing", "0", listing), ("disassemble", rows), ("show", "--source", "0", source)):
+            for name, *words in (("assemble", source), ("load", "--listing", "0", listing), ("disassemble", rows),
+                                 ("show", "--source", "0", source)):
                 with self.subTest(name):
                     done = tool(name, *words)
                     self.assertEqual(("", 2), (done.out, done.status))

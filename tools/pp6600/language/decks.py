@@ -13,13 +13,14 @@ NONE = Text(b"", b"")
 
 def texts_of(folder: Optional[str], lines: Sequence[str]) -> List[Text]:
     """Returns the common decks in a folder whose names are in the lines of a source, or of such a deck: files with the name of the deck,
-    whatever is after a point, in letters of either case. There are none without a folder, and with one there is a deck without a name, which
-    no line can read: then a deck that is not there is said to be missing in the folder."""
+    whatever is after a point, in letters of either case. Without a folder there is none. With one there is a deck without a name too, which
+    no line can read: so a deck that is not there is said to be missing in the folder."""
     try:
         names = [] if folder is None else sorted(os.listdir(folder))
     except OSError as error:
         raise Failure(f"can't read the folder {folder}: {error.strerror}") from error
-    paths = {deck: os.path.join(str(folder), name) for name in reversed(names) for deck in (name.upper(), name.upper().partition(".")[0]) if deck}
+    decks = ((name, deck) for name in reversed(names) for deck in (name.upper(), name.upper().partition(".")[0]) if deck)
+    paths = {deck: os.path.join(str(folder), name) for name, deck in decks}
     found = [] if folder is None else [NONE]
     waiting = list(lines) if paths else []
     while waiting:

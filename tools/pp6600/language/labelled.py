@@ -98,7 +98,8 @@ class Labelled:
     def with_name(self, piece: Piece) -> str:
         """Returns the operand of an instruction that names a cell outside with the label of this."""
         code, (first, comma, d) = CODES.get(piece.operation, 0), piece.operand.partition(",")
-        is_cell = code in RELATIVE_JUMPS or code in TWO_WORDS and code not in CONSTANTS and (first != "0" or code not in INDEXED or not comma)
+        is_base = first == "0" and code in INDEXED and comma  # the cell is in d alone
+        is_cell = code in RELATIVE_JUMPS or code in TWO_WORDS and code not in CONSTANTS and not is_base
         return self.named.get(int(first, 8), first) + comma + d if is_cell and first.isdigit() else piece.operand
 
     # ---- data

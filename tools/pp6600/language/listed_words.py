@@ -1,5 +1,5 @@
-"""What the assembler makes of the lines of a listing, as far as their operands are numbers or names of the listing itself; and what a line says
-of a literal, or of a name that the listing does not have."""
+"""What the assembler makes of the lines of a listing, as far as their operands are numbers or names of the listing itself; and what a line
+says of a literal, or of a name that the listing does not have."""
 
 import re
 from typing import Dict, List, Mapping, NamedTuple, Optional, Sequence, Tuple
@@ -15,7 +15,7 @@ Answers = Dict[str, Optional[Performed]]
 
 
 class Listed(NamedTuple):
-    """A statement of a listing: its line without the label, the base of its numbers, where it is loaded and where it runs, and its words."""
+    """A statement of a listing: its line without the label, the base of its numbers, where it is loaded, where it runs, and its words."""
 
     line: str
     base: str
@@ -25,8 +25,8 @@ class Listed(NamedTuple):
 
 
 class Told(NamedTuple):
-    """What the operands of a statement say: its words, with those of the listing where nothing is said, or None if nothing is said of any; and
-    the words of literals by their texts."""
+    """What the operands of a statement say: its words, with those of the listing where nothing is said, or None if nothing is said of any;
+    and the words of literals by their texts."""
 
     words: Optional[List[int]]
     literals: Dict[str, Tuple[int, ...]]
@@ -35,7 +35,8 @@ class Told(NamedTuple):
 def told_by(listed: Sequence[Listed], names: Mapping[str, int]) -> List[Told]:
     """Returns what the operands of statements say, by the names that are known."""
     asked = [questions(*statement_of(one.line)[1:], one.line) for one in listed]
-    found = iter(performed([Given(one.base, one.origin, one.location, line, names) for one, lines in zip(listed, asked) for line in lines.values()]))
+    given = [Given(one.base, one.origin, one.location, line, names) for one, lines in zip(listed, asked) for line in lines.values()]
+    found = iter(performed(given))
     answers: List[Answers] = [{key: next(found) for key in lines} for lines in asked]
     return [Told(words_told(one, own), {key: done.words for key, done in own.items() if done and key.startswith("=")})
             for one, own in zip(listed, answers)]
@@ -77,8 +78,8 @@ def words_told(one: Listed, answers: Answers) -> Optional[List[int]]:
 
 
 def fields_of(name: str, operand: str, words: Sequence[int]) -> Dict[str, Tuple[str, int]]:
-    """Returns the number that words of an instruction or of CON have for an operand that is one literal or one name, and the field of it. The
-    address of a relative jump is in none."""
+    """Returns the number that words of an instruction or of CON have for an operand that is one literal or one name, and the field of it.
+    The address of a relative jump is in none."""
     parts, code = operand.split(","), CODES.get(name)
     if name == "CON" and len(parts) == len(words) == 1:
         return {parts[0]: ("m", words[0])}

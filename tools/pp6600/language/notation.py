@@ -1,4 +1,5 @@
-"""The notation of sources, docs/ASSEMBLER.md: the names of operations, and the fields of a line. What they mean the library's assembler knows."""
+"""The notation of sources, docs/ASSEMBLER.md: the names of operations, and the fields of a line. What they mean only the library's assembler
+knows."""
 
 from typing import Dict, List, NamedTuple, Optional, Sequence
 
@@ -11,8 +12,8 @@ CODES: Dict[str, int] = {name: code for code, name in reversed(list(enumerate(NA
 CONSTANTS = range(0o20, 0o24)  # with an operand of 18 bits
 MAKERS = ("CON", "DATA", "VFD", "DIS", "BSSZ")
 LONG_FORMS = ("LDK", "ADK")
-DIRECTIVES = (*MAKERS, *LONG_FORMS, *"""EQU = SET MAX MIN ORG LOC USE BSS END ABS SST ENTRY TITLE TTL SPACE EJECT LIST NOREF XREF COMMENT CTEXT ENDX
-    NOLABEL NIL ERR ERRNZ ERRZR ERRPL ERRMI ERRNG IDENT BASE PERIPH QUAL MICRO DECMIC OCTMIC MICCNT LIT""".split())
+DIRECTIVES = (*MAKERS, *LONG_FORMS, *"""EQU = SET MAX MIN ORG LOC USE BSS END ABS SST ENTRY TITLE TTL SPACE EJECT LIST NOREF XREF
+    COMMENT CTEXT ENDX NOLABEL NIL ERR ERRNZ ERRZR ERRPL ERRMI ERRNG IDENT BASE PERIPH QUAL MICRO DECMIC OCTMIC MICCNT LIT""".split())
 OF_LINES = ("XTEXT", "HERE", "OPSYN", "PURGMAC")
 BLOCKS = "IF IFC IFEQ IFNE IFGT IFGE IFLT IFLE IFPL IFMI IFPP IFCP SKIP DUP ECHO MACRO MACROE RMT".split()
 INSIDE = ("ENDIF", "ELSE", "ENDD", "ENDM", "LOCAL", "IRP", "STOPDUP")  # what is in its place only in such lines
@@ -56,7 +57,7 @@ def end_of_text(operand: str, at: int) -> Optional[int]:
     """Returns where the text that begins at a column ends; None if none begins there."""
     counted, delimited = COUNTED.match(operand, at), DELIMITED.match(operand, at) if operand.startswith("=") else None
     if counted:
-        return counted.end() + int(counted[1]) if int(counted[1]) else re.compile("[^ \t,]*").match(operand, counted.end()).end()  # type: ignore
+        return counted.end() + (int(counted[1]) or len(re.split("[ \t,]", operand[counted.end():], maxsplit=1)[0]))
     end = operand.find(delimited[1], delimited.end()) if delimited else -1
     return None if end < 0 else end + 1
 

@@ -1,5 +1,5 @@
-"""Single statements, each at a place of its own, as the library's assembler performs them: for what a printed listing says of itself, and for
-how far a line moves the counter."""
+"""Single statements, each at a place of its own, as the library's assembler performs them: for what a printed listing says of itself, and
+for how far a line moves the counter."""
 
 import functools
 import re

@@ -1,4 +1,4 @@
-"""A source that the library has assembled: its programs, its names, and the rows of its listing, for the tools that show a run beside it."""
+"""A source that the library has assembled: its programs, its names, and the rows of its listing, for tools that show a run beside it."""
 
 import bisect
 import re
@@ -25,9 +25,9 @@ class FilledCell(NamedTuple):
 
 
 class ListingRow(NamedTuple):
-    """What the listing shows of a line: its number in the source and its text, its words, and the counters before it if it has an address; or
-    the number that it names, which SET may change. If a macro made the line, there are the numbers of the lines of macros that it was made
-    of, that of the innermost macro last."""
+    """What the listing shows of a line: its number in the source and its text, its words, and the counters before it if it has an address;
+    or the number that it names, which SET may change. If a macro made the line, there are the numbers of the lines of macros that it was
+    made of, that of the innermost macro last."""
 
     number: int
     text: str
@@ -55,8 +55,9 @@ class Unit(NamedTuple):
 
 
 class Program(NamedTuple):
-    """What a source makes: the cells of a unit by their addresses, where a processor begins, the number of each name and whether it is a label,
-    the rows of the listing, what is wrong or to be known, how many faults these are, all units, and what the cells of literals are called."""
+    """What a source makes: the cells of a unit by their addresses, where a processor begins, the number of each name and whether it is a
+    label, the rows of the listing, what is wrong or to be known, how many faults these are, all units, and what the cells of literals are
+    called."""
 
     cells: Dict[int, FilledCell]
     start: Optional[int]

@@ -103,8 +103,8 @@ class Source(AddressNames):
 
     @classmethod
     def of_file(cls, path: str, decks: Optional[str] = None) -> "Source":
-        """Returns the source in a file, with common decks in a folder, or the one that a printed listing has; of FILE#NAME the unit with this
-        name is loaded."""
+        """Returns the source in a file, with common decks in a folder, or the one that a printed listing has; of FILE#NAME the unit with
+        this name is loaded."""
         file, _, unit = path.rpartition("#")
         path, unit = (file, unit) if file and not os.path.exists(path) else (path, "")
         lines = source_lines(path)
@@ -180,7 +180,8 @@ def program_of(listing: Listing) -> Program:
         words = tuple(word for word in entry.words if word is not None)
         rows.append(ListingRow(entry.number, entry.source, load, address, words, bool(words), left_out=entry.left_out))
         origin = load + len(words)
-        names.update({name: (number, is_label) for is_label, pairs in ((True, entry.labels), (False, entry.equates)) for name, number in pairs})
+        names.update({name: (number, True) for name, number in entry.labels})
+        names.update({name: (number, False) for name, number in entry.equates})
     cells = {address: FilledCell(word, line.number) for address, (word, line) in listing.cells.items()}
     return Program(cells, listing.start, names, rows)
 

@@ -197,8 +197,8 @@ export class LibrarySession extends Rooms {
 
 // The assembler, whose calls need no session.
 export class Assembler extends Rooms {
-  // Returns the lines that a call writes of a source, for a form or a processor, and how many faults the source has. By "assemble_with" it may
-  // read common decks, each of which is a name and its lines.
+  // Returns the lines that a call writes of a source, for a form or a processor, and how many faults the source has. By "assemble_with" it
+  // may read common decks, each of which is a name and its lines.
   written(call, source, number, decks = [], room = 1 << 16) {
     const given = [...this.given("source", new TextEncoder().encode(source)), ...(call === "assemble_with" ? this.decks(decks) : [])];
     const into = this.room("text", room), numbers = checked(call, number);
