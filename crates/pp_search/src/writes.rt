@@ -50,7 +50,7 @@ fn back_to_write(session: &mut Session<Rig>, first: u32, count: u32) -> Option<u
 pub fn last_write(session: &mut Session<Rig>, first: u32, count: u32) -> Option<u32>
     requires has { first + count ≤ fixed_places + session.old.machine.setup.central_words }
     ensures write { AtEach rules session.old (λ v. result ≡ last_write first count v) }
-    ensures kept { IfSome result (λ k. k < length session.old.records) }
+    ensures kept { IfSome result (λ k. k < length session.new.records) }
     ensures stays { Moves rules session.old session.new (λ v. v) }
 {
     session.has_session_value();

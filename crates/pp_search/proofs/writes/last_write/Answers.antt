@@ -1,4 +1,4 @@
-use Rattle.std.proofs.Common.{◌≡◌, ◌≤◌, arith, refl}
+use Rattle.std.proofs.Common.{◌≡◌, ◌∙◌, ◌≤◌, arith, length, refl, sym}
 use Rattle.std.specs.Prelude.{unwrap_or}
 use Rattle.pp_history.proofs.Steps.{back_ahead, back_forward, kept_le}
 use Rattle.pp_rig.specs.Rules.{rules}
@@ -23,3 +23,9 @@ returns-clause-stays c = λ v at.
     let within : unwrap_or found.result v.kept ≤ v.kept = undone_within found.result v.kept (rw at.kept at found.ensures.kept) in
     rw (c.unwrap_or.ensures, kept, back_forward v (unwrap_or found.result v.kept) within (kept_le rules c.args.session.now v at)) at
     (c.in-Ok.ensures.moves _ (found.ensures.moves v at))
+
+pub returns-clause-kept : goal.returns-clause-kept
+returns-clause-kept c =
+    let (v, at) = c.has_session_value.ensures in
+    let same : length c.forward.new.self.records ≡ length c.args.session.now.records = (returns-clause-stays c v at).kept ∙ sym at.kept in
+    rw same c.back_to_write-found.ensures.kept
