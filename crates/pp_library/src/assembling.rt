@@ -1,6 +1,8 @@
 //! The assembler and the disassembler for C.
 ghost use Rattle.pp_library.specs.Assembling.{Assembles, Disassembles, LoadsLines, form_text};
-ghost use Rattle.std.specs.Prelude.{◌≡◌, ◌≢◌, ◌↔◌, AllPairs, Any, IfOk, IsTrue};
+ghost use Rattle.pp_notation.specs.Cells.{IsProgram, IsStart};
+ghost use Rattle.pp_source.specs.Places.{IsOfLine, line_lengths};
+ghost use Rattle.std.specs.Prelude.{◌≡◌, ◌≢◌, ◌↔◌, All, AllPairs, Any, IfOk, IsTrue};
 
 use crate::status::{NO_MEMORY, REFUSED};
 use crate::texts::put_text;
@@ -66,6 +68,21 @@ fn texts_of<'a>(alloc: Global, decks: &[CommonDeck<'a>]) -> Result<Vec<Text<'a>>
     Ok(texts)
 }
 
+/// Returns what a source with common decks makes.
+fn assembled_with(
+    alloc: Global,
+    source: &[u8],
+    decks: &[CommonDeck],
+) -> Result<Assembly, AllocError>
+    ensures cells { IfOk result (λ made. IsProgram made.program.cells.items) }
+    ensures start { IfOk result (λ made. IsStart made.program.start) }
+    ensures messages { IfOk result (λ made. All (IsOfLine (line_lengths source.now)) made.messages.items) }
+    ensures warnings { IfOk result (λ made. All (IsOfLine (line_lengths source.now)) made.warnings.items) }
+{
+    let texts = texts_of(alloc, decks)?;
+    assemble_with(alloc, source, &texts)
+}
+
 /// Returns whether a cell has this address.
 fn has_address(cells: &[Cell], address: u16) -> bool
     ensures { IsTrue result ↔ Any (λ cell. cell.address ≡ address) cells.now }
@@ -123,10 +140,7 @@ pub extern "C" fn pp6600_assemble_with(
     if form > UNITS {
         return REFUSED;
     }
-    let Ok(texts) = texts_of(alloc, decks) else {
-        return NO_MEMORY;
-    };
-    let Ok(made) = assemble_with(alloc, source, &texts) else {
+    let Ok(made) = assembled_with(alloc, source, decks) else {
         return NO_MEMORY;
     };
     let Ok(text) = text_of(alloc, &made, form) else {
