@@ -85,7 +85,10 @@ export class Session extends Part {
   type(lines) {
     return this.inTurn(async () => {
       this.isStopped = false;
-      for (const line of lines) if (this.isStopped || !(await this.perform(line))) return this.isStopped;
+      for (const [at, line] of lines.entries()) {
+        if (this.isStopped) this.say(`stopped: ${lines.length - at} lines are left`, true);
+        if (this.isStopped || !(await this.perform(line))) return this.isStopped;
+      }
       return true;
     });
   }
