@@ -106,18 +106,33 @@ fn assembly_of(
     ensures warnings { IfOk result (λ made. All (IsOfLine (map length_of spans.now)) made.warnings.items) }
     ensures meaning { IsFound lines pass.scope.rows.items found → IfOk result IsMeant }
 {
-    let mut units = pass.scope.units;
-    let first = first_program(alloc, &mut units, &pass.scope.cells, pass.scope.start)?;
-    let (program, words, meaning) = output_of(found, first, pass.scope.words);
+    let Pass {
+        scope,
+        vocabulary,
+        ..
+    } = pass;
+    let Scope {
+        mut units,
+        cells,
+        start,
+        words: passed,
+        symbols,
+        rows,
+        messages: wrong,
+        warnings: noticed,
+        ..
+    } = scope;
+    let first = first_program(alloc, &mut units, &cells, start)?;
+    let (program, words, meaning) = output_of(found, first, passed);
     let made = Assembly {
         program,
         meaning,
         others: units,
         lines,
-        symbols: pass.scope.symbols,
-        vocabulary: pass.vocabulary,
+        symbols,
+        vocabulary,
         words,
-        rows: pass.scope.rows,
+        rows,
         messages: Vec::new(alloc),
         warnings: Vec::new(alloc),
     };
@@ -128,9 +143,9 @@ fn assembly_of(
     };
     let messages = match made.meaning {
         Some(_) => Vec::new(alloc),
-        None => complaints(alloc, known, &pass.scope.messages, spans)?,
+        None => complaints(alloc, known, &wrong, spans)?,
     };
-    let warnings = complaints(alloc, known, &pass.scope.warnings, spans)?;
+    let warnings = complaints(alloc, known, &noticed, spans)?;
     Ok(Assembly {
         messages,
         warnings,
