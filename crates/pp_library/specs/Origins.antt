@@ -88,34 +88,42 @@ NextOrigins before after result = MatchOption before.session (OnlyReturns CLOSED
 
 -- ---- pp6600_last_write
 
-pub record LastWriteOuts : Type 0 where
-  pub session : Option Console
+pub record FoundWrite : Type 0 where
   pub newer : ℕ
   pub turn : Made
   pub links : List Link
+
+pub record LastWriteOuts : Type 0 where
+  pub session : Option Console
+  pub found : FoundWrite
 
 -- The machine has so many places from the one with this number on.
 abbrev pub HasPlacesFrom : ℕ → ℕ → Machine → Type 0
 HasPlacesFrom first count s = first + count ≤ fixed_places + s.setup.central_words
 
 -- The action was written that has so many newer ones, with where each number that it wrote comes from.
-pub record TellsKept (v : Value) (newer : ℕ) (after : LastWriteOuts) (result : ℕ) : Type 0 where
+pub record TellsKept (v : Value) (k : ℕ) (after : FoundWrite) (result : ℕ) : Type 0 where
   pub done : result ≡ DONE
-  pub newer : after.newer ≡ newer
-  pub kept : IsKept newer v after.turn after.links
+  pub newer : after.newer ≡ k
+  pub kept : IsKept k v after.turn after.links
   pub within : after.turn.links ≤ length after.links
 
 -- The newest action that can be undone and wrote one of the places was written, or there is none. The session is where it was.
-abbrev pub TellsWrite : ℕ → ℕ → State → State → LastWriteOuts → LastWriteOuts → ℕ → Type 0
+abbrev pub TellsWrite : ℕ → ℕ → State → State → FoundWrite → FoundWrite → ℕ → Type 0
 TellsWrite first count old new before after result =
     (v : Value) → IsAt rules old v → IsAt rules new v × MatchOption (last_write first count v)
-    ((result ≡ NOT_FOUND) × (after ≡ record before { session = after.session }))
-    (λ newer. TellsKept v newer after result)
+    ((result ≡ NOT_FOUND) × (after ≡ before))
+    (λ k. TellsKept v k after result)
 
--- It was searched, or there is too little room, or the machine does not have the places, and nothing is changed.
+-- It was searched, or there is too little room, and nothing is changed.
+unfoldable pub FindsWrite : ℕ → ℕ → State → State → FoundWrite → FoundWrite → ℕ → Type 0
+FindsWrite first count old new before after result =
+    ((MOST_TURN_LINKS ≤ length before.links) × TellsWrite first count old new before after result)
+    ⊎ ((length before.links < MOST_TURN_LINKS) × (new ≡ old) × OnlyReturns ROOM before after result)
+
+-- The machine has the places, or they are refused and nothing is changed.
 abbrev pub LastWrite : ℕ → ℕ → LastWriteOuts → LastWriteOuts → ℕ → Type 0
 LastWrite first count before after result = MatchOption before.session (OnlyReturns CLOSED before after result)
-    (λ old. (HasPlacesFrom first count old.session.machine × (MOST_TURN_LINKS ≤ length before.links)
-    × IsSomeAnd after.session (λ new. TellsWrite first count old.session new.session before after result))
-    ⊎ ((HasPlacesFrom first count old.session.machine × (length before.links < MOST_TURN_LINKS) × OnlyReturns ROOM before after result)
-    ⊎ ((HasPlacesFrom first count old.session.machine → ⊥) × OnlyReturns REFUSED before after result)))
+    (λ old. (HasPlacesFrom first count old.session.machine
+    × IsSomeAnd after.session (λ new. FindsWrite first count old.session new.session before.found after.found result))
+    ⊎ ((HasPlacesFrom first count old.session.machine → ⊥) × OnlyReturns REFUSED before after result))

@@ -1,9 +1,11 @@
 //! Where numbers come from, for C.
-ghost use Rattle.pp_library.specs.Origins.{LastWrite, NextOrigins, TurnsWithOrigins};
+ghost use Rattle.std.specs.Prelude.{◌≡◌, ◌≤◌, length, true};
+ghost use Rattle.pp_library.specs.Origins.{FindsWrite, HasPlacesFrom, LastWrite, NextOrigins, TellsWrite, TurnsWithOrigins};
 
 use crate::handle::Handle;
 use crate::status::{CLOSED, DONE, NOT_FOUND, REFUSED, ROOM, run_status};
-use pp_rig::place_count;
+use pp_history::Session;
+use pp_rig::{Rig, place_count};
 use pp_search::last_write;
 use pp_turn_origins::{
     Link, MOST_CONTROL, MOST_LINKS, MOST_TURN_LINKS, Made, Old, coming, kept_origins, next_control,
@@ -86,27 +88,73 @@ pub extern "C" fn pp6600_last_write(
     links: &mut [Link],
 ) -> u32
     ensures { LastWrite first count
-        (record { session = session.old.value; newer = newer.old; turn = turn.old; links = links.old })
-        (record { session = session.new.value; newer = newer.new; turn = turn.new; links = links.new }) result }
+        (record { session = session.old.value; found = record { newer = newer.old; turn = turn.old; links = links.old } })
+        (record { session = session.new.value; found = record { newer = newer.new; turn = turn.new; links = links.new } }) result }
 {
     let Some(mut console) = session.take(alloc) else {
         return CLOSED;
     };
-    let places = place_count(console.session.machine());
-    let status = if first > places || count > places - first {
+    let status = if !has_places(console.session.machine(), first, count) {
         REFUSED
-    } else if links.len() < MOST_TURN_LINKS {
-        ROOM
     } else {
-        match last_write(&mut console.session, first, count) {
-            Some(k) => {
-                *newer = k;
-                *turn = kept_origins(&mut console.session, k, links);
-                DONE
-            }
-            None => NOT_FOUND,
-        }
+        find_last_write(&mut console.session, first, count, newer, turn, links)
     };
     *session = Handle::of_box(console);
     status
+}
+
+/// Whether a machine has so many places, from one on.
+fn has_places(machine: &Rig, first: u32, count: u32) -> bool
+    ensures has { result ≡ true → HasPlacesFrom first count machine.now }
+    ensures is { HasPlacesFrom first count machine.now → result ≡ true }
+{
+    let places = place_count(machine);
+    first <= places && count <= places - first
+}
+
+/// Writes the newest action that can be undone and wrote one of the places (`DONE`), or returns `NOT_FOUND`, or `ROOM` if
+/// there is too little room.
+#[tactic(auto, unfolding(crate::specs::Origins::FindsWrite))]
+fn find_last_write(
+    session: &mut Session<Rig>,
+    first: u32,
+    count: u32,
+    newer: &mut u32,
+    turn: &mut Made,
+    links: &mut [Link],
+) -> u32
+    requires has { HasPlacesFrom first count session.old.machine }
+    ensures { FindsWrite first count session.old session.new
+        (record { newer = newer.old; turn = turn.old; links = links.old })
+        (record { newer = newer.new; turn = turn.new; links = links.new }) result }
+{
+    if links.len() < MOST_TURN_LINKS {
+        return ROOM;
+    }
+    tell_last_write(session, first, count, newer, turn, links)
+}
+
+/// Writes the newest action that can be undone and wrote one of the places (`DONE`), or returns `NOT_FOUND`.
+fn tell_last_write(
+    session: &mut Session<Rig>,
+    first: u32,
+    count: u32,
+    newer: &mut u32,
+    turn: &mut Made,
+    links: &mut [Link],
+) -> u32
+    requires has { HasPlacesFrom first count session.old.machine }
+    requires room { MOST_TURN_LINKS ≤ length links.old }
+    ensures { TellsWrite first count session.old session.new
+        (record { newer = newer.old; turn = turn.old; links = links.old })
+        (record { newer = newer.new; turn = turn.new; links = links.new }) result }
+{
+    match last_write(session, first, count) {
+        Some(k) => {
+            *newer = k;
+            *turn = kept_origins(session, k, links);
+            DONE
+        }
+        None => NOT_FOUND,
+    }
 }
