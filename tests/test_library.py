@@ -173,6 +173,7 @@ class WrongHands(LibraryCase):
             "back": lambda _, number: session.back(number),
             "forward": lambda _, number: session.forward(number),
             "assemble": lambda _, number: assembler.text(b"", number),
+            "assemble_with": lambda _, number: assembler.text(b"", number, [(b"A", b"")]),
             "load_lines": lambda _, number: assembler.load_lines(b"", number),
             "disassemble": lambda at, number: assembler.disassembled(*(({number: 0}, []), ({0: number}, []), ({0: 0}, [number]))[at]),
             "text_of_status": lambda _, number: library.text_of_status(number, PROVED),
