@@ -13,7 +13,7 @@ module _ {M A : Type 0} where
   after_acts_more count action v = rw add-one refl
 
 -- the action that was kept is that of its head, or else of the newest tail
-put_first : {A R H : Type 0} (unpacked : H → A × R) (head : Option H) (tails tails' : Tails A R) (action : A) (back : R) → 1 ≤ tails.ring.capacity →
+pub put_first : {A R H : Type 0} (unpacked : H → A × R) (head : Option H) (tails tails' : Tails A R) (action : A) (back : R) → 1 ≤ tails.ring.capacity →
     IsKept unpacked head action back tails tails' → first_of unpacked in_tail head tails'.ring.items ≡ Some (action, back)
 put_first unpacked head tails tails' action back room kept =
     let one : tails.ring.capacity ≡ suc (tails.ring.capacity - 1) = omega (arith, room) in

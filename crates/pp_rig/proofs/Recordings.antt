@@ -7,6 +7,8 @@ use Rattle.pp_history.proofs.Steps.{after_steps-more}
 use Rattle.pp_history.specs.SessionLaws.{machine_at}
 use Rattle.pp_history.specs.SessionValue.{AreNewest, IsAt, Moves, SessionValue, after_forward, performed, replay}
 use Rattle.pp_machine.specs.Machine.{Machine}
+use Rattle.pp_history.specs.Recording.{moments_after, olds_after}
+use Rattle.pp_machine.specs.Numbering.{place_number}
 use Rattle.pp_machine.specs.Olds.{numbered}
 use Rattle.pp_machine.specs.Prelude.{Writes}
 use Rattle.pp_machine.specs.declared.place.Place.{Place}
@@ -16,6 +18,7 @@ use Rattle.pp_rig.specs.Action.{next}
 use Rattle.pp_rig.specs.Inner.ActionRecords.{old_values_of}
 use Rattle.pp_rig.specs.Recording.{moment_of, moments_of, olds_of}
 use Rattle.pp_rig.specs.Rules.{rules}
+use Rattle.pp_rig.specs.declared.recording.Moment.{Moment}
 use Rattle.pp_rig.specs.Stopping.{turned}
 use Rattle.pp_rig.specs.Turn.{turn}
 use Rattle.pp_machine.specs.declared.olds.Old.{Old}
@@ -120,3 +123,49 @@ moments_more turns s = rw (add-one, replicate_last, moments_last, performed_turn
 pub olds_more : (turns : ℕ) (s : Machine) →
     olds_of s (replicate (turns + 1) Turn) ≡ olds_of s (replicate turns Turn) ++ numbered (old_values_of (turned turns s) Turn)
 olds_more turns s = rw (add-one, replicate_last, olds_last, performed_turns) refl
+
+-- more turns behind others
+pub moments_add : (turns more : ℕ) (s : Machine) → moments_of s (replicate (turns + more) Turn)
+    ≡ moments_of s (replicate turns Turn) ++ moments_of (turned turns s) (replicate more Turn)
+unfolding moments_of
+moments_add zero more s = let none : zero + more ≡ more = omega arith in rw none refl
+moments_add (suc turns) more s =
+    let next : suc turns + more ≡ suc (turns + more) = omega arith in
+    rw (next, moments_add turns more (turn s), turned-first turns s) refl
+
+pub olds_add : (turns more : ℕ) (s : Machine) → olds_of s (replicate (turns + more) Turn)
+    ≡ olds_of s (replicate turns Turn) ++ olds_of (turned turns s) (replicate more Turn)
+unfolding olds_of
+olds_add zero more s = let none : zero + more ≡ more = omega arith in rw none refl
+olds_add (suc turns) more s =
+    let next : suc turns + more ≡ suc (turns + more) = omega arith in
+    rw next (ap (λ olds. numbered (old_values_of s Turn) ++ olds) (olds_add turns more (turn s) ∙ rw (turned-first turns s) refl)
+    ∙ sym (append_assoc (numbered (old_values_of s Turn)) (olds_of (turn s) (replicate turns Turn)) (olds_of (turned (suc turns) s) (replicate more Turn))))
+
+-- turns that a session recorded as it performed them
+abbrev pub moment_with : ℕ → ℕ → Moment
+moment_with slot count = record { processor = slot; count = count }
+
+abbrev pub old_with : Place × ℕ → Old
+old_with pair = record { place = place_number pair.0; number = pair.1 }
+
+pub moments_are : (turns : ℕ) (s : Machine) → moments_after rules (λ s. s.slot) moment_with turns Turn s ≡ moments_of s (replicate turns Turn)
+unfolding moments_after moments_of
+moments_are zero s = refl
+moments_are (suc turns) s =
+    ap (λ moments. moments ++ moment_of (turned turns s) Turn ∷ []) (moments_are turns s) ∙ sym (rw add-one at (moments_more turns s))
+
+pub olds_are : (turns : ℕ) (s : Machine) → olds_after rules old_with turns Turn s ≡ olds_of s (replicate turns Turn)
+unfolding olds_after olds_of
+olds_are zero s = refl
+olds_are (suc turns) s =
+    ap (λ olds. olds ++ numbered (old_values_of (turned turns s) Turn)) (olds_are turns s) ∙ sym (rw add-one at (olds_more turns s))
+
+-- one turn alone
+pub moments_one : (s : Machine) → moments_of s (replicate 1 Turn) ≡ moment_of s Turn ∷ []
+unfolding moments_of
+moments_one s = refl
+
+pub olds_one : (s : Machine) → olds_of s (replicate 1 Turn) ≡ numbered (old_values_of s Turn)
+unfolding olds_of
+olds_one s = append-nil (numbered (old_values_of s Turn))

@@ -2,6 +2,7 @@
 use Rattle.std.proofs.Common.{◌≡◌, ◌∙◌, ◌+◌, ◌-◌, ◌*◌, ℕ, zero, suc, Bool, false, List, ◌++◌, All, add-one, ap, append-nil, append_assoc, arith, is_some, length, refl, sym, take}
 use Rattle.std.specs.Prelude.{Option, Some, None}
 use Rattle.pp_actions.specs.declared.action.Action.{Action}
+use Rattle.pp_actions.specs.Watches.{watches_of}
 use Rattle.pp_actions.specs.declared.action.Action.TheVariants.{Turn}
 use Rattle.pp_history.specs.Contents.{Contents}
 use Rattle.pp_history.specs.SessionValue.{Moves}
@@ -9,8 +10,9 @@ use Rattle.pp_machine.specs.NumberLaws.{setup-over}
 use Rattle.pp_machine.specs.Prelude.{Has, Machine}
 use Rattle.pp_machine.specs.declared.place.Place.{Place}
 use Rattle.pp_rig.proofs.Overwritten.{next_by_writes}
-use Rattle.pp_rig.proofs.Runs.{after_turns_add, run_in_parts, stopped_once, turns_before}
+use Rattle.pp_rig.proofs.Runs.{after_turns_add, none_watched, run_in_parts, stopped_once, turns_before}
 use Rattle.pp_rig.proofs.Shortest.{turned-first}
+use Rattle.pp_rig.proofs.Turns.{turn-watches}
 use Rattle.pp_rig.specs.Columns.{EndsAsStep, row, rows_of}
 use Rattle.pp_rig.specs.Inner.ActionRecords.{writes}
 use Rattle.pp_rig.specs.Rules.{rules}
@@ -18,6 +20,7 @@ use Rattle.pp_rig.specs.Stopping.{after_turns, hit_of, stopped, turned}
 use Rattle.pp_rig.specs.Turn.{turn}
 use Rattle.pp_rig.specs.declared.rig.RigRecord.{RigRecord}
 use Rattle.pp_rig.specs.declared.stopping.Hit.{Hit}
+use Rattle.pp_rig.specs.declared.stopping.Stopped.{Stopped}
 
 abbrev pub State : Type 0
 State = Contents Machine Action RigRecord
@@ -72,6 +75,54 @@ pub ends_with_hit : (turns : ℕ) (old middle : State) (hit : Bool) → Ran turn
 ends_with_hit turns old middle hit ran is =
     let more = stopped_more turns old.machine ran.stopped in
     (ap (λ done. done.turns) more, ap (λ done. is_some done.hit) more ∙ ap (λ s. is_some (hit_of s)) (sym ran.machine) ∙ sym is)
+
+-- more turns, of which at most the last changed one
+stopped_add : (turns more : ℕ) (s : Machine) → stopped turns s ≡ record { turns = turns; hit = None } →
+    stopped (turns + more) s ≡ turns_before turns (stopped more (turned turns s))
+stopped_add turns more s all =
+    let left : turns + more - turns ≡ more = omega arith in rw (all, left) at (run_in_parts turns (turns + more) s (omega arith))
+
+pub ends_more : (turns more : ℕ) (old middle : State) (hit : Bool) → Ran turns old middle → EndsAsStep more middle.machine hit →
+    EndsAsStep (turns + more) old.machine hit
+unfolding turns_before
+ends_more turns more old middle hit ran ends =
+    let last = rw ran.machine at ends in
+    rw (stopped_add turns more old.machine ran.stopped) (ap (λ (n : ℕ). turns + n) last.0, last.1)
+
+pub moved_add : (turns more : ℕ) (old middle new : State) → Ran turns old middle → Moves rules middle new (after_turns more) →
+    Moves rules old new (after_turns (turns + more))
+moved_add turns more old middle new ran at = λ v is. rw (← after_turns_add turns more v) (at _ (ran.at v is))
+
+turned_add : (turns more : ℕ) (s : Machine) → turned more (turned turns s) ≡ turned (turns + more) s
+turned_add turns zero s = let none : turns + zero ≡ turns = omega arith in rw none refl
+turned_add turns (suc more) s =
+    let next : turns + suc more ≡ suc (turns + more) = omega arith in rw next (ap turn (turned_add turns more s))
+
+not_stopped : (done : Stopped) (turns : ℕ) → done.turns ≡ turns → is_some done.hit ≡ false → done ≡ record { turns = turns; hit = None }
+not_stopped done turns all none = grind (arith, all, no_hit done.hit none)
+
+pub ran_add : (turns more : ℕ) (old middle new : State) (hit : Bool) → Ran turns old middle → Moves rules middle new (after_turns more) →
+    new.machine ≡ turned more middle.machine → EndsAsStep more middle.machine hit → hit ≡ false → Ran (turns + more) old new
+ran_add turns more old middle new hit ran at machine ends none =
+    let last = ends_more turns more old middle hit ran ends in
+    record {
+      at = moved_add turns more old middle new ran at;
+      machine = machine ∙ ap (turned more) ran.machine ∙ turned_add turns more old.machine;
+      stopped = not_stopped (stopped (turns + more) old.machine) (turns + more) last.0 (last.1 ∙ none);
+    }
+
+-- a run stops at no turn if nothing is watched
+stopped_unwatched : (turns : ℕ) (s : Machine) → length (watches_of s) ≡ 0 → stopped turns s ≡ record { turns = turns; hit = None }
+unfolding stopped
+stopped_unwatched zero s none = refl
+stopped_unwatched (suc turns) s none =
+    let same : watches_of (turn s) ≡ watches_of s = grind (arith, turn-watches s) in
+    let later = stopped_unwatched turns (turn s) (ap length same ∙ none) in
+    rw (none_watched s (turn s) (watches_of s) none, later) refl
+
+pub ends_unwatched : (turns : ℕ) (s : Machine) → length (watches_of s) ≡ 0 → EndsAsStep turns s false
+ends_unwatched turns s none =
+    let all = stopped_unwatched turns s none in (ap (λ done. done.turns) all, ap (λ done. is_some done.hit) all)
 
 -- the end, with no such turn
 pub ends_without_hit : (turns : ℕ) (old new : State) → Ran turns old new → EndsAsStep turns old.machine false

@@ -10,14 +10,14 @@ ghost use Rattle.pp_rig.specs.Columns.{EndsAsStep};
 ghost use Rattle.pp_rig.specs.Inner.ActionRecords.{old_values_of};
 ghost use Rattle.pp_rig.specs.Recording.{IsRedone, moment_of, moments_of, olds_of, processor_of};
 ghost use Rattle.pp_rig.specs.Rules.{rules};
-ghost use Rattle.pp_rig.specs.Stopping.{after_turns, hit_of};
+ghost use Rattle.pp_rig.specs.Stopping.{after_turns, hit_of, turned};
 ghost use Rattle.pp_rig.specs.Turn.{turn};
-ghost use Rattle.std.specs.Prelude.{◌≡◌, ◌+◌, ◌<◌, ◌≤◌, ◌++◌, ◌∷◌, ◌⊎◌, ◌↔◌, IfErr, IfOk, IsErr, OnErr, List, false, is_some, length, replicate, take};
+ghost use Rattle.std.specs.Prelude.{◌≡◌, ◌+◌, ◌*◌, ◌<◌, ◌≤◌, ◌++◌, ◌∷◌, ◌⊎◌, ◌↔◌, IfErr, IfOk, IsErr, OnErr, List, false, is_some, length, replicate, take};
 
 use crate::rig::{Rig, put_newest_old_values};
 use crate::stopping::turn_once;
 use pp_actions::Action;
-use pp_history::{BackFault, KeptAction, Session};
+use pp_history::{BackFault, KeptAction, Part, Session};
 use pp_machine::Old;
 
 /// The most places that one action overwrites (decimal).
@@ -94,6 +94,43 @@ fn record_turn(session: &mut Session<Rig>, olds: &mut [Old], used: usize) -> (Mo
     (moment, hit)
 }
 
+/// Performs turns, 1 to `most`, and writes what they overwrote, behind the first `turns` and the first `used` that are there.
+/// Only the last of them may have changed the number of a watched place. If no place is watched, one loop performs all that a
+/// block of the session has room for. Returns also whether the last turn changed one.
+#[inline(always)]
+fn record_part(
+    session: &mut Session<Rig>,
+    most: usize,
+    made: &mut [Moment],
+    turns: usize,
+    olds: &mut [Old],
+    used: usize,
+) -> (Part, bool)
+    requires some { 1 ≤ most }
+    requires made_room { turns + most ≤ length made.old }
+    requires olds_room { used + most * list_room ≤ length olds.old }
+    ensures some { (1 ≤ result.0.count) × (result.0.count ≤ most) }
+    ensures moves { Moves rules session.old session.new (after_turns result.0.count) }
+    ensures machine { session.new.machine ≡ turned result.0.count session.old.machine }
+    ensures stops { EndsAsStep result.0.count session.old.machine result.1 }
+    ensures moments { take (turns + result.0.count) made.new
+        ≡ take turns made.old ++ moments_of session.old.machine (replicate result.0.count Turn) }
+    ensures olds { take result.0.used olds.new
+        ≡ take used olds.old ++ olds_of session.old.machine (replicate result.0.count Turn) }
+    ensures at_most { result.0.used ≤ used + result.0.count * list_room }
+{
+    if session.machine().watches().is_empty() {
+        return (
+            session.repeat_recorded(most, made, turns, olds, used),
+            false,
+        );
+    }
+    let (moment, hit) = record_turn(session, olds, used);
+    made[turns] = moment;
+    let used = used + moment.count as usize;
+    (Part { count: 1, used }, hit)
+}
+
 /// Performs turns until there were `most`, or one changed the number of a watched place, or there is no more room: in
 /// `made` for one turn, or in `olds` for `MOST_OLDS` places. Writes each turn into `made`, and into `olds`, turn after
 /// turn, each place that it overwrote, with the number before the turn. If a place is there twice for one turn, the first
@@ -114,10 +151,10 @@ pub fn record(
     let mut turns = 0;
     let mut used = 0;
     while turns < most && turns < made.len() && olds.len() - used >= MOST_OLDS {
-        let (moment, hit) = record_turn(session, olds, used);
-        made[turns] = moment;
-        turns += 1;
-        used += moment.count as usize;
+        let room = (made.len() - turns).min((olds.len() - used) / MOST_OLDS);
+        let (part, hit) = record_part(session, room.min(most - turns), made, turns, olds, used);
+        turns += part.count;
+        used = part.used;
         if hit {
             return Recorded {
                 turns,

@@ -3,13 +3,13 @@
 
 ghost use Rattle.std.specs.Prelude.{◌≡◌, ◌+◌, ◌<◌, ◌≤◌, ◌++◌, ◌∷◌, [], length, take, ℕ};
 ghost use Rattle.pp_machine.specs.Olds.{numbered};
-ghost use Rattle.pp_machine.specs.Prelude.{renamed, state_number, words_of};
+ghost use Rattle.pp_machine.specs.Prelude.{renamed, state_number, words_of, written};
 ghost use Rattle.pp_machine.specs.Ranges.{past_sixty_bits, twelve_bits};
 ghost use Rattle.pp_arith.specs.Words60.{split60};
 ghost use Rattle.pp_step.specs.Exchange.{frame_pairs, word_pairs};
 ghost use Rattle.pp_step.specs.Pairs.{Fits, FitsTarget, exchange_pairs, pairs, target_pairs};
 ghost use Rattle.pp_step.specs.Step.{FitsPp, most_short_places, most_step_places, pp_pairs};
-ghost use Rattle.pp_step.specs.{Rows.five_cells, View.pp_place, Words.cell_after as cell_at};
+ghost use Rattle.pp_step.specs.{Rows.five_cells, View.Phase, View.Q, View.pp_place, Words.cell_after as cell_at};
 
 use crate::cells::cell_after;
 use crate::package::central_after;
@@ -60,11 +60,25 @@ impl StepRecord {
         let used = put_old_if(olds, used, self.target.writes_p(), Place::RegP { pp }, p);
         let a = u64::from(self.a.get());
         let used = put_old_if(olds, used, self.writes_a, Place::RegA { pp }, a);
+        let used = self.put_transfer(pp, olds, used);
+        self.put_target(pp, olds, used)
+    }
+
+    /// Writes Q and the phase. Most steps write neither, and the processor predicts that.
+    #[inline(always)]
+    fn put_transfer(&self, pp: u8, olds: &mut [Old], used: usize) -> usize
+        requires { used + 2 ≤ length olds.old }
+        ensures items { take result olds.new ≡ take used olds.old ++ numbered (renamed (pp_place pp)
+            (written self.now.writes_q Q self.now.q (written self.now.writes_phase Phase self.now.phase []))) }
+        ensures at_most { result ≤ used + 2 }
+    {
+        if !self.writes_q && !self.writes_phase {
+            return used;
+        }
         let q = u64::from(self.q);
         let used = put_old_if(olds, used, self.writes_q, Place::RegQ { pp }, q);
         let phase = u64::from(self.phase);
-        let used = put_old_if(olds, used, self.writes_phase, Place::Phase { pp }, phase);
-        self.put_target(pp, olds, used)
+        put_old_if(olds, used, self.writes_phase, Place::Phase { pp }, phase)
     }
 
     /// Writes the places of the target, with their old numbers.

@@ -53,8 +53,9 @@ impl ShortTurn {
         ensures items { take result olds.new ≡ take used olds.old ++ numbered (record_pairs (whole self.now)) }
         ensures at_most { result ≤ used + most_turn_places }
     {
-        let used = self.pp.put_old_values(self.rest.slot, olds, used);
-        self.rest.put_old_values(olds, used)
+        let slot = self.rest.slot;
+        let used = self.pp.put_old_values(slot, olds, used);
+        self.rest.put_old_values(slot, olds, used)
     }
 }
 
@@ -68,28 +69,31 @@ impl TurnRecord {
         ensures items { take result olds.new ≡ take used olds.old ++ numbered (turn_pairs self.now) }
         ensures at_most { result ≤ used + most_turn_places }
     {
-        let used = self.pp.put_old_values(self.rest.slot, olds, used);
-        self.rest.put_old_values(olds, used)
+        let slot = self.rest.slot;
+        let used = self.pp.put_old_values(slot, olds, used);
+        self.rest.put_old_values(slot, olds, used)
     }
 }
 
 impl TurnRest {
-    /// Writes each place that the devices, the clock and the slot overwrote, with its old number.
+    /// Writes each place that the devices, the clock and the slot overwrote, with its old number. Takes the slot, so a turn
+    /// reads it once.
     #[inline(always)]
     #[tactic(auto, using(crate::proofs::OldValues::old_value_lists), unfolding(crate::specs::Inner::TurnRecords::rest_pairs))]
-    fn put_old_values(&self, olds: &mut [Old], used: usize) -> usize
-        requires { used + most_rest_places ≤ length olds.old }
+    fn put_old_values(&self, slot: u8, olds: &mut [Old], used: usize) -> usize
+        requires slot { slot ≡ self.now.slot }
+        requires room { used + most_rest_places ≤ length olds.old }
         ensures items { take result olds.new ≡ take used olds.old ++ numbered (rest_pairs self.now) }
         ensures at_most { result ≤ used + most_rest_places }
     {
         let used = self.put_devices(olds, used);
         // The processor predicts this branch, which only each tenth turn takes.
-        let used = if self.slot == 9 {
+        let used = if slot == 9 {
             put_old(olds, used, Place::Clock, u64::from(self.clock))
         } else {
             used
         };
-        put_old(olds, used, Place::Slot, u64::from(self.slot))
+        put_old(olds, used, Place::Slot, u64::from(slot))
     }
 
     /// Writes each place that the devices overwrote, with its old number.
@@ -144,6 +148,18 @@ fn put_restarted(numbers: &[u32], olds: &mut [Old], used: usize) -> usize
     ensures at_most { result ≤ used + list_room }
 {
     put_olds(olds, used, renumbered(numbers).as_slice())
+}
+
+/// Does what `RigRecord::put_old_values` does. This is a separate function, so turns with a head need not save the registers
+/// that it needs.
+#[inline(never)]
+pub(super) fn put_tail(back: &RigRecord, olds: &mut [Old], used: usize) -> usize
+    requires fits { (s : Machine) × FitsRecord back.now s }
+    requires room { used + list_room ≤ length olds.old }
+    ensures items { take result olds.new ≡ take used olds.old ++ numbered (record_pairs back.now) }
+    ensures at_most { result ≤ used + list_room }
+{
+    back.put_old_values(olds, used)
 }
 
 /// Writes the old values of the newest action into a slice: each place that it wrote, by its number, with its number before,

@@ -1,4 +1,4 @@
-use Rattle.pp_rig.proofs.Names.{◌≡◌, ◌||◌, ◌∙◌, false, sym, unpacked, whole_turn}
+use Rattle.pp_rig.proofs.Names.{◌∙◌, sym, whole_turn}
 use Rattle.pp_rig.proofs.Marks.{not_in_turn, step_unmarked, third_unset}
 use Rattle.pp_rig.proofs.rig.ShortTurn.may_be_marked.Goals as goal
 
