@@ -74,7 +74,7 @@ impl Writer<'_> {
 
     /// Writes the text of a fault, with its arguments.
     fn fault(&mut self, fault: Fault) -> Result<(), AllocError> {
-        let mut rest = fault.text;
+        let mut rest = fault.text.text();
         let Fault {
             first,
             second,
@@ -97,7 +97,7 @@ impl Writer<'_> {
         match argument {
             Argument::Nothing => Ok(()),
             Argument::Part(part) => self.text(part.of(self.line)),
-            Argument::Text(text) => self.text(text.as_bytes()),
+            Argument::Text(text) => self.text(text.text().as_bytes()),
             Argument::Symbol(b'\t') => self.text(b"\\t"),
             Argument::Symbol(symbol) => self.text(&[symbol]),
             Argument::Octal(number) => put_octal(&mut self.out, number, 1),

@@ -1,4 +1,8 @@
 //! Common decks: texts that XTEXT and *CALL read by their names.
+ghost use Rattle.std.specs.Prelude.{◌≡◌, ◌++◌, ◌∷◌, [], IfOk, map};
+ghost use Rattle.std.specs.Char.{to_ascii_uppercase};
+ghost use Rattle.pp_source.specs.Decks.{first_named, is_named, name_of};
+
 use crate::lines::without_returns;
 use crate::scan::{is_empty, is_space, length_without_blanks, tail};
 use crate::spans::Span;
@@ -12,24 +16,34 @@ pub struct Text<'a> {
 }
 
 /// A deck whose lines have been read.
-#[derive(Clone, Copy)]
-struct Deck {
-    name: Span,
-    lines: Span,
+#[derive(Drop)]
+pub struct Deck {
+    /// In capitals.
+    pub name: Vec<u8>,
+    /// Where its lines are, of all lines.
+    pub lines: Span,
 }
 
 /// The decks that a source may read.
 #[derive(Drop)]
 pub struct Decks {
-    /// Their names, in capitals.
-    names: Vec<u8>,
-    all: Vec<Deck>,
+    pub all: Vec<Deck>,
+}
+
+impl Deck {
+    /// Returns whether this is the name of the deck, in capitals.
+    fn is_named(&self, name: &[u8]) -> bool
+        ensures { result ≡ is_named name.now self.now }
+    {
+        self.name.as_slice() == name
+    }
 }
 
 impl Decks {
-    pub fn new(alloc: Global) -> Self {
+    pub(crate) fn new(alloc: Global) -> Self
+        ensures { result.all.items ≡ [] }
+    {
         Decks {
-            names: Vec::new(alloc),
             all: Vec::new(alloc),
         }
     }
@@ -39,20 +53,19 @@ impl Decks {
     }
 
     /// Adds a deck, whose lines are these of all lines.
-    pub fn add(&mut self, name: &[u8], lines: Span) -> Result<(), AllocError> {
-        let first = self.names.len();
-        for letter in name {
-            self.names.push(letter.to_ascii_uppercase())?;
-        }
-        let name = Span::new(first, self.names.len());
+    pub(crate) fn add(&mut self, alloc: Global, name: &[u8], lines: Span) -> Result<(), AllocError>
+        ensures names { IfOk result (λ _. map name_of self.new.all.items ≡
+            map name_of self.old.all.items ++ map to_ascii_uppercase name.now ∷ []) }
+    {
+        let name = name.to_ascii_uppercase(alloc)?;
         Ok(self.all.push(Deck { name, lines })?)
     }
 
-    /// Returns where the lines of the first deck with a name are. No deck is without a name.
-    pub fn find(&self, name: &[u8]) -> Option<Span> {
-        let mut all = self.all.iter();
-        let deck = all.find(|deck| !name.is_empty() && deck.name.of(&self.names) == name)?;
-        Some(deck.lines)
+    /// Returns the index of the first deck with a name, in capitals.
+    pub fn find(&self, name: &[u8]) -> Option<usize>
+        ensures { result ≡ first_named name.now self.now.all.items }
+    {
+        self.all.iter().position(|deck| deck.is_named(name))
     }
 }
 

@@ -5,13 +5,10 @@ use crate::scan::{
 };
 use crate::texts::text_at;
 use crate::vocabulary::Vocabulary;
+use crate::wordings::Wording;
 
 const TAB: usize = 8;
 
-const NOTHING_BEFORE: &str =
-    "a line that begins with a , continues a statement, and there is none before it";
-/// The column, from 0, from which on no operand begins.
-const FIRST_OF_COMMENTS: usize = 29;
 /// The fields of a statement. The column of one that is missing is that of the field before it.
 #[derive(Clone, Copy)]
 pub struct Statement {
@@ -123,7 +120,7 @@ fn operand_of(
     };
     let start = after_blanks(line, operation.end);
     let is_apart = start > operation.end.saturating_add(1)
-        && column_on_paper(line, start) >= FIRST_OF_COMMENTS;
+        && column_on_paper(line, start) >= vocabulary.comments;
     if start >= line.len() || is_apart && !matches!(origin, Origin::Made) {
         return Ok(Field::new(operation.first, operation.first));
     }
@@ -146,7 +143,7 @@ pub fn statement_of(
 ) -> Outcome<Option<Statement>> {
     match line {
         [b'*', ..] => return Ok(None),
-        [b',', ..] => return Err(Fault::new(NOTHING_BEFORE).at(0)),
+        [b',', ..] => return Err(Fault::new(Wording::NothingToContinue).at(0)),
         _ if is_empty(line) => return Ok(None),
         _ => {}
     }

@@ -17,8 +17,9 @@ mod spans;
 mod symbols;
 mod texts;
 mod vocabulary;
+mod wordings;
 
-pub use decks::{Decks, Text};
+pub use decks::{Deck, Decks, Text};
 pub use fields::{FirstParts, Origin, Parts, Statement, first_parts, statement_of};
 pub use here::Here;
 pub use lines::{Call, Join, Line, Lines, cut_lines, read_lines};
@@ -27,7 +28,7 @@ pub use numbers::{Number, counter_of, decoded, number_of, product, shifted};
 pub use openings::Opening;
 pub use operations::{Elsewhere, OPERATIONS, Operation, is_operation, operation_of};
 pub use orders::Order;
-pub use replacing::split;
+pub use replacing::{split, split_nested};
 pub use scan::{
     after_blanks, cut, digits_of, end_of_word, find, is_alphanumeric, is_blank, is_empty,
     length_without_blanks, next_where, tail,
@@ -35,4 +36,5 @@ pub use scan::{
 pub use spans::Span;
 pub use symbols::{Definition, Place, Symbol, Symbols, end_of_name};
 pub use texts::{DisplayText, are_in_code, before_mark, code_of, no_code, text_at};
-pub use vocabulary::{Macro, Meaning, Remote, Vocabulary};
+pub use vocabulary::{FIRST_OF_COMMENTS, Macro, Meaning, Remote, Vocabulary};
+pub use wordings::Wording;

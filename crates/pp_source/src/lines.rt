@@ -1,5 +1,6 @@
 //! The statements of a source and of its common decks: their lines, each with those that continue it, and those that SUBR makes.
 ghost use Rattle.std.specs.Prelude.{◌≡◌, IfOk, map};
+ghost use Rattle.pp_source.specs.Decks.{AreOf};
 ghost use Rattle.pp_source.specs.Places.{length_of, line_lengths};
 
 use crate::decks::{Decks, Text, up_to_endx};
@@ -62,7 +63,6 @@ pub struct Lines {
     pub source: Span,
     /// How many lines no other one made: those of SUBR, of the source and of its decks.
     pub own: usize,
-    pub decks: Decks,
 }
 
 impl Lines {
@@ -74,7 +74,6 @@ impl Lines {
             all: Vec::new(alloc),
             source: Span::none(),
             own: 0,
-            decks: Decks::new(alloc),
         }
     }
 
@@ -210,12 +209,11 @@ impl Lines {
         Ok(Span::new(first, self.all.len()))
     }
 
-    /// Adds a common deck.
-    fn add_deck(&mut self, alloc: Global, deck: &Text) -> Result<(), AllocError> {
-        let text = without_mark(deck.lines);
+    /// Adds the lines of a common deck, and returns where they are.
+    fn add_deck(&mut self, alloc: Global, text: &[u8]) -> Result<Span, AllocError> {
+        let text = without_mark(text);
         let spans = cut_lines(alloc, text)?;
-        let lines = self.add_lines(text, up_to_endx(text, &spans))?;
-        self.decks.add(deck.name, lines)
+        self.add_lines(text, up_to_endx(text, &spans))
     }
 }
 
@@ -253,21 +251,26 @@ pub fn cut_lines(alloc: Global, source: &[u8]) -> Result<Vec<Span>, AllocError>
     Ok(spans)
 }
 
-/// Returns the lines of SUBR, those of a source and those of its common decks, each with those that continue it.
+/// Returns the lines of SUBR, those of a source and those of its common decks, each with those that continue it, and the decks.
 pub fn read_lines(
     alloc: Global,
     source: &[u8],
     spans: &[Span],
-    decks: &[Text],
-) -> Result<Lines, AllocError> {
+    texts: &[Text],
+) -> Result<(Lines, Decks), AllocError>
+    ensures decks { IfOk result (λ read. AreOf texts.now read.1.all.items) }
+{
     let mut lines = Lines::new(alloc);
     for line in &SUBR {
         lines.add_line(0, line)?;
     }
     lines.source = lines.add_lines(source, spans)?;
-    for deck in decks {
-        lines.add_deck(alloc, deck)?;
+    let mut decks = Decks::new(alloc);
+    for index in 0..texts.len() {
+        let Text { name, lines: text } = texts[index];
+        let read = lines.add_deck(alloc, text)?;
+        decks.add(alloc, name, read)?;
     }
     lines.own = lines.all.len();
-    Ok(lines)
+    Ok((lines, decks))
 }

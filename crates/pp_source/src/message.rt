@@ -1,5 +1,6 @@
 //! What is wrong in a source.
 pub use crate::spans::Span as Field;
+use crate::wordings::Wording;
 use std::alloc::{AllocError, AllocFailed};
 
 /// What stands in the text of a fault in place of a `{}`.
@@ -8,7 +9,7 @@ pub enum Argument {
     Nothing,
     /// A part of the statement's line.
     Part(Field),
-    Text(&'static str),
+    Text(Wording),
     Symbol(u8),
     Octal(i64),
     /// An address, in four octal digits.
@@ -33,7 +34,7 @@ pub enum Argument {
 /// What is wrong: a text, and what stands in it in place of each `{}`.
 #[derive(Clone, Copy)]
 pub struct Fault {
-    pub text: &'static str,
+    pub text: Wording,
     pub first: Argument,
     pub second: Argument,
     pub third: Argument,
@@ -42,7 +43,7 @@ pub struct Fault {
 
 impl Fault {
     /// Returns a fault without arguments.
-    pub fn new(text: &'static str) -> Self {
+    pub fn new(text: Wording) -> Self {
         Fault {
             text,
             first: Argument::Nothing,
@@ -75,7 +76,7 @@ impl Fault {
     /// Returns the fault with a part of the line that may be empty.
     pub fn part_or_nothing(self, part: Field) -> Self {
         if part.is_empty() {
-            self.with(Argument::Text("nothing"))
+            self.with(Argument::Text(Wording::Nothing))
         } else {
             self.part(part)
         }
@@ -119,7 +120,7 @@ pub type Outcome<T = ()> = Result<T, Stop>;
 
 impl Stop {
     /// Returns a fault at the first column of a part, which is its argument.
-    pub fn of(text: &'static str, part: Field) -> Self {
+    pub fn of(text: Wording, part: Field) -> Self {
         Fault::new(text).part(part).at(part.first)
     }
 
@@ -131,13 +132,13 @@ impl Stop {
         }
     }
 
-    pub fn too_much(text: &'static str) -> Self {
+    pub fn too_much(text: Wording) -> Self {
         Stop::TooMuch(Fault::new(text))
     }
 
     /// Returns that this assembler does not know a part of the line yet.
     pub fn not_yet(part: Field) -> Self {
-        let fault = Fault::new("{} is not taken by this assembler yet");
+        let fault = Fault::new(Wording::NotTakenYet);
         Stop::Ends(part.first, fault.part(part))
     }
 }

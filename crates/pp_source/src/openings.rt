@@ -1,6 +1,7 @@
 //! Statements that other lines belong to.
 use crate::message::Field;
 use crate::orders::Order;
+use crate::wordings::Wording;
 
 /// What begins a block.
 #[derive(Clone, Copy)]
@@ -28,11 +29,16 @@ impl Opening {
 
     /// Returns the operation that ends the block.
     pub fn end(self) -> &'static str {
+        self.ending().text()
+    }
+
+    /// Returns what a message calls the operation that ends the block.
+    pub fn ending(self) -> Wording {
         match self {
-            Opening::Repeat | Opening::Echo => "ENDD",
-            Opening::Macro { .. } => "ENDM",
-            Opening::Remote => "RMT",
-            _ => "ENDIF",
+            Opening::Repeat | Opening::Echo => Wording::EndsRepeat,
+            Opening::Macro { .. } => Wording::EndsMacro,
+            Opening::Remote => Wording::EndsRemote,
+            _ => Wording::EndsIf,
         }
     }
 

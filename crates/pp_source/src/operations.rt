@@ -1,9 +1,11 @@
 //! The operations that are no instructions.
 use crate::openings::Opening;
 use crate::orders::Order;
+use crate::wordings::Wording;
 use Operation::{
     Base, Bits, Block, Data, Deck, End, Equate, Error, Expressions, Greatest, Ignored, Inside,
-    Least, Lines, Literals, Location, Origin, Qualifier, Refused, Set, Shortest, Space, Use, Zeros,
+    Least, Lines, Literals, Location, Origin, Position, Qualifier, Refused, Set, Shortest, Space,
+    TextCode, Use, Zeros,
 };
 use pp_notation::code_of;
 
@@ -19,6 +21,8 @@ pub enum Operation {
     Expressions,
     Data,
     Bits,
+    /// POS.
+    Position,
     Text,
     Zeros,
     Space,
@@ -32,6 +36,8 @@ pub enum Operation {
     Error(Option<Order>),
     Name,
     Base,
+    /// CODE.
+    TextCode,
     Deck,
     End,
     /// What makes no words here.
@@ -48,7 +54,7 @@ pub enum Operation {
     /// What is only within a block.
     Inside,
     /// What is never taken, and what to write instead.
-    Refused(&'static str),
+    Refused(Wording),
     /// No operation that is known.
     Unknown,
 }
@@ -60,15 +66,18 @@ pub enum Elsewhere {
     Here,
     Synonym,
     Purge,
+    /// STOPDUP.
+    Stop,
+    /// COL.
+    Column,
 }
 
-const NO_SUCH_INSTRUCTION: &str = "the 6600 has no such instruction";
-
 /// The operations that are no instructions, each with its names.
-pub static OPERATIONS: [(&str, Operation); 61] = [
+pub static OPERATIONS: [(&str, Operation); 63] = [
     ("CON", Expressions),
     ("DATA", Data),
     ("VFD", Bits),
+    ("POS", Position),
     ("DIS", Operation::Text),
     ("BSSZ", Zeros),
     ("BSS", Space),
@@ -85,12 +94,13 @@ pub static OPERATIONS: [(&str, Operation); 61] = [
     ("ERRMI ERRNG", Error(Some(Order::Less))),
     ("IDENT", Operation::Name),
     ("BASE", Base),
+    ("CODE", TextCode),
     ("PERIPH", Deck),
     ("END", End),
     ("LDK", Shortest(0o14, 0o15, 0o20)),
     ("ADK", Shortest(0o16, 0o17, 0o21)),
     (
-        "ABS SST ENTRY TITLE TTL SPACE EJECT LIST NOREF XREF COMMENT CTEXT ENDX NOLABEL NIL",
+        "ABS SST ENTRY TITLE TTL SPACE EJECT LIST NOREF XREF COMMENT CTEXT ENDX NOLABEL NIL SEG LCC",
         Ignored,
     ),
     ("USE", Use),
@@ -121,17 +131,17 @@ pub static OPERATIONS: [(&str, Operation); 61] = [
     ("HERE", Lines(Elsewhere::Here)),
     ("OPSYN", Lines(Elsewhere::Synonym)),
     ("PURGMAC", Lines(Elsewhere::Purge)),
-    ("ENDIF ELSE ENDD ENDM LOCAL IRP STOPDUP", Inside),
-    ("OPDEF PPOP", Refused("use MACRO")),
-    ("EXT", Refused("use EQU")),
-    ("COL", Refused("comments begin in column 30")),
-    ("POS", Refused("use VFD")),
-    ("SEG SEGMENT ORGC", Refused("use ORG")),
-    ("STEXT", Refused("use XTEXT")),
-    ("PPU", Refused("that is another machine")),
+    ("STOPDUP", Lines(Elsewhere::Stop)),
+    ("COL", Lines(Elsewhere::Column)),
+    ("ENDIF ELSE ENDD ENDM LOCAL IRP", Inside),
+    ("OPDEF PPOP", Refused(Wording::UseMacro)),
+    ("EXT", Refused(Wording::UseEqu)),
+    ("SEGMENT ORGC", Refused(Wording::UseOrg)),
+    ("STEXT", Refused(Wording::UseXtext)),
+    ("PPU", Refused(Wording::OtherMachine)),
     (
         "MXN MAN SCF CCF SFM CFM IAPM OAPM",
-        Refused(NO_SUCH_INSTRUCTION),
+        Refused(Wording::NoSuchInstruction),
     ),
 ];
 

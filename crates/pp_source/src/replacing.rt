@@ -1,6 +1,6 @@
 //! Lines that are made of others, with what is given for the names in these.
 use crate::message::Outcome;
-use crate::scan::{cut, is_alphanumeric};
+use crate::scan::{cut, is_alphanumeric, next_where};
 use crate::spans::Span;
 use crate::vocabulary::{Meaning, Vocabulary};
 use pp_notation::put_octal;
@@ -12,6 +12,27 @@ pub fn split(kept: &[u8], list: Span) -> (Span, Option<Span>) {
     let end = list.first.saturating_add(item.len());
     let others = others.map(|_| Span::new(end.saturating_add(1), list.end));
     (Span::new(list.first, end), others)
+}
+
+/// Returns the first item of a list that is kept, without its parentheses, and the others, if there are some. A comma in parentheses is
+/// within an item.
+pub fn split_nested(kept: &[u8], list: Span) -> (Span, Option<Span>) {
+    let text = list.of(kept);
+    let mut depth: u32 = 0;
+    let end = next_where(text, 0, |symbol| {
+        match symbol {
+            b'(' => depth = depth.saturating_add(1),
+            b')' => depth = depth.saturating_sub(1),
+            _ => {}
+        }
+        depth == 0 && *symbol == b','
+    });
+    let others = (end < text.len()).then_some(list.part(end.saturating_add(1), text.len()));
+    let item = match Span::new(0, end).of(text) {
+        [b'(', .., b')'] => list.part(1, end.saturating_sub(1)),
+        _ => list.part(0, end),
+    };
+    (item, others)
 }
 
 impl Vocabulary {

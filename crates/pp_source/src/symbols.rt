@@ -3,6 +3,7 @@ use crate::index::{Index, number_of_name};
 use crate::message::{Argument, Fault, Field, Outcome, Stop};
 use crate::scan::next_where;
 use crate::spans::Span;
+use crate::wordings::Wording;
 use std::alloc::{AllocError, Global};
 
 /// How many characters a symbol has.
@@ -191,15 +192,13 @@ impl Symbols {
         let name = field.of(line);
         if end_of_name(name, 0) != Some(name.len()) {
             let text = match name.first() {
-                Some(b'$' | b'=' | b'0'..=b'9') => {
-                    "{} is no symbol: a symbol begins with no digit, $ or ="
-                }
-                _ => "{} is no symbol: a symbol has none of + - * / , ^ ( ) _ \"",
+                Some(b'$' | b'=' | b'0'..=b'9') => { Wording::WrongFirstSymbol }
+                _ => Wording::WrongSymbol,
             };
             return Err(Stop::of(text, field));
         }
         if name.len() > LONGEST {
-            return Err(Stop::of("the symbol {} is longer than 8 characters", field));
+            return Err(Stop::of(Wording::LongSymbol, field));
         }
         let Some(index) = self.index_of(self.prefix(), name) else {
             return self.add(name, definition);
@@ -210,7 +209,7 @@ impl Symbols {
         if let Some(old) = symbol.seen
             && !(definition.is_set && old.is_set)
         {
-            let fault = Fault::new("{} is defined twice: line {} (decimal) has it too");
+            let fault = Fault::new(Wording::DefinedTwice);
             return Err(fault.part(field).decimal(old.line).at(field.first));
         }
         symbol.seen = Some(definition);
@@ -248,13 +247,13 @@ impl Symbols {
         match symbol.and_then(|symbol| symbol.before) {
             Some(later) if !at.is_from_above && !later.is_set => Ok(later),
             Some(later) => {
-                let fault = Fault::new("{} is defined only later, in line {} (decimal)");
+                let fault = Fault::new(Wording::DefinedLater);
                 Err(fault.part(at.name).decimal(later.line).at(at.column))
             }
             None if !at.is_from_above && !is_last => Ok(Definition::address(0)),
             None if self.is_passed_over(name) => Err(Stop::Follows),
             None => {
-                let fault = Fault::new("{} is not defined{}").part(at.name);
+                let fault = Fault::new(Wording::NotDefined).part(at.name);
                 Err(fault.with(Argument::NearestSymbol(at.name)).at(at.column))
             }
         }

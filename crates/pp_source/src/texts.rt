@@ -2,6 +2,7 @@
 use crate::message::{Fault, Outcome};
 use crate::numbers::product;
 use crate::scan::{digits_of, find, is_alphanumeric, is_blank, next_where, tail};
+use crate::wordings::Wording;
 pub use pp_notation::code_of_symbol as code_of;
 
 /// How many symbols a line has. Blanks at its end may be lost.
@@ -94,7 +95,7 @@ fn counted(line: &[u8], at: usize, kind: u8, first: usize, count: u32) -> Outcom
         next_where(line, first, |symbol| is_blank(*symbol) || *symbol == b',')
     };
     if end > line.len().max(LONGEST) {
-        let fault = Fault::new("the line ends before the text has {} (decimal) symbols");
+        let fault = Fault::new(Wording::ShortText);
         return Err(fault.decimal(count).at(at));
     }
     let end = end.min(line.len());
@@ -104,14 +105,14 @@ fn counted(line: &[u8], at: usize, kind: u8, first: usize, count: u32) -> Outcom
 
 /// Returns the symbols before a mark. Without it, a column has a fault.
 pub fn before_mark(text: &[u8], mark: u8, column: usize) -> Outcome<&[u8]> {
-    let fault = Fault::new("the text has no {} at its end").symbol(mark);
+    let fault = Fault::new(Wording::TextWithoutEnd).symbol(mark);
     let end = find(text, 0, mark).ok_or(fault.at(column))?;
     Ok(text.get(..end).unwrap_or(b""))
 }
 
 /// Returns that a symbol has no display code.
 pub fn no_code(symbol: u8) -> Fault {
-    Fault::new("display code has no '{}'").symbol(symbol)
+    Fault::new(Wording::NoDisplayCode).symbol(symbol)
 }
 
 /// Returns that a column has a fault if a symbol of a text has no display code.

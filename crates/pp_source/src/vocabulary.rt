@@ -34,6 +34,9 @@ pub struct Remote {
     pub lines: Span,
 }
 
+/// The column, from 0, from which on no operand begins if COL says nothing else.
+pub const FIRST_OF_COMMENTS: usize = 29;
+
 /// The names that a source gives, with what they stand for. Their texts are in one.
 #[derive(Drop)]
 pub struct Vocabulary {
@@ -53,6 +56,8 @@ pub struct Vocabulary {
     pub lists: Vec<Meaning>,
     /// The line that is being made.
     pub made: Vec<u8>,
+    /// The column, from 0, from which on no operand begins.
+    pub comments: usize,
 }
 
 impl Vocabulary {
@@ -68,6 +73,7 @@ impl Vocabulary {
             values: Vec::new(alloc),
             lists: Vec::new(alloc),
             made: Vec::new(alloc),
+            comments: FIRST_OF_COMMENTS,
         }
     }
 

@@ -4,15 +4,13 @@ use crate::scope::{CELLS, Scope};
 use crate::values::{Base, Value};
 use pp_source::{
     Argument, Definition, Fault, Field, Here, Operation, Order, Outcome, Parts, Statement, Stop,
-    find, first_parts,
+    Wording, find, first_parts,
 };
-
-const BASE_WANTED: &str = "BASE takes OCTAL, DECIMAL, MIXED or, after one of these, *; not {}";
 
 /// Returns that an operation has no operand, if it has none.
 pub fn wants_operand(statement: Statement) -> Outcome {
     if statement.operand.is_empty() {
-        let text = "{} wants an operand; in column 30 or later is a comment";
+        let text = Wording::OperandWanted;
         return Err(Stop::of(text, statement.operation));
     }
     Ok(())
@@ -24,7 +22,7 @@ pub fn the_only(here: &Here, statement: Statement) -> Outcome<Field> {
     let found = first_parts(here.text, statement.operand, false)?;
     let [first, second, _] = found.parts;
     if found.count > 1 {
-        let fault = Fault::new("{} takes one operand").part(statement.operation);
+        let fault = Fault::new(Wording::OneOperandTaken).part(statement.operation);
         return Err(fault.at(second.first));
     }
     Ok(first)
@@ -58,7 +56,7 @@ impl Scope {
         let location = self.location.wrapping_add(count);
         self.move_to(self.origin.wrapping_add(count), location);
         if count < 0 {
-            let fault = Fault::new("warning: BSS goes back by {} (octal) cells");
+            let fault = Fault::new(Wording::SpaceGoesBack);
             let fault = fault.octal(count.wrapping_neg());
             self.warn(here, statement.operand.first, fault)?;
             self.over_from = Some(self.origin);
@@ -71,7 +69,7 @@ impl Scope {
         let operand = the_only(here, statement)?;
         let number = self.count(here, operand, 0)?;
         if let Some(block) = self.named_block() {
-            let fault = Fault::new("warning: ORG in the block {} goes on in the nominal block");
+            let fault = Fault::new(Wording::OriginInBlock);
             let fault = fault.with(Argument::Kept(block));
             self.warn(here, statement.operation.first, fault)?;
             self.use_block(b"")?;
@@ -119,7 +117,7 @@ impl Scope {
     /// EQU, =, SET, MAX and MIN name the number of an expression; a name whose expression is wrong has none.
     pub fn equate(&mut self, here: &Here, statement: Statement, operation: Operation) -> Outcome {
         if statement.location.is_empty() {
-            return Err(Stop::of("{} wants a symbol before it", statement.operation));
+            return Err(Stop::of(Wording::SymbolWanted, statement.operation));
         }
         let chosen = match operation {
             Operation::Greatest => self.chosen(here, statement, true),
@@ -165,7 +163,7 @@ impl Scope {
             None => true,
         };
         if is_error && self.is_last {
-            let text = "{}: the source says that this is an error";
+            let text = Wording::SourceSaysError;
             return Err(Stop::of(text, statement.operation));
         }
         Ok(())
@@ -200,9 +198,19 @@ impl Scope {
                 self.base = Some(base);
             }
             (None, None) => {
-                let fault = Fault::new(BASE_WANTED).part_or_nothing(statement.operand);
+                let fault = Fault::new(Wording::BaseWanted).part_or_nothing(statement.operand);
                 return Err(fault.at(statement.operand.first));
             }
+        }
+        self.plain_row(here, false)
+    }
+
+    /// CODE says in which code texts are: DISPLAY, or *, the one before. There is no other here.
+    pub fn set_code(&mut self, here: &Here, statement: Statement) -> Outcome {
+        wants_operand(statement)?;
+        let word = statement.operand.of(here.text);
+        if !matches!(word, b"*") && !b"DISPLAY".starts_with(word) {
+            return Err(Stop::of(Wording::CodeWanted, statement.operand));
         }
         self.plain_row(here, false)
     }

@@ -2,7 +2,8 @@
 use crate::scope::{CELLS, Scope, Slot};
 use pp_notation::{Form, form_of, size_of};
 use pp_source::{
-    Argument, Fault, Field, FirstParts, Here, Outcome, Statement, Stop, first_parts, is_empty, tail,
+    Argument, Fault, Field, FirstParts, Here, Outcome, Statement, Stop, Wording, first_parts,
+    is_empty, tail,
 };
 
 /// How many words a source makes, though only as many as a memory has can be right.
@@ -13,14 +14,14 @@ const NEAR: i64 = 0o37;
 const SIZE: i64 = CELLS as i64;
 
 /// Returns the least and the most operands of a form, and what it takes.
-fn wanted(form: Form) -> (usize, usize, &'static str) {
+fn wanted(form: Form) -> (usize, usize, Wording) {
     match form {
-        Form::Alone => (0, 1, "one operand at most"),
-        Form::D => (1, 1, "one operand"),
-        Form::Target => (1, 1, "the address to which it jumps"),
-        Form::Constant => (1, 1, "one operand of 18 (decimal) bits"),
-        Form::Indexed => (1, 2, "an address and, if it is indexed, a comma and a cell"),
-        Form::Both => (2, 2, "an address and, after a comma, a channel or a cell"),
+        Form::Alone => (0, 1, Wording::AtMostOneOperand),
+        Form::D => (1, 1, Wording::OneOperand),
+        Form::Target => (1, 1, Wording::TargetOfJump),
+        Form::Constant => (1, 1, Wording::WideOperand),
+        Form::Indexed => (1, 2, Wording::MaybeIndexedAddress),
+        Form::Both => (2, 2, Wording::AddressAndChannel),
     }
 }
 
@@ -68,16 +69,16 @@ impl Scope {
     fn distance(&mut self, here: &Here, target: Field, code: u8) -> Outcome<u64> {
         let number = self.number(here, target, false)?;
         if number <= -SIZE || number >= 2 * SIZE {
-            let fault = Fault::new("{} (octal) is no address").octal(number);
+            let fault = Fault::new(Wording::NoAddress).octal(number);
             return Err(fault.at(target.first));
         }
         let cells = number.wrapping_sub(self.location).wrapping_add(SIZE / 2) & (SIZE - 1);
         let cells = cells.wrapping_sub(SIZE / 2);
         if self.is_last && !(-NEAR..=NEAR).contains(&cells) {
             let fault = Fault::new(if cells > 0 {
-                "{} is {} (octal) cells on, and {} reaches 37; {}"
+                Wording::FarOn
             } else {
-                "{} is {} (octal) cells back, and {} reaches 37; {}"
+                Wording::FarBack
             });
             let fault = fault.part(target).octal(cells.wrapping_abs());
             let fault = fault.with(Argument::Instruction(code));
@@ -92,7 +93,7 @@ impl Scope {
     pub fn put(&mut self, here: &Here, words: &[u16]) -> Outcome {
         self.made = self.made.saturating_add(words.len());
         if self.made > MOST_WORDS {
-            return Err(Stop::too_much("more than 100000 (decimal) words"));
+            return Err(Stop::too_much(Wording::ManyWords));
         }
         self.add_row(here, words, true, None, false)?;
         for word in words {
@@ -124,16 +125,16 @@ impl Scope {
     /// Returns why no word can be put into a cell. Words that begin over others, after ORG or BSS, may be there.
     fn why_not_into(&mut self, here: &Here, cell: i64) -> Outcome<Option<Fault>> {
         let Some(Slot { line, .. }) = self.cells.get(index_of(cell)).copied() else {
-            return Ok(Some(Fault::new("this goes past cell 7777")));
+            return Ok(Some(Fault::new(Wording::PastLastCell)));
         };
         if line == 0 {
             return Ok(None);
         }
         let is_warning = self.over_from == Some(cell);
         let fault = Fault::new(if is_warning {
-            "warning: cell {} is filled by line {} (decimal) too"
+            Wording::WarningFilledTwice
         } else {
-            "cell {} is filled by line {} (decimal) too"
+            Wording::FilledTwice
         });
         let address = u16::try_from(cell).unwrap_or(0);
         let fault = fault.with(Argument::Cell(address)).decimal(line);
@@ -163,9 +164,9 @@ fn operands_of(here: &Here, statement: Statement, code: u8) -> Outcome<FirstPart
     let name = statement.operation;
     let is_far = found.count == 0 && !is_empty(tail(here.text, name.end));
     let fault = Fault::new(if is_far {
-        "{} takes {}; what begins in column 30 or later is a comment"
+        Wording::TakesButComment
     } else {
-        "{} takes {}"
+        Wording::Takes
     });
     let first_left = found.parts.get(most).filter(|_| found.count > most);
     let column = first_left.unwrap_or(&name).first;

@@ -1,14 +1,17 @@
 //! The directives that make words.
+use crate::directives::the_only;
 use crate::encoding::{bits_of, index_of};
 use crate::scope::{OpenWord, Scope};
+use crate::values::Base;
 use pp_source::{
-    DisplayText, Fault, Field, Here, Outcome, Statement, Stop, are_in_code, before_mark, code_of,
-    digits_of, no_code, tail, text_at,
+    DisplayText, Fault, Field, Here, Outcome, Statement, Stop, Wording, are_in_code, before_mark,
+    code_of, digits_of, find, no_code, tail, text_at,
 };
 
 const WORD_BITS: u32 = 12;
 
 const MOST_BITS: u32 = 60;
+
 /// How many words DIS has at most.
 const LAST: u32 = 0o7777;
 
@@ -17,10 +20,18 @@ impl Scope {
     pub fn expressions(&mut self, here: &Here, statement: Statement) -> Outcome<Vec<u16>> {
         let mut words = Vec::new(self.alloc);
         for item in &self.items(here, statement, false)? {
-            let word = self.field(here, *item, WORD_BITS, None)?;
+            let word = self.expression(here, statement, *item)?;
             words.push(bits_of(word, 0o7777))?;
         }
         Ok(words)
+    }
+
+    /// Returns the word of an expression of CON; nothing between two commas is zero.
+    fn expression(&mut self, here: &Here, statement: Statement, item: Field) -> Outcome<u64> {
+        match item.is_empty() && item.end < statement.operand.end {
+            true => Ok(0),
+            false => self.field(here, item, WORD_BITS, None),
+        }
     }
 
     /// BSSZ has words of zero.
@@ -46,7 +57,7 @@ impl Scope {
         let text = item.of(here.text);
         let Some(found) = text_at(text, 0, true)? else {
             if !is_number(text) {
-                let fault = Fault::new("{} is no number or text; CON takes expressions");
+                let fault = Fault::new(Wording::NoNumberOrText);
                 return Err(fault.part_or_nothing(item).at(item.first));
             }
             let number = self.number_field(here, item, WORD_BITS);
@@ -55,7 +66,7 @@ impl Scope {
         };
         if found.end != text.len() {
             let rest = item.part(found.end, text.len());
-            return Err(Stop::of("{} follows the text", rest));
+            return Err(Stop::of(Wording::FollowsText, rest));
         }
         are_in_code(found.symbols, item.first)?;
         put_text(words, found)
@@ -67,7 +78,7 @@ impl Scope {
         let (digits, count) = digits_of(operand, 4);
         let column = statement.operand.first;
         if operand.get(digits) != Some(&b',') || count > LAST {
-            return Err(Fault::new("DIS wants words,text or ,*text*").at(column));
+            return Err(Fault::new(Wording::TextOfWordsWanted).at(column));
         }
         let before = digits.saturating_add(1);
         let column = column.saturating_add(before);
@@ -94,45 +105,101 @@ impl Scope {
     /// VFD has fields of bits. One without a label goes on in the word that the one before has not filled.
     pub fn bits(&mut self, here: &Here, statement: Statement) -> Outcome<Vec<u16>> {
         let items = self.items(here, statement, false)?;
+        let open = self.open_word(here, statement);
         let mut words = Vec::new(self.alloc);
-        let mut used = WORD_BITS;
-        let is_plain = matches!(statement.location.of(here.text), b"" | b"-");
-        let before = self.origin.wrapping_sub(1);
-        let open = self.open.filter(|word| is_plain && word.cell == before);
-        if let Some(word) = open {
-            words.push(0)?;
-            used = word.used;
-        }
+        let mut used = begin_bits(&mut words, open)?;
         for item in &items {
-            match self.bits_field(here, *item) {
+            match self.bits_field(here, *item, used) {
                 Ok((size, number)) => used = add_bits(&mut words, used, size, number)?,
                 Err(stop) => self.report_stop(here, stop)?,
             }
         }
-        if words.is_empty() {
-            return Ok(words);
+        Ok(self.end_bits(words, used, open.is_some()))
+    }
+
+    /// POS n puts zeros into the word that VFD has not filled, or into a new one, up to its last n bits.
+    pub fn position(&mut self, here: &Here, statement: Statement) -> Outcome<Vec<u16>> {
+        let operand = the_only(here, statement)?;
+        let left = self.decimal_number(here, operand)?;
+        let open = self.open_word(here, statement);
+        let before = bits_left(open.map_or(WORD_BITS, |word| word.used));
+        if left < 0 || left > i64::from(before) {
+            let fault = Fault::new(Wording::PositionWanted)
+                .decimal(before)
+                .part(operand);
+            return Err(fault.at(operand.first));
         }
-        if open.is_some() {
+        let left = u32::try_from(left).unwrap_or(0);
+        let size = match left {
+            0 if before == WORD_BITS => 0,
+            left => before.saturating_sub(left),
+        };
+        let mut words = Vec::new(self.alloc);
+        let used = begin_bits(&mut words, open)?;
+        let used = add_bits(&mut words, used, size, 0)?;
+        Ok(self.end_bits(words, used, open.is_some()))
+    }
+
+    /// Returns the word that the VFD before has not filled, if a statement goes on in it.
+    fn open_word(&self, here: &Here, statement: Statement) -> Option<OpenWord> {
+        let is_plain = matches!(statement.location.of(here.text), b"" | b"-");
+        let before = self.origin.wrapping_sub(1);
+        self.open.filter(|word| is_plain && word.cell == before)
+    }
+
+    /// Returns the words that are new, and keeps how many bits of the last one are used. The first bits may be of the word before.
+    fn end_bits(&mut self, words: Vec<u16>, used: u32, is_open: bool) -> Vec<u16> {
+        let mut words = words;
+        if words.is_empty() {
+            return words;
+        }
+        if is_open {
             self.fill_last(words.remove(0));
         }
         let count = i64::try_from(words.len()).unwrap_or(0);
         let cell = self.origin.wrapping_add(count).wrapping_sub(1);
         self.open = Some(OpenWord { cell, used });
-        Ok(words)
+        words
     }
 
-    /// Returns the size, decimal, and the number of a field.
-    fn bits_field(&mut self, here: &Here, item: Field) -> Outcome<(u32, u64)> {
+    /// Returns the size, decimal, and the number of a field; the one without an expression is zero.
+    fn bits_field(&mut self, here: &Here, item: Field, used: u32) -> Outcome<(u32, u64)> {
         let text = item.of(here.text);
-        let (digits, size) = digits_of(text, 2);
-        if digits == 0 || text.get(digits) != Some(&b'/') || size == 0 || size > MOST_BITS {
-            return Err(Stop::of(
-                "{} is not a number of bits, 1 to 60 (decimal), a / and an expression",
-                item,
-            ));
+        let wrong = Stop::of(Wording::NoNumberOfBits, item);
+        let end = end_of_size(text).ok_or(wrong)?;
+        let size = self.bits_wanted(here, item.part(0, end), used)?;
+        let size = u32::try_from(size).unwrap_or(0);
+        if size == 0 || size > MOST_BITS {
+            return Err(wrong);
         }
-        let expression = item.part(digits.saturating_add(1), text.len());
+        let expression = item.part(end.saturating_add(1), text.len());
+        if expression.is_empty() {
+            return Ok((size, 0));
+        }
         Ok((size, self.field(here, expression, size, None)?))
+    }
+
+    /// Returns how many bits an expression says; *P is those that fill the word, of which so many are used.
+    fn bits_wanted(&mut self, here: &Here, size: Field, used: u32) -> Outcome<i64> {
+        let left = i64::from(bits_left(used));
+        let text = size.of(here.text);
+        match text {
+            [b'*', b'P'] => Ok(left),
+            [b'*', b'P', b'+' | b'-', ..] => {
+                let more = self.decimal_number(here, size.part(2, text.len()))?;
+                Ok(left.saturating_add(more))
+            }
+            _ => self.decimal_number(here, size),
+        }
+    }
+
+    /// Returns a number of names from above, whose digits are decimal.
+    fn decimal_number(&mut self, here: &Here, operand: Field) -> Outcome<i64> {
+        let base = self.base;
+        self.base = Some(Base::Decimal);
+        let number = self.number(here, operand, true);
+        self.base = base;
+        number
     }
 
     /// Puts bits into the last word, which was not full.
@@ -146,6 +213,32 @@ impl Scope {
             *last |= bits;
         }
     }
+}
+
+/// Begins words with the one that VFD has not filled, and returns how many bits of the last one are used.
+fn begin_bits(words: &mut Vec<u16>, open: Option<OpenWord>) -> Outcome<u32> {
+    let Some(word) = open else {
+        return Ok(WORD_BITS);
+    };
+    words.push(0)?;
+    Ok(word.used)
+}
+
+/// Returns how many bits a word has after those that are used; those of a new one if it is full.
+fn bits_left(used: u32) -> u32 {
+    match WORD_BITS.saturating_sub(used) {
+        0 => WORD_BITS,
+        left => left,
+    }
+}
+
+/// Returns the column of the / after the size of a field, which may be a name with its qualifier.
+fn end_of_size(field: &[u8]) -> Option<usize> {
+    let first = match field {
+        [b'/', ..] => find(field, 1, b'/')?.saturating_add(1),
+        _ => 0,
+    };
+    find(field, first, b'/')
 }
 
 /// Adds the bits of a field, the upper ones first, and returns how many bits of the last word are then used.

@@ -1,12 +1,9 @@
 //! The statements of a source, performed one after another.
 use crate::directives::the_only;
 use crate::scope::Scope;
-use pp_source::{Argument, Fault, Here, Operation, Outcome, Statement, Stop, is_operation};
-
-const LABEL_IS_OPERATION: &str =
-    "{} is no operation; {} is taken as a label, for it is not in column 3 or later";
-
-const LABEL_IS_LATER: &str = "{} is no operation; a label begins in column 1 or 2";
+use pp_source::{
+    Argument, Fault, Here, Operation, Outcome, Statement, Stop, Wording, is_operation,
+};
 
 impl Scope {
     /// Scopees over a statement after END, of which the first one is reported.
@@ -16,7 +13,7 @@ impl Scope {
         }
         if !self.has_more {
             self.has_more = true;
-            return self.report(here, 0, Fault::new("this is after END"));
+            return self.report(here, 0, Fault::new(Wording::AfterEnd));
         }
         Ok(())
     }
@@ -30,6 +27,7 @@ impl Scope {
             Operation::Ignored => self.plain_row(here, false),
             Operation::Name => self.name_program(here, statement),
             Operation::Base => self.set_base(here, statement),
+            Operation::TextCode => self.set_code(here, statement),
             Operation::Deck => {
                 self.is_deck = true;
                 self.plain_row(here, false)
@@ -56,6 +54,7 @@ impl Scope {
             Operation::Expressions => self.expressions(here, statement)?,
             Operation::Data => self.data(here, statement)?,
             Operation::Bits => self.bits(here, statement)?,
+            Operation::Position => self.position(here, statement)?,
             Operation::Text => self.text(here, statement)?,
             Operation::Zeros => self.zeros(here, the_only(here, statement)?)?,
             _ => return Err(self.why_not(here, statement, operation)),
@@ -70,17 +69,18 @@ impl Scope {
             return Stop::Follows;
         }
         let fault = match operation {
-            Operation::Inside => Fault::new("{} ends nothing here").part(name),
-            Operation::Refused(instead) => Fault::new("{} is not taken: {}")
+            Operation::Inside => Fault::new(Wording::EndsNothing).part(name),
+            Operation::Refused(instead) => Fault::new(Wording::NotTaken)
                 .part(name)
                 .with(Argument::Text(instead)),
-            _ if is_operation(statement.location.of(here.text)) => Fault::new(LABEL_IS_OPERATION)
-                .part(name)
+            _ if is_operation(statement.location.of(here.text)) => Fault::new(
+                Wording::LabelIsOperation,
+            ).part(name)
                 .part(statement.location),
-            _ if is_operation(statement.operand.of(here.text)) => Fault::new(LABEL_IS_LATER).part(
-                name,
-            ),
-            _ => Fault::new("{} is no instruction, directive or macro{}")
+            _ if is_operation(statement.operand.of(here.text)) => Fault::new(
+                Wording::LabelIsLater,
+            ).part(name),
+            _ => Fault::new(Wording::NoOperation)
                 .part(name)
                 .with(Argument::NearestOperation(name, self.performed)),
         };

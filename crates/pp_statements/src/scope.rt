@@ -3,7 +3,7 @@ use crate::units::{Blocks, Literals, Unit};
 use crate::values::{Base, Expression, Value};
 use pp_source::{
     Argument, Definition, DisplayText, Fault, Field, Here, Message, Outcome, Statement, Stop,
-    Symbols, are_in_code, text_at,
+    Symbols, Wording, are_in_code, text_at,
 };
 use std::alloc::{AllocError, Global};
 
@@ -14,7 +14,7 @@ pub const MOST_STATEMENTS: u32 = 100_000;
 
 /// Returns that a source makes too many statements.
 pub fn too_many_statements() -> Stop {
-    Stop::too_much("more than 100000 (decimal) statements")
+    Stop::too_much(Wording::ManyStatements)
 }
 
 /// What the source puts into a cell; the line, from 1, is 0 if there is nothing.
@@ -162,7 +162,7 @@ impl Scope {
 
     /// Keeps a warning at its place, of each kind the first one.
     pub fn warn_at(&mut self, message: Message) -> Outcome {
-        let is_known = |warning: &Message| warning.fault.text == message.fault.text;
+        let is_known = |warning: &Message| warning.fault.text.text() == message.fault.text.text();
         if !self.is_last || self.warnings.iter().any(is_known) {
             return Ok(());
         }
@@ -200,7 +200,7 @@ impl Scope {
         let mut expression = Expression::new(self, here.text, operand, is_from_above);
         let value = expression.value();
         if let Some(digits) = expression.decimal {
-            let fault = Fault::new("warning: {} is decimal, as in COMPASS without BASE");
+            let fault = Fault::new(Wording::DecimalWithoutBase);
             self.warn(here, digits.first, fault.part(digits))?;
         }
         value
@@ -216,7 +216,7 @@ impl Scope {
     pub fn count(&mut self, here: &Here, operand: Field, least: i64) -> Outcome<i64> {
         let number = self.number(here, operand, true)?;
         if number < least || number >= CELLS as i64 {
-            let fault = Fault::new("{} (octal) is no number from {} to 7777");
+            let fault = Fault::new(Wording::NoNumberInRange);
             return Err(fault.octal(number).octal(least).at(operand.first));
         }
         Ok(number)
@@ -332,7 +332,7 @@ pub fn count_one(count: &mut u32) -> Outcome {
 fn fitting(here: &Here, operand: Field, number: i64, bits: u32, code: Option<u8>) -> Outcome<u64> {
     let top = 1i64.wrapping_shl(bits).wrapping_sub(1);
     if number > top || number < top.wrapping_neg() {
-        let fault = Fault::new("{} (octal) does not fit in {} (decimal) bits{}");
+        let fault = Fault::new(Wording::NumberDoesNotFit);
         let fault = fault.octal(number).decimal(bits);
         let wider = |code: u8| fault.with(Argument::Wider(operand, code));
         return Err(code.map_or(fault, wider).at(operand.first));
@@ -346,7 +346,7 @@ fn fitting(here: &Here, operand: Field, number: i64, bits: u32, code: Option<u8>
 fn text_field(operand: Field, text: DisplayText, bits: u32) -> Outcome<u64> {
     let size = (bits / 6) as usize;
     if matches!(text.kind, b'C' | b'Z') || bits % 6 != 0 || text.count > size {
-        let fault = Fault::new("the text {} does not fit in {} (decimal) bits");
+        let fault = Fault::new(Wording::TextDoesNotFit);
         return Err(fault.part(operand).decimal(bits).at(operand.first));
     }
     are_in_code(text.symbols, operand.first)?;

@@ -3,7 +3,7 @@ use crate::cells::program_of;
 use crate::scope::{Scope, Slot};
 use pp_notation::Program;
 use pp_source::{
-    Argument, Definition, Fault, Field, Here, Outcome, Place, Span, Stop, is_alphanumeric,
+    Argument, Definition, Fault, Field, Here, Outcome, Place, Span, Stop, Wording, is_alphanumeric,
 };
 use std::alloc::{AllocError, Global};
 
@@ -11,12 +11,6 @@ use std::alloc::{AllocError, Global};
 const NOMINAL: usize = 0;
 
 const NAME_OF_LITERALS: &[u8; 9] = b"LITERALS*";
-
-const BEHIND_LITERALS: &str =
-    "warning: {} is where the literals begin; a buffer in a block of USE is behind them";
-
-const OF_ANOTHER_PROGRAM: &str =
-    "{} is a symbol of another program, which is not taken: give it a value by EQU";
 
 /// The counters of a block of USE, and the cell after its last one.
 #[derive(Clone, Copy)]
@@ -264,7 +258,7 @@ impl Scope {
         }
         self.leave_block();
         if let Some((key, line)) = self.name_of_literals() {
-            let fault = Fault::new(BEHIND_LITERALS).with(Argument::Kept(key));
+            let fault = Fault::new(Wording::BehindLiterals).with(Argument::Kept(key));
             let mut message = here.last_message(fault);
             message.line = line;
             self.warn_at(message)?;
@@ -303,7 +297,7 @@ impl Scope {
             return Ok(self.literals.address_of(&words)?);
         };
         if !self.symbols.is_named(name) {
-            return Err(Stop::of(OF_ANOTHER_PROGRAM, operand));
+            return Err(Stop::of(Wording::OfAnotherProgram, operand));
         }
         let place = Place {
             name: Field::new(operand.end.saturating_sub(name.len()), operand.end),

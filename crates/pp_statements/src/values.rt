@@ -2,18 +2,13 @@
 use crate::scope::Scope;
 pub use pp_meaning::Base;
 use pp_source::{
-    Fault, Field, Number, Outcome, Place, Stop, are_in_code, counter_of, decoded, end_of_name,
-    next_where, number_of, product, shifted, tail, text_at,
+    Fault, Field, Number, Outcome, Place, Stop, Wording, are_in_code, counter_of, decoded,
+    end_of_name, next_where, number_of, product, shifted, tail, text_at,
 };
 
 const MOST_BITS: u32 = 60;
 
 const MOST_DIGITS: usize = 20;
-
-const EITHER_BASE: &str = "{} may be octal or decimal: write {}B or {}D, or BASE before it";
-
-const OF_ANOTHER_PROGRAM: &str =
-    "{} is no number, symbol, text or *; a = begins an operand that is alone; a symbol of another program is not taken: use EQU";
 
 /// A number, and how many addresses more are added than subtracted: 1 in an address.
 #[derive(Clone, Copy)]
@@ -88,7 +83,7 @@ impl<'a> Expression<'a> {
     /// Returns the value of the whole text.
     pub fn value(&mut self) -> Outcome<Value> {
         if self.text.is_empty() {
-            return Err(self.fault(Fault::new("an operand is missing")));
+            return Err(self.fault(Fault::new(Wording::OperandMissing)));
         }
         let mut total = Value::new(0, 0);
         for _ in 0..self.text.len() {
@@ -104,7 +99,7 @@ impl<'a> Expression<'a> {
             })?;
         }
         if total.number.unsigned_abs() >> MOST_BITS != 0 {
-            let fault = Fault::new("this has more than 60 (decimal) bits");
+            let fault = Fault::new(Wording::MoreThan60Bits);
             return Err(fault.at(self.operand.first));
         }
         Ok(total)
@@ -118,13 +113,13 @@ impl<'a> Expression<'a> {
                 Ok(*operator)
             }
             _ if self.at() == 0 => Ok(b'+'),
-            rest => Err(Stop::of("{} is no operator", self.part(rest.len()))),
+            rest => Err(Stop::of(Wording::NoOperator, self.part(rest.len()))),
         }
     }
 
     fn pass_operator(&mut self) -> Outcome {
         if let [operator] = self.rest {
-            return Err(self.fault(Fault::new("nothing follows the {}").symbol(*operator)));
+            return Err(self.fault(Fault::new(Wording::NothingFollows).symbol(*operator)));
         }
         self.rest = tail(self.rest, 1);
         Ok(())
@@ -200,13 +195,13 @@ impl<'a> Expression<'a> {
         let digits = number.digits;
         let part = self.part(digits.len());
         if digits.len() > MOST_DIGITS {
-            return Err(self.fault(Fault::new("a number has at most 20 (decimal) digits")));
+            return Err(self.fault(Fault::new(Wording::LongNumber)));
         }
         match (number.letter, self.scope.base) {
             (Some(b'D'), _) | (None, Some(Base::Decimal)) => return Ok(10),
             (None, None) if decoded(digits, 10).unwrap_or(0) > 7 => {
                 if !self.scope.is_deck {
-                    let fault = Fault::new(EITHER_BASE).part(part).part(part);
+                    let fault = Fault::new(Wording::EitherBase).part(part).part(part);
                     return Err(self.fault(fault.part(part)));
                 }
                 self.decimal = self.decimal.or(Some(part));
@@ -215,7 +210,7 @@ impl<'a> Expression<'a> {
             _ => {}
         }
         if digits.iter().any(|digit| *digit >= b'8') {
-            let fault = Fault::new("{} is no octal number; {}D is decimal");
+            let fault = Fault::new(Wording::NoOctalNumber);
             return Err(self.fault(fault.part(part).part(part)));
         }
         Ok(8)
@@ -224,14 +219,14 @@ impl<'a> Expression<'a> {
     fn text_element(&mut self) -> Outcome<Value> {
         let Some(text) = text_at(self.text, self.at(), false)? else {
             let fault = Fault::new(match self.rest {
-                [b'"', ..] => "{} is no number, symbol, text or *; no MICRO above has this name",
-                [b'=', ..] => OF_ANOTHER_PROGRAM,
-                _ => "{} is no number, symbol, text or *",
+                [b'"', ..] => Wording::NoElementOrMicro,
+                [b'=', ..] => Wording::NoElementButLiteral,
+                _ => Wording::NoElement,
             });
             return Err(self.fault(fault.part(self.part(self.rest.len()))));
         };
         if text.kind != b'R' {
-            let fault = Fault::new("in a sum a text is 1R or 2R, not {}");
+            let fault = Fault::new(Wording::WrongTextInSum);
             return Err(self.fault(fault.symbol(text.kind)));
         }
         are_in_code(text.symbols, self.part(0).first)?;
