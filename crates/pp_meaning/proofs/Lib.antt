@@ -1,3 +1,4 @@
 pub mod Filling
 pub mod Folds
 pub mod LastNames
+pub mod TextNumbers

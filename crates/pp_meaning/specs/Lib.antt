@@ -1,5 +1,9 @@
 pub mod Cells
 pub mod Expressions
+pub mod Fields
 pub mod Lines
+pub mod Literals
 pub mod Meaning
 pub mod Names
+pub mod Numbers
+pub mod Texts

@@ -1,22 +1,37 @@
 -- How statements are written. A line is a label, an operation, operands and a comment, with blanks between two.
-use Rattle.std.specs.Prelude.{◌≡◌, ◌+◌, ◌==◌, ◌&&◌, ◌||◌, not, ℕ, Bool, true, false, length, take, drop, Option, Some, None, List, [], ◌∷◌, ◌++◌, codes, slice_get, if◌then◌else◌}
+use Rattle.std.specs.Prelude.{◌≡◌, ◌+◌, ◌==◌, ◌&&◌, ◌||◌, not, ℕ, Bool, true, false, length, take, drop, Option, Some, None, List, [], ◌∷◌, ◌++◌, codes, map, slice_get, if◌then◌else◌}
 use Rattle.std.specs.List.{flat_map, list_all}
+use Rattle.pp_notation.specs.DisplayCode.{symbol}
 use Rattle.pp_notation.specs.Mnemonics.{mnemonic}
+use Rattle.pp_meaning.specs.Numbers.{decimal_number}
+use Rattle.pp_meaning.specs.Texts.{has_all, text_with}
 use Rattle.pp_meaning.specs.declared.expressions.Atom.{Atom}
-use Rattle.pp_meaning.specs.declared.expressions.Atom.TheVariants.{Number, Name, Here, LocationCounter, OriginCounter, Nothing}
+use Rattle.pp_meaning.specs.declared.expressions.Atom.TheVariants.{Number, Name, Here, LocationCounter, OriginCounter, Nothing, Symbols, Shifted}
 use Rattle.pp_meaning.specs.declared.expressions.Base.{Base}
 use Rattle.pp_meaning.specs.declared.expressions.Base.TheVariants.{Octal, Decimal, Mixed}
+use Rattle.pp_meaning.specs.declared.expressions.Expression.{Expression}
 use Rattle.pp_meaning.specs.declared.expressions.Factor.{Factor}
+use Rattle.pp_meaning.specs.declared.expressions.Item.{Item}
+use Rattle.pp_meaning.specs.declared.expressions.Item.TheVariants.{Characters, Sum}
 use Rattle.pp_meaning.specs.declared.expressions.Operand.{Operand}
+use Rattle.pp_meaning.specs.declared.expressions.Operand.TheVariants.{Single, External, Literal as Named}
+use Rattle.pp_meaning.specs.declared.expressions.Linkage.{Linkage}
+use Rattle.pp_meaning.specs.declared.expressions.Linkage.TheVariants.{S, X, Y}
 use Rattle.pp_meaning.specs.declared.expressions.Radix.{Radix}
 use Rattle.pp_meaning.specs.declared.expressions.Radix.TheVariants.{B, O, D, Plain}
+use Rattle.pp_meaning.specs.declared.expressions.Sign.{Sign}
+use Rattle.pp_meaning.specs.declared.expressions.Sign.TheVariants.{Plus as Added, Minus as Subtracted, Differ}
 use Rattle.pp_meaning.specs.declared.expressions.Symbol.{Symbol}
 use Rattle.pp_meaning.specs.declared.expressions.Term.{Term}
 use Rattle.pp_meaning.specs.declared.statements.Label.{Label}
 use Rattle.pp_meaning.specs.declared.statements.Label.TheVariants.{Empty, Plus, Minus, Named}
 use Rattle.pp_meaning.specs.declared.statements.Operation.{Operation}
-use Rattle.pp_meaning.specs.declared.statements.Operation.TheVariants.{Blank, Instruction, Constants, Zeros, Space, Origin, Location, Equate, Set, SetBase, Deck, End}
+use Rattle.pp_meaning.specs.declared.statements.Operation.TheVariants.{Blank, Instruction, Constants, Data, Zeros, Space, Origin, Location, Equate, Set, SetBase, Deck, Display, End}
 use Rattle.pp_meaning.specs.declared.statements.Statement.{Statement}
+use Rattle.pp_meaning.specs.declared.texts.Cut.{Cut}
+use Rattle.pp_meaning.specs.declared.texts.Cut.TheVariants.{Counted, Marked}
+use Rattle.pp_meaning.specs.declared.texts.Kind.{Kind}
+use Rattle.pp_meaning.specs.declared.texts.Kind.TheVariants.{A, C, H, L, R, Z}
 
 -- ---- operands
 
@@ -37,18 +52,48 @@ atom_text symbols Here = codes "*"
 atom_text symbols LocationCounter = codes "*L"
 atom_text symbols OriginCounter = codes "*O"
 atom_text symbols Nothing = codes "**"
+atom_text symbols (Shifted digits radix shift) = digits.items ++ letter radix ++ codes "S" ++ shift.items
+atom_text symbols (Symbols digits items) = digits.items ++ codes "R" ++ map symbol items.items
 
 abbrev pub factor_text : List Symbol → Factor → List ℕ
 factor_text symbols factor = (if factor.is_quotient then codes "/" else codes "*") ++ atom_text symbols factor.atom
 
+abbrev pub sign_text : Sign → List ℕ
+sign_text Added = codes "+"
+sign_text Subtracted = codes "-"
+sign_text Differ = codes "^"
+
 -- A term with its sign.
 abbrev pub term_text : List Symbol → Term → List ℕ
 term_text symbols term =
-    (if term.is_minus then codes "-" else codes "+") ++ atom_text symbols term.atom ++ flat_map (factor_text symbols) term.factors.items
+    sign_text term.sign ++ atom_text symbols term.atom ++ flat_map (factor_text symbols) term.factors.items
 
--- An operand is its terms. The sign of the first one may be left out.
+-- An expression is its terms. The sign of the first one may be left out.
+abbrev pub sum_text : List Symbol → Expression → List ℕ
+sum_text symbols x = drop (if x.has_sign then 0 else 1) (flat_map (term_text symbols) x.terms.items)
+
+abbrev pub kind_letter : Kind → List ℕ
+kind_letter H = codes "H"
+kind_letter A = codes "A"
+kind_letter L = codes "L"
+kind_letter R = codes "R"
+kind_letter C = codes "C"
+kind_letter Z = codes "Z"
+
+abbrev pub item_text : List Symbol → Item → List ℕ
+item_text symbols (Sum x) = sum_text symbols x
+item_text symbols (Characters text) = text_with (kind_letter text.kind) text
+
+abbrev pub external_letter : Linkage → List ℕ
+external_letter S = codes "S"
+external_letter X = codes "X"
+external_letter Y = codes "Y"
+
+-- A literal is what its words are, after =. =X, =S and =Y are before a name.
 abbrev pub operand_text : List Symbol → Operand → List ℕ
-operand_text symbols operand = drop (if operand.has_sign then 0 else 1) (flat_map (term_text symbols) operand.terms.items)
+operand_text symbols (Single item) = item_text symbols item
+operand_text symbols (Named address item) = codes "=" ++ item_text symbols item
+operand_text symbols (External letter index) = codes "=" ++ external_letter letter ++ symbol_name (slice_get symbols index)
 
 -- Operands have a comma between two.
 abbrev pub operands_text : List Symbol → List Operand → List ℕ
@@ -64,7 +109,8 @@ base_name Mixed = codes "MIXED"
 abbrev pub operation_name : Operation → List ℕ
 operation_name Blank = []
 operation_name (Instruction code) = mnemonic code
-operation_name (Constants is_data) = if is_data then codes "DATA" else codes "CON"
+operation_name Constants = codes "CON"
+operation_name Data = codes "DATA"
 operation_name Zeros = codes "BSSZ"
 operation_name Space = codes "BSS"
 operation_name Origin = codes "ORG"
@@ -73,11 +119,13 @@ operation_name (Equate is_sign) = if is_sign then codes "=" else codes "EQU"
 operation_name Set = codes "SET"
 operation_name (SetBase base more) = codes "BASE"
 operation_name Deck = codes "PERIPH"
+operation_name Display = codes "DIS"
 operation_name End = codes "END"
 
--- BASE has the beginning of a base's name, at least its first letter.
+-- BASE has the beginning of a base's name, at least its first letter. DIS has a comma before its text.
 abbrev pub variable : List Symbol → Operation → List Operand → List ℕ
 variable symbols (SetBase base more) operands = take (more + 1) (base_name base)
+variable symbols Display (Single (Characters text) ∷ []) = text_with (codes ",") text
 variable symbols operation operands = operands_text symbols operands
 
 -- ---- lines
@@ -118,10 +166,20 @@ is_gap Empty operation margin gap = length margin == 0 && is_wide gap
 is_gap label Blank margin gap = is_margin margin
 is_gap label operation margin gap = is_margin margin && not (length gap == 0)
 
+-- What follows a text of DIS with a count may be anything, if the text has all its symbols.
+abbrev pub follows_text : Cut → ℕ → List ℕ → Bool
+follows_text (Counted digits) count comment = length comment == 0 || has_all count (decimal_number digits.items)
+follows_text (Marked mark) count comment = begins_blank comment
+
+abbrev pub is_comment : Operation → List Operand → List ℕ → Bool
+is_comment Display (Single (Characters text) ∷ []) comment = follows_text text.cut (length text.codes.items) comment
+is_comment operation operands comment = begins_blank comment
+
 -- Blanks are between two fields, and before a comment.
 abbrev pub is_cut : List Symbol → Statement → Bool
 is_cut symbols statement =
-    list_all is_blank statement.gap.items && list_all is_blank statement.space.items && begins_blank statement.comment.items
+    list_all is_blank statement.gap.items && list_all is_blank statement.space.items
+    && is_comment statement.operation statement.operands.items statement.comment.items
     && is_gap statement.label statement.operation statement.margin.items statement.gap.items
     && (not (length statement.space.items == 0) || length (variable symbols statement.operation statement.operands.items) == 0)
 

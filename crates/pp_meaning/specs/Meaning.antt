@@ -1,22 +1,32 @@
 -- What the words of statements are.
-use Rattle.std.specs.Prelude.{◌≡◌, ℕ, ℤ, pos, negsuc, ◌+◌, ◌-◌, ◌*◌, ◌%◌, ◌==◌, ◌&&◌, nat_le, not, Bool, true, false, Option, Some, None, List, [], ◌∷◌, ◌++◌, length, replicate, slice_get, slice_set, fold, if◌then◌else◌}
+use Rattle.std.specs.Prelude.{◌≡◌, ℕ, ℤ, pos, negsuc, ◌+◌, ◌-◌, ◌*◌, ◌%◌, ◌==◌, ◌&&◌, nat_le, nat_lt, not, Bool, true, false, Option, Some, None, List, [], ◌∷◌, ◌++◌, length, replicate, slice_get, slice_set, fold, if◌then◌else◌}
 use Rattle.std.specs.Ordering.{int_eq}
 use Rattle.pp_notation.specs.Instructions.{form}
 use Rattle.pp_notation.specs.InstructionWords.{constant_words, one_word, then_distance}
 use Rattle.pp_notation.specs.declared.instructions.Form.{Form}
 use Rattle.pp_notation.specs.declared.instructions.Form.TheVariants.{Alone, D as OneField, Target, Constant, Indexed, Both}
-use Rattle.pp_meaning.specs.Expressions.{address, address_around, operand_field, value, value_above}
+use Rattle.pp_meaning.specs.Expressions.{address, address_around, value, value_above}
+use Rattle.pp_meaning.specs.Fields.{item_field, operand_field}
+use Rattle.pp_meaning.specs.Literals.{are_placed, index_of, is_at, words_of_literals}
+use Rattle.pp_meaning.specs.Texts.{display, text_words}
+use Rattle.pp_meaning.specs.declared.expressions.Atom.{Atom}
+use Rattle.pp_meaning.specs.declared.expressions.Atom.TheVariants.{Number}
 use Rattle.pp_meaning.specs.declared.expressions.Base.{Base}
 use Rattle.pp_meaning.specs.declared.expressions.Base.TheVariants.{Decimal}
+use Rattle.pp_meaning.specs.declared.expressions.Item.{Item}
+use Rattle.pp_meaning.specs.declared.expressions.Item.TheVariants.{Characters, Sum}
+use Rattle.pp_meaning.specs.declared.expressions.Literal.{Literal}
 use Rattle.pp_meaning.specs.declared.expressions.Operand.{Operand}
+use Rattle.pp_meaning.specs.declared.expressions.Operand.TheVariants.{Single, Literal as Named_literal}
 use Rattle.pp_meaning.specs.declared.expressions.Place.{Place}
 use Rattle.pp_meaning.specs.declared.expressions.Symbol.{Symbol}
+use Rattle.pp_meaning.specs.declared.expressions.Term.{Term}
 use Rattle.pp_meaning.specs.declared.instruction.Words.{Words}
 use Rattle.pp_meaning.specs.declared.statements.Image.{Image}
 use Rattle.pp_meaning.specs.declared.statements.Label.{Label}
 use Rattle.pp_meaning.specs.declared.statements.Label.TheVariants.{Empty, Named}
 use Rattle.pp_meaning.specs.declared.statements.Operation.{Operation}
-use Rattle.pp_meaning.specs.declared.statements.Operation.TheVariants.{Blank, Instruction, Constants, Zeros, Space, Origin, Location, Equate, Set, SetBase, Deck, End}
+use Rattle.pp_meaning.specs.declared.statements.Operation.TheVariants.{Blank, Instruction, Constants, Data, Zeros, Space, Origin, Location, Equate, Set, SetBase, Deck, Display, End}
 use Rattle.pp_meaning.specs.declared.statements.State.{State}
 use Rattle.pp_meaning.specs.declared.statements.Statement.{Statement}
 
@@ -40,15 +50,15 @@ distance_at symbols place x = then_distance (place.location % 0o10000) (address_
 -- The words of an instruction of this form.
 abbrev pub form_words : List Symbol → Place → Form → ℕ → List Operand → Option (List ℕ)
 form_words symbols place Alone code [] = one_word code (Some 0)
-form_words symbols place Alone code (x ∷ []) = one_word code (operand_field 0o77 symbols place x)
-form_words symbols place OneField code (x ∷ []) = one_word code (operand_field 0o77 symbols place x)
+form_words symbols place Alone code (x ∷ []) = one_word code (operand_field 6 symbols place x)
+form_words symbols place OneField code (x ∷ []) = one_word code (operand_field 6 symbols place x)
 form_words symbols place Target code (x ∷ []) = one_word code (distance_at symbols place x)
-form_words symbols place Constant code (x ∷ []) = constant_words code (operand_field 0o777777 symbols place x)
-form_words symbols place Indexed code (x ∷ []) = two_words code (Some 0) (operand_field 0o7777 symbols place x)
+form_words symbols place Constant code (x ∷ []) = constant_words code (operand_field 18 symbols place x)
+form_words symbols place Indexed code (x ∷ []) = two_words code (Some 0) (operand_field 12 symbols place x)
 form_words symbols place Indexed code (x ∷ y ∷ []) =
-    two_words code (operand_field 0o77 symbols place y) (operand_field 0o7777 symbols place x)
+    two_words code (operand_field 6 symbols place y) (operand_field 12 symbols place x)
 form_words symbols place Both code (x ∷ y ∷ []) =
-    two_words code (operand_field 0o77 symbols place y) (operand_field 0o7777 symbols place x)
+    two_words code (operand_field 6 symbols place y) (operand_field 12 symbols place x)
 form_words symbols place _ code operands = None
 
 -- One word more.
@@ -58,12 +68,40 @@ added words (Some word) = Some (words ++ word ∷ [])
 
 abbrev pub with_constant : List Symbol → Place → Option (List ℕ) → Operand → Option (List ℕ)
 with_constant symbols place None x = None
-with_constant symbols place (Some words) x = added words (operand_field 0o7777 symbols place x)
+with_constant symbols place (Some words) x = added words (operand_field 12 symbols place x)
 
--- The words of CON and of numbers of DATA.
+-- The words of CON.
 abbrev pub constants : List Symbol → Place → List Operand → Option (List ℕ)
 constants symbols place operands =
     if length operands == 0 then None else fold (with_constant symbols place) (Some []) operands
+
+abbrev pub is_digits : Atom → Bool
+is_digits (Number digits radix) = true
+is_digits _ = false
+
+-- A number of DATA has no names and no operators.
+abbrev pub is_number : List Term → Bool
+is_number (term ∷ []) = is_digits term.atom && length term.factors.items == 0
+is_number _ = false
+
+-- The words of a number, or of a text.
+abbrev pub datum : List Symbol → Place → Item → Option (List ℕ)
+datum symbols place (Sum x) = if is_number x.terms.items then added [] (item_field 12 symbols place (Sum x)) else None
+datum symbols place (Characters text) = text_words text
+
+abbrev pub joined : List ℕ → Option (List ℕ) → Option (List ℕ)
+joined words None = None
+joined words (Some more) = Some (words ++ more)
+
+abbrev pub with_datum : List Symbol → Place → Option (List ℕ) → Operand → Option (List ℕ)
+with_datum symbols place None x = None
+with_datum symbols place (Some words) (Single item) = joined words (datum symbols place item)
+with_datum symbols place (Some words) x = None
+
+-- The words of DATA.
+abbrev pub data_words : List Symbol → Place → List Operand → Option (List ℕ)
+data_words symbols place operands =
+    if length operands == 0 then None else fold (with_datum symbols place) (Some []) operands
 
 -- Words of zero.
 abbrev pub zeros : Option ℕ → Option (List ℕ)
@@ -74,19 +112,23 @@ zeros (Some count) = Some (replicate count 0)
 abbrev pub words_of : List Symbol → Place → Operation → List Operand → Option (List ℕ)
 words_of symbols place Blank [] = Some []
 words_of symbols place (Instruction code) operands = form_words symbols place (form code) code operands
-words_of symbols place (Constants is_data) operands = constants symbols place operands
+words_of symbols place Constants operands = constants symbols place operands
+words_of symbols place Data operands = data_words symbols place operands
 words_of symbols place Zeros (x ∷ []) = zeros (address (value_above symbols place x))
+words_of symbols place Display (Single (Characters text) ∷ []) = display text
 words_of symbols place _ operands = None
 
 -- ---- statements
 
--- What there is so far: the counters, the base of numbers, how many symbols are defined, the memory, the words in the order of their
--- statements, and where a processor begins.
+-- What there is so far: the counters, the base of numbers, how many symbols are defined, how many literals are named, the cell after the
+-- highest one, the memory, the words in the order of their statements, and where a processor begins.
 pub record Standing : Type 0 where
   pub location : ℕ
   pub origin : ℕ
   pub base : Option Base
   pub defined : ℕ
+  pub literals : ℕ
+  pub reach : ℕ
   pub memory : List (Option ℕ)
   pub words : List ℕ
   pub start : Option ℕ
@@ -169,19 +211,57 @@ after symbols s (Named index) Set (x ∷ []) = define symbols true s index (valu
 after symbols s Empty (SetBase base more) [] = Some (record s { base = Some base })
 after symbols s Empty Deck [] = Some (record s { base = Some (deck_base s.base) })
 after symbols s Empty End [] = Some s
-after symbols s Empty End (x ∷ []) = ended s (operand_field 0o7777 symbols (place_of s) x)
+after symbols s Empty End (x ∷ []) = ended s (operand_field 12 symbols (place_of s) x)
 after symbols s label operation operands = then_words symbols (labelled symbols s label) operation operands
 
-abbrev pub follow : List Symbol → Option Standing → Statement → Option Standing
-follow symbols None statement = None
-follow symbols (Some s) statement = after symbols s statement.label statement.operation statement.operands.items
+-- Literals are in the order in which they are named first.
+abbrev pub with_named : Standing → Bool → ℕ → Option Standing
+with_named s false index = None
+with_named s true index =
+    if nat_lt index s.literals then Some s
+    else (if index == s.literals then Some (record s { literals = s.literals + 1 }) else None)
+
+-- A literal with these words is at this address.
+abbrev pub naming : List Literal → Standing → ℕ → Option ℕ → Option Standing
+naming literals s address None = None
+naming literals s address (Some index) = with_named s (is_at address (slice_get literals index)) index
+
+abbrev pub with_literal : List Symbol → List Literal → Option Standing → Operand → Option Standing
+with_literal symbols literals None x = None
+with_literal symbols literals (Some s) (Named_literal address item) =
+    naming literals s address (index_of literals (datum symbols (place_of s) item))
+with_literal symbols literals (Some s) x = Some s
+
+abbrev pub then_after : List Symbol → Option Standing → Statement → Option Standing
+then_after symbols None statement = None
+then_after symbols (Some s) statement = after symbols s statement.label statement.operation statement.operands.items
+
+abbrev pub reached : Option Standing → Option Standing
+reached None = None
+reached (Some s) = Some (record s { reach = if nat_lt s.reach s.origin then s.origin else s.reach })
+
+abbrev pub follow : List Symbol → List Literal → Option Standing → Statement → Option Standing
+follow symbols literals before statement =
+    reached (then_after symbols (fold (with_literal symbols literals) before statement.operands.items) statement)
+
+-- The literals are behind the highest cell.
+abbrev pub with_literals : List Literal → Option Standing → Option Standing
+with_literals literals None = None
+with_literals [] (Some s) = Some s
+with_literals literals (Some s) =
+    if s.literals == length literals && are_placed s.reach literals
+    then with_words (record s { origin = s.reach }) (Some (words_of_literals literals))
+    else None
 
 -- Before the first statement the memory is empty.
 abbrev pub first : Standing
-first = record { location = 0; origin = 0; base = None; defined = 0; memory = replicate 0o10000 None; words = []; start = None }
+first = record { location = 0; origin = 0; base = None; defined = 0; literals = 0; reach = 0; memory = replicate 0o10000 None; words = []; start = None }
 
-abbrev pub assembled : List Symbol → List Statement → Option Standing
-assembled symbols statements = fold (follow symbols) (Some first) statements
+abbrev pub performed : List Symbol → List Literal → List Statement → Option Standing
+performed symbols literals statements = fold (follow symbols literals) (Some first) statements
+
+abbrev pub assembled : List Symbol → List Literal → List Statement → Option Standing
+assembled symbols literals statements = with_literals literals (performed symbols literals statements)
 
 abbrev pub standing : State → Standing
 standing s = record {
@@ -189,15 +269,17 @@ standing s = record {
   origin = s.origin;
   base = s.base;
   defined = s.defined;
+  literals = s.literals;
+  reach = s.reach;
   memory = s.memory.items;
   words = s.words.items;
   start = s.start;
 }
 
 -- The words are what the statements say, and each symbol is defined by one of them.
-pub record IsAssembled (symbols : List Symbol) (statements : List Statement) (image : Image) : Type 0 where
+pub record IsAssembled (symbols : List Symbol) (literals : List Literal) (statements : List Statement) (image : Image) : Type 0 where
   pub after : Standing
-  pub right : assembled symbols statements ≡ Some after
+  pub right : assembled symbols literals statements ≡ Some after
   pub memory : after.memory ≡ image.memory.items
   pub words : after.words ≡ image.words.items
   pub start : after.start ≡ image.start

@@ -1,8 +1,9 @@
 //! Expressions and what they stand for.
-ghost use Rattle.std.specs.Prelude.{◌≡◌, ◌==◌, ◌&&◌, IfSome, IsTrue, Some, length, pos, fold, slice_get};
-ghost use Rattle.pp_meaning.specs.Expressions.{are_ones, are_signed, atom_value, is_current, is_zero, is_zero_digit, named_value, plus, product, times, value, value_above, with_factor, with_term};
+ghost use Rattle.std.specs.Prelude.{◌≡◌, IfSome, Some, pos, fold, slice_get};
+ghost use Rattle.pp_meaning.specs.Expressions.{are_signed, sum, atom_value, is_current, is_plus, named_value, plus, shifted, product, times, value, value_above, with_factor, with_term};
 
-use crate::numbers::{product_of, sum_of, value_of};
+use crate::numbers::{product_of, shifted_by, sum_of, value_of};
+use crate::texts::{Text, number_of_text};
 
 /// What numbers without a letter are.
 #[derive(Clone, Copy)]
@@ -49,6 +50,10 @@ pub enum Atom {
     OriginCounter,
     /// `**`, which is 0.
     Nothing,
+    /// Digits and their letter, and the digits of how many bits it is shifted to the left.
+    Shifted(Vec<u8>, Radix, Vec<u8>),
+    /// A text with R: the digits of its count, and the codes of its symbols.
+    Symbols(Vec<u8>, Vec<u8>),
 }
 
 /// What a product is multiplied with, or divided by.
@@ -58,19 +63,60 @@ pub struct Factor {
     pub atom: Atom,
 }
 
-/// A product that is added, or subtracted if it has a minus.
+/// How a term goes on with those before it.
+#[derive(Clone, Copy)]
+pub enum Sign {
+    Plus,
+    Minus,
+    /// `^`: the bits in which both differ.
+    Differ,
+}
+
+/// A product with its sign.
 #[derive(Drop)]
 pub struct Term {
-    pub is_minus: bool,
+    pub sign: Sign,
     pub atom: Atom,
     pub factors: Vec<Factor>,
 }
 
 /// An expression by its terms. The first one may have no sign.
 #[derive(Drop)]
-pub struct Operand {
+pub struct Expression {
     pub has_sign: bool,
     pub terms: Vec<Term>,
+}
+
+/// An expression, or a text.
+#[derive(Drop)]
+pub enum Item {
+    Sum(Expression),
+    Characters(Text),
+}
+
+/// The letter before the name of a symbol that may be one of another program.
+#[derive(Clone, Copy)]
+pub enum Linkage {
+    S,
+    X,
+    Y,
+}
+
+/// What stands between two commas of the operand field.
+#[derive(Drop)]
+pub enum Operand {
+    Single(Item),
+    /// A literal at an address, and what its words are.
+    Literal(usize, Item),
+    /// The name of the symbol at an index.
+    External(Linkage, usize),
+}
+
+/// Words that are named by what they are, from an address on.
+#[derive(Drop)]
+pub struct Literal {
+    pub address: usize,
+    pub words: Vec<u32>,
 }
 
 /// Where a statement is: the counters, the base of its numbers, and how many symbols are defined above.
@@ -83,7 +129,7 @@ pub struct Place {
 }
 
 /// Returns a counter as a number.
-fn counter(cell: usize) -> Option<i64>
+pub fn counter(cell: usize) -> Option<i64>
     ensures { IfSome result (λ number. pos cell ≡ number) }
 {
     i64::try_from(cell).ok()
@@ -97,7 +143,7 @@ fn is_current_at(place: Place, index: usize, symbol: &Symbol) -> bool
 }
 
 /// Returns what the name at an index stands for.
-fn name_value(symbols: &[Symbol], place: Place, index: usize) -> Option<i64>
+pub fn name_value(symbols: &[Symbol], place: Place, index: usize) -> Option<i64>
     ensures { IfSome result (λ number. named_value place index (slice_get symbols.now index) ≡ Some number) }
 {
     match symbols.get(index) {
@@ -116,6 +162,11 @@ fn value_of_atom(symbols: &[Symbol], place: Place, atom: &Atom) -> Option<i64>
         Atom::Here | Atom::LocationCounter => counter(place.location),
         Atom::OriginCounter => counter(place.origin),
         Atom::Nothing => Some(0),
+        Atom::Shifted(digits, radix, shift) => {
+            let number = value_of(digits, *radix, place.base)?;
+            shifted_by(number, shift)
+        }
+        Atom::Symbols(digits, codes) => number_of_text(digits, codes),
     }
 }
 
@@ -151,7 +202,7 @@ fn with_one_term(symbols: &[Symbol], place: Place, total: i64, term: &Term) -> O
     ensures { IfSome result (λ after. with_term symbols.now place (Some total) term.now ≡ Some after) }
 {
     let number = product_of_term(symbols, place, term)?;
-    sum_of(total, number, term.is_minus)
+    sum_of(total, number, term.sign)
 }
 
 /// Returns the sum of terms.
@@ -171,18 +222,28 @@ fn have_signs(has_sign: bool, terms: &[Term]) -> bool
 {
     match terms {
         [] => false,
-        [first, ..] => has_sign || !first.is_minus,
+        [first, ..] => has_sign || matches!(first.sign, Sign::Plus),
     }
+}
+
+/// Returns the value of an expression.
+pub fn value_of_sum(symbols: &[Symbol], place: Place, x: &Expression) -> Option<i64>
+    ensures { IfSome result (λ number. sum symbols.now place x.now ≡ Some number) }
+{
+    if !have_signs(x.has_sign, &x.terms) {
+        return None;
+    }
+    sum_of_terms(symbols, place, &x.terms)
 }
 
 /// Returns the value of an operand.
 pub fn value_of_operand(symbols: &[Symbol], place: Place, operand: &Operand) -> Option<i64>
     ensures { IfSome result (λ number. value symbols.now place operand.now ≡ Some number) }
 {
-    if !have_signs(operand.has_sign, &operand.terms) {
-        return None;
+    match operand {
+        Operand::Single(Item::Sum(x)) => value_of_sum(symbols, place, x),
+        _ => None,
     }
-    sum_of_terms(symbols, place, &operand.terms)
 }
 
 /// Returns the value of an operand by the names above.
@@ -193,34 +254,4 @@ pub fn value_by_names_above(symbols: &[Symbol], place: Place, operand: &Operand)
         return None;
     }
     value_of_operand(&symbols[..place.defined], place, operand)
-}
-
-/// Returns whether digits are 0 alone.
-fn is_digit_zero(digits: &[u8]) -> bool
-    ensures { result ≡ is_zero_digit digits.now }
-{
-    match digits {
-        [digit] => *digit == b'0',
-        _ => false,
-    }
-}
-
-/// Returns whether an atom is 0 without a letter.
-fn is_plain_zero(atom: &Atom) -> bool
-    ensures { result ≡ is_zero atom.now }
-{
-    match atom {
-        Atom::Number(digits, Radix::Plain) => is_digit_zero(digits),
-        _ => false,
-    }
-}
-
-/// Returns whether terms are -0.
-pub fn is_minus_zero(terms: &[Term]) -> bool
-    ensures { result ≡ are_ones terms.now }
-{
-    match terms {
-        [term] => term.is_minus && is_plain_zero(&term.atom) && term.factors.is_empty(),
-        _ => false,
-    }
 }

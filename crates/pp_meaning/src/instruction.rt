@@ -2,41 +2,20 @@
 ghost use Rattle.std.specs.Prelude.{◌≡◌, ◌<◌, IfSome, Some, ◌+◌, ◌*◌};
 ghost use Rattle.pp_notation.specs.Instructions.{form};
 ghost use Rattle.pp_notation.specs.InstructionWords.{constant_words, distance, one_word, then_distance};
-ghost use Rattle.pp_meaning.specs.Expressions.{address, address_around, field, operand_field, value};
+ghost use Rattle.pp_meaning.specs.Expressions.{address_around, value};
+ghost use Rattle.pp_meaning.specs.Fields.{operand_field};
 ghost use Rattle.pp_meaning.specs.Meaning.{distance_at, form_words, two_words, words_in};
 
-use crate::expressions::{Operand, Place, Symbol, is_minus_zero, value_of_operand};
+use crate::expressions::{Operand, Place, Symbol, value_of_operand};
+use crate::fields::field_in;
 use pp_notation::{Form, form_of};
 
-/// The greatest numbers of 6, of 12 and of 18 (decimal) bits.
-const D: u32 = 0o77;
+/// How many bits d, m and both have.
+const D: u32 = 6;
 
-const M: u32 = 0o7777;
+const M: u32 = 12;
 
-const DM: u32 = 0o777777;
-
-/// Returns a number as one up to a greatest one, which is all ones: minus is the complement.
-fn field_of(most: u32, is_ones: bool, number: i64) -> Option<u32>
-    ensures { IfSome result (λ d. field most is_ones number ≡ Some d) }
-{
-    let size = u32::try_from(number.unsigned_abs()).ok()?;
-    if size > most {
-        return None;
-    }
-    if number < 0 || is_ones {
-        Some(most - size)
-    } else {
-        Some(size)
-    }
-}
-
-/// Returns an operand as a number up to a greatest one.
-pub fn field_in(most: u32, symbols: &[Symbol], place: Place, operand: &Operand) -> Option<u32>
-    ensures { IfSome result (λ d. operand_field most symbols.now place operand.now ≡ Some d) }
-{
-    let number = value_of_operand(symbols, place, operand)?;
-    field_of(most, is_minus_zero(&operand.terms), number)
-}
+const DM: u32 = 18;
 
 /// Returns an address, around 0000 and 7777.
 fn address_of(number: i64) -> Option<usize>

@@ -3,14 +3,21 @@
 
 mod encoder;
 mod expressions;
+mod fields;
 mod instruction;
 mod lines;
+mod literals;
 mod names;
 mod numbers;
 mod program;
 mod statements;
+mod texts;
 
 pub use encoder::encode;
-pub use expressions::{Atom, Base, Factor, Operand, Place, Radix, Symbol, Term};
+pub use expressions::{
+    Atom, Base, Expression, Factor, Item, Linkage, Literal, Operand, Place, Radix, Sign, Symbol,
+    Term,
+};
 pub use program::program_of;
 pub use statements::{Image, Label, Operation, Refusal, State, Statement};
+pub use texts::{Cut, Kind, Text};

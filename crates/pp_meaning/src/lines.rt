@@ -1,11 +1,18 @@
 //! How statements are written.
-ghost use Rattle.std.specs.Prelude.{◌≡◌, ◌++◌, codes, slice_get, IfOk, IfSome, IsTrue, OnOk, ◌&&◌, ◌==◌, ◌||◌, not, length, take, ◌+◌, true};
+ghost use Rattle.std.specs.Prelude.{◌≡◌, ◌∷◌, ◌++◌, [], codes, slice_get, IfOk, IfSome, IsTrue, OnOk, ◌&&◌, ◌==◌, ◌||◌, not, length, map, take, ◌+◌, true};
 ghost use Rattle.std.specs.List.{AllByRecursion, flat_map, list_all};
 ghost use Rattle.pp_meaning.specs.declared.statements.Operation.TheVariants.{Instruction};
-ghost use Rattle.pp_meaning.specs.Lines.{IsWritten, atom_text, base_name, begins_blank, factor_text, is_blank, is_cut, is_gap, is_margin, is_wide, label_text, letter, line_text, operand_text, operands_text, operation_name, symbol_name, term_text, variable};
+ghost use Rattle.pp_meaning.specs.Lines.{IsWritten, atom_text, base_name, begins_blank, external_letter, factor_text, follows_text, is_blank, is_comment, is_cut, is_gap, is_margin, is_wide, item_text, kind_letter, label_text, letter, line_text, operand_text, operands_text, operation_name, sign_text, sum_text, symbol_name, term_text, variable};
+ghost use Rattle.pp_notation.specs.DisplayCode.{symbol};
+ghost use Rattle.pp_meaning.specs.Numbers.{decimal_number};
+ghost use Rattle.pp_meaning.specs.Texts.{has_all, text_with};
 
-use crate::expressions::{Atom, Base, Factor, Operand, Radix, Symbol, Term};
+use crate::expressions::{
+    Atom, Base, Expression, Factor, Item, Linkage, Operand, Radix, Sign, Symbol, Term,
+};
+use crate::numbers::decimal_value;
 use crate::statements::{Label, Operation, Refusal, Statement};
+use crate::texts::{Cut, Kind, Text, put_codes, put_text};
 use pp_notation::name_of;
 use std::alloc::{AllocError, Global};
 
@@ -31,6 +38,15 @@ fn name_at(symbols: &[Symbol], index: usize) -> &[u8]
     }
 }
 
+/// Writes symbols as a number.
+fn put_symbols(out: &mut Vec<u8>, digits: &[u8], items: &[u8]) -> Result<(), AllocError>
+    ensures { OnOk result (out.new.items ≡ out.old.items ++ digits.now ++ codes "R" ++ map symbol items.now) }
+{
+    out.extend_from_slice(digits)?;
+    out.push(b'R')?;
+    put_codes(out, items)
+}
+
 /// Writes an atom.
 fn put_atom(out: &mut Vec<u8>, symbols: &[Symbol], atom: &Atom) -> Result<(), AllocError>
     ensures { OnOk result (out.new.items ≡ out.old.items ++ atom_text symbols.now atom.now) }
@@ -45,6 +61,13 @@ fn put_atom(out: &mut Vec<u8>, symbols: &[Symbol], atom: &Atom) -> Result<(), Al
         Atom::LocationCounter => out.extend_from_slice(b"*L"),
         Atom::OriginCounter => out.extend_from_slice(b"*O"),
         Atom::Nothing => out.extend_from_slice(b"**"),
+        Atom::Shifted(digits, radix, shift) => {
+            out.extend_from_slice(digits)?;
+            out.extend_from_slice(letter_of(*radix))?;
+            out.push(b'S')?;
+            out.extend_from_slice(shift)
+        }
+        Atom::Symbols(digits, items) => put_symbols(out, digits, items),
     }
 }
 
@@ -66,11 +89,21 @@ fn put_factors(out: &mut Vec<u8>, symbols: &[Symbol], factors: &[Factor]) -> Res
     Ok(())
 }
 
+fn symbol_of_sign(sign: Sign) -> u8
+    ensures { sign_text sign ≡ result ∷ [] }
+{
+    match sign {
+        Sign::Plus => b'+',
+        Sign::Minus => b'-',
+        Sign::Differ => b'^',
+    }
+}
+
 /// Writes a term with its sign.
 fn put_term(out: &mut Vec<u8>, symbols: &[Symbol], term: &Term) -> Result<(), AllocError>
     ensures { OnOk result (out.new.items ≡ out.old.items ++ term_text symbols.now term.now) }
 {
-    out.push(if term.is_minus { b'-' } else { b'+' })?;
+    out.push(symbol_of_sign(term.sign))?;
     put_atom(out, symbols, &term.atom)?;
     put_factors(out, symbols, &term.factors)
 }
@@ -86,6 +119,65 @@ fn terms_text(alloc: Global, symbols: &[Symbol], terms: &[Term]) -> Result<Vec<u
     Ok(out)
 }
 
+/// Writes an expression.
+fn put_sum(
+    alloc: Global,
+    out: &mut Vec<u8>,
+    symbols: &[Symbol],
+    x: &Expression,
+) -> Result<(), AllocError>
+    ensures { OnOk result (out.new.items ≡ out.old.items ++ sum_text symbols.now x.now) }
+{
+    let signed = terms_text(alloc, symbols, &x.terms)?;
+    if x.has_sign {
+        return out.extend_from_slice(&signed);
+    }
+    match signed.as_slice() {
+        [] => Ok(()),
+        [_, unsigned @ ..] => out.extend_from_slice(unsigned),
+    }
+}
+
+/// Returns the letter of a text.
+fn letter_of_text(kind: Kind) -> &'static [u8]
+    ensures { result.now ≡ kind_letter kind }
+{
+    match kind {
+        Kind::H => b"H",
+        Kind::A => b"A",
+        Kind::L => b"L",
+        Kind::R => b"R",
+        Kind::C => b"C",
+        Kind::Z => b"Z",
+    }
+}
+
+/// Writes an expression or a text.
+fn put_item(
+    alloc: Global,
+    out: &mut Vec<u8>,
+    symbols: &[Symbol],
+    item: &Item,
+) -> Result<(), AllocError>
+    ensures { OnOk result (out.new.items ≡ out.old.items ++ item_text symbols.now item.now) }
+{
+    match item {
+        Item::Sum(x) => put_sum(alloc, out, symbols, x),
+        Item::Characters(text) => put_text(out, letter_of_text(text.kind), text),
+    }
+}
+
+/// Returns the letter before a name.
+fn letter_of_name(linkage: Linkage) -> &'static [u8]
+    ensures { result.now ≡ external_letter linkage }
+{
+    match linkage {
+        Linkage::S => b"S",
+        Linkage::X => b"X",
+        Linkage::Y => b"Y",
+    }
+}
+
 /// Writes an operand.
 fn put_operand(
     alloc: Global,
@@ -95,14 +187,27 @@ fn put_operand(
 ) -> Result<(), AllocError>
     ensures { OnOk result (out.new.items ≡ out.old.items ++ operand_text symbols.now operand.now) }
 {
-    let signed = terms_text(alloc, symbols, &operand.terms)?;
-    if operand.has_sign {
-        return out.extend_from_slice(&signed);
+    match operand {
+        Operand::Single(item) => put_item(alloc, out, symbols, item),
+        Operand::Literal(_, item) => {
+            out.push(b'=')?;
+            put_item(alloc, out, symbols, item)
+        }
+        Operand::External(linkage, index) => {
+            out.push(b'=')?;
+            out.extend_from_slice(letter_of_name(*linkage))?;
+            out.extend_from_slice(name_at(symbols, *index))
+        }
     }
-    match signed.as_slice() {
-        [] => Ok(()),
-        [_, unsigned @ ..] => out.extend_from_slice(unsigned),
-    }
+}
+
+/// Returns the text of DIS after a comma.
+fn text_of_display(alloc: Global, text: &Text) -> Result<Vec<u8>, AllocError>
+    ensures { IfOk result (λ all. all.items ≡ text_with (codes ",") text.now) }
+{
+    let mut out = Vec::new(alloc);
+    put_text(&mut out, b",", text)?;
+    Ok(out)
 }
 
 /// Returns operands, each after a comma.
@@ -165,8 +270,11 @@ fn variable_of(
 ) -> Result<Vec<u8>, AllocError>
     ensures { IfOk result (λ text. text.items ≡ variable symbols.now operation operands.now) }
 {
-    match operation {
-        Operation::SetBase(base, more) => Vec::from_slice(alloc, beginning(base, more)),
+    match (operation, operands) {
+        (Operation::SetBase(base, more), _) => Vec::from_slice(alloc, beginning(base, more)),
+        (Operation::Display, [Operand::Single(Item::Characters(text))]) => text_of_display(
+            alloc, text,
+        ),
         _ => text_of_operands(alloc, symbols, operands),
     }
 }
@@ -189,8 +297,8 @@ fn name_of_operation(operation: Operation) -> Option<&'static [u8]>
     match operation {
         Operation::Blank => Some(b""),
         Operation::Instruction(code) => name_of_instruction(code),
-        Operation::Constants(true) => Some(b"DATA"),
-        Operation::Constants(false) => Some(b"CON"),
+        Operation::Constants => Some(b"CON"),
+        Operation::Data => Some(b"DATA"),
         Operation::Zeros => Some(b"BSSZ"),
         Operation::Space => Some(b"BSS"),
         Operation::Origin => Some(b"ORG"),
@@ -200,6 +308,7 @@ fn name_of_operation(operation: Operation) -> Option<&'static [u8]>
         Operation::Set => Some(b"SET"),
         Operation::SetBase(..) => Some(b"BASE"),
         Operation::Deck => Some(b"PERIPH"),
+        Operation::Display => Some(b"DIS"),
         Operation::End => Some(b"END"),
     }
 }
@@ -283,13 +392,47 @@ fn has_gap(label: Label, operation: Operation, margin: &[u8], gap: &[u8]) -> boo
     }
 }
 
+/// Returns whether a text of DIS has all its symbols, two for each word.
+fn has_all_symbols(count: usize, digits: &[u8]) -> bool
+    ensures { IsTrue result → has_all count (decimal_number digits.now) ≡ true }
+{
+    match decimal_value(digits) {
+        Some(number) if number >= 0 => number as usize == count / 2 && count % 2 == 0,
+        _ => false,
+    }
+}
+
+/// Returns whether a comment may follow a text of DIS.
+fn may_follow(cut: &Cut, count: usize, comment: &[u8]) -> bool
+    ensures { IsTrue result → follows_text cut.now count comment.now ≡ true }
+{
+    match cut {
+        Cut::Counted(digits) => comment.is_empty() || has_all_symbols(count, digits),
+        Cut::Marked(_) => begins_with_blank(comment),
+    }
+}
+
+/// Returns whether what follows the operands is a comment.
+fn has_comment(operation: Operation, operands: &[Operand], comment: &[u8]) -> bool
+    ensures { IsTrue result → is_comment operation operands.now comment.now ≡ true }
+{
+    match (operation, operands) {
+        (Operation::Display, [Operand::Single(Item::Characters(text))]) => may_follow(
+            &text.cut,
+            text.codes.len(),
+            comment,
+        ),
+        _ => begins_with_blank(comment),
+    }
+}
+
 /// Returns whether blanks are where a line needs them.
 fn is_cut_so(statement: &Statement, variable: &[u8]) -> bool
-    ensures { result ≡ (list_all is_blank statement.now.gap.items && list_all is_blank statement.now.space.items && begins_blank statement.now.comment.items && is_gap statement.now.label statement.now.operation statement.now.margin.items statement.now.gap.items && (not (length statement.now.space.items == 0) || length variable.now == 0)) }
+    ensures { IsTrue result → (list_all is_blank statement.now.gap.items && list_all is_blank statement.now.space.items && is_comment statement.now.operation statement.now.operands.items statement.now.comment.items && is_gap statement.now.label statement.now.operation statement.now.margin.items statement.now.gap.items && (not (length statement.now.space.items == 0) || length variable.now == 0)) ≡ true }
 {
     are_blanks(&statement.gap)
         && are_blanks(&statement.space)
-        && begins_with_blank(&statement.comment)
+        && has_comment(statement.operation, &statement.operands, &statement.comment)
         && has_gap(
             statement.label,
             statement.operation,

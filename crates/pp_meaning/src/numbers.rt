@@ -1,8 +1,9 @@
 //! Numbers: digits, sums and products.
-ghost use Rattle.std.specs.Prelude.{◌≡◌, IfSome, Some, pos};
-ghost use Rattle.pp_meaning.specs.Expressions.{are_digits, decimal_number, each_digit, number_value, octal_number, plain_number, plus, small, times, value_from};
+ghost use Rattle.std.specs.Prelude.{◌≡◌, ◌^◌, IfSome, Some, pos};
+ghost use Rattle.pp_meaning.specs.Expressions.{difference, plus, shifted, times};
+ghost use Rattle.pp_meaning.specs.Numbers.{are_digits, decimal_number, each_digit, number_value, octal_number, plain_number, small, value_from};
 
-use crate::expressions::{Base, Radix};
+use crate::expressions::{Base, Radix, Sign};
 
 /// Returns the number that digits write.
 fn digits_value(digits: &[u8], radix: u64) -> Option<u64>
@@ -42,7 +43,7 @@ fn octal_value(digits: &[u8]) -> Option<i64>
     i64::try_from(digits_value(digits, 8)?).ok()
 }
 
-fn decimal_value(digits: &[u8]) -> Option<i64>
+pub fn decimal_value(digits: &[u8]) -> Option<i64>
     ensures { IfSome result (λ value. decimal_number digits.now ≡ Some value) }
 {
     if !all_digits(digits, b'9') {
@@ -84,15 +85,46 @@ pub fn value_of(digits: &[u8], radix: Radix, base: Option<Base>) -> Option<i64>
     }
 }
 
-/// Returns a sum or a difference.
-pub fn sum_of(a: i64, b: i64, is_minus: bool) -> Option<i64>
-    ensures { IfSome result (λ value. plus is_minus (Some a) (Some b) ≡ Some value) }
+/// Returns the bits in which two numbers differ, if none has a minus.
+fn difference_of(a: i64, b: i64) -> Option<i64>
+    ensures { IfSome result (λ value. difference a b ≡ Some value) }
 {
-    if is_minus {
-        a.checked_sub(b)
-    } else {
-        a.checked_add(b)
+    if a < 0 || b < 0 {
+        return None;
     }
+    let bits = a as u64 ^ b as u64;
+    i64::try_from(bits).ok()
+}
+
+/// Returns a sum or a difference.
+pub fn sum_of(a: i64, b: i64, sign: Sign) -> Option<i64>
+    ensures { IfSome result (λ value. plus sign (Some a) (Some b) ≡ Some value) }
+{
+    match sign {
+        Sign::Plus => a.checked_add(b),
+        Sign::Minus => a.checked_sub(b),
+        Sign::Differ => difference_of(a, b),
+    }
+}
+
+/// Returns two to a power.
+pub fn power_of_two(bits: u32) -> Option<u64>
+    ensures { IfSome result (λ power. power ≡ 2 ^ bits) }
+{
+    let mut power: u64 = 1;
+    for _bit in 0..bits {
+        power = power.checked_mul(2)?;
+    }
+    Some(power)
+}
+
+/// Returns a number shifted to the left by as many bits as digits say.
+pub fn shifted_by(number: i64, digits: &[u8]) -> Option<i64>
+    ensures { IfSome result (λ value. shifted (Some number) (decimal_number digits.now) ≡ Some value) }
+{
+    let bits = decimal_value(digits)?;
+    let power = power_of_two(u32::try_from(bits).ok()?)?;
+    number.checked_mul(i64::try_from(power).ok()?)
 }
 
 /// Returns a product or a quotient.

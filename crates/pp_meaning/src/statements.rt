@@ -1,18 +1,25 @@
 //! Statements, and what they do.
-ghost use Rattle.std.specs.Prelude.{◌≡◌, ◌∷◌, ◌++◌, ◌+◌, ◌≤◌, IfOk, IfSome, OnOk, Some, None, [], pos, fold, length, replicate, slice_get};
+ghost use Rattle.std.specs.Prelude.{◌≡◌, ℕ, List, ◌∷◌, ◌++◌, ◌+◌, ◌≤◌, IfOk, IfSome, OnOk, Some, None, [], pos, fold, length, replicate, slice_get};
 ghost use Rattle.pp_meaning.specs.Expressions.{address, value_above};
-ghost use Rattle.pp_meaning.specs.Meaning.{IsAssembled, after, assembled, at, cells_on, constants, define, deck_base, ended, follow, is_symbol, labelled, moved, place_of, standing, store, then_words, with_constant, with_words, words_in, words_of, zeros};
+ghost use Rattle.pp_meaning.specs.Fields.{item_field};
+ghost use Rattle.pp_meaning.specs.Literals.{index_of};
+ghost use Rattle.pp_meaning.specs.Meaning.{IsAssembled, after, assembled, at, cells_on, constants, data_words, datum, define, deck_base, ended, follow, is_number, is_symbol, labelled, moved, naming, performed, place_of, reached, standing, store, then_words, with_constant, with_datum, with_literal, with_literals, with_words, words_in, words_of, zeros};
 ghost use Rattle.pp_meaning.specs.declared.statements.Label.TheVariants.{Empty};
 ghost use Rattle.pp_meaning.specs.declared.statements.Operation.TheVariants.{Deck, End, Location, Origin, Space};
 
-use crate::expressions::{Base, Operand, Place, Symbol, value_by_names_above};
-use crate::instruction::{Words, field_in, instruction};
+use crate::expressions::{
+    Atom, Base, Item, Literal, Operand, Place, Symbol, Term, value_by_names_above,
+};
+use crate::fields::{field_in, field_of_item};
+use crate::instruction::{Words, instruction};
+use crate::literals::{find, follow_one_another, is_literal_at, words_in};
+use crate::texts::{words_of_data, words_of_display};
 use std::alloc::{AllocError, AllocFailed, Global};
 
 /// The number of cells of a memory.
 pub const CELLS: usize = 4096;
-/// The greatest word.
-const WORD: u32 = 0o7777;
+/// How many bits a word has.
+const WORD: u32 = 12;
 
 /// Why there are no words.
 #[derive(Clone, Copy, Debug, PartialEq, Eq, Drop)]
@@ -55,8 +62,10 @@ pub enum Operation {
     Blank,
     /// The instruction with a code.
     Instruction(u8),
-    /// CON, or DATA with numbers.
-    Constants(bool),
+    /// CON.
+    Constants,
+    /// DATA.
+    Data,
     /// BSSZ.
     Zeros,
     /// BSS.
@@ -73,6 +82,8 @@ pub enum Operation {
     SetBase(Base, u8),
     /// PERIPH.
     Deck,
+    /// DIS.
+    Display,
     /// END.
     End,
 }
@@ -102,6 +113,8 @@ pub struct State {
     pub origin: usize,
     pub base: Option<Base>,
     pub defined: usize,
+    pub literals: usize,
+    pub reach: usize,
     pub memory: Vec<Option<u32>>,
     pub words: Vec<u32>,
     pub start: Option<u32>,
@@ -147,6 +160,104 @@ fn some_constants(
         return Ok(None);
     }
     words_of_constants(alloc, symbols, place, operands)
+}
+
+/// Returns whether terms are a number alone.
+fn are_number(terms: &[Term]) -> bool
+    ensures { result ≡ is_number terms.now }
+{
+    match terms {
+        [term] => matches!(term.atom, Atom::Number(..)) && term.factors.is_empty(),
+        _ => false,
+    }
+}
+
+/// Returns a list of one word.
+fn single(alloc: Global, word: u32) -> Result<Vec<u32>, AllocError>
+    ensures { IfOk result (λ words. words.items ≡ word ∷ []) }
+{
+    let mut words = Vec::new(alloc);
+    words.push(word)?;
+    Ok(words)
+}
+
+/// Returns a number of DATA.
+fn word_of_number(symbols: &[Symbol], place: Place, item: &Item) -> Option<u32>
+    ensures { IfSome result (λ word. item_field 12 symbols.now place item.now ≡ Some word) }
+{
+    u32::try_from(field_of_item(WORD, symbols, place, item)?).ok()
+}
+
+/// Returns the words of a number or a text of DATA.
+fn words_of_datum(
+    alloc: Global,
+    symbols: &[Symbol],
+    place: Place,
+    item: &Item,
+) -> Result<Option<Vec<u32>>, AllocError>
+    ensures { IfOk result (λ made. IfSome made (λ words. datum symbols.now place item.now ≡ Some words.items)) }
+{
+    match item {
+        Item::Characters(text) => words_of_data(alloc, text),
+        Item::Sum(x) => {
+            if !are_number(&x.terms) {
+                return Ok(None);
+            }
+            match word_of_number(symbols, place, item) {
+                Some(word) => Ok(Some(single(alloc, word)?)),
+                None => Ok(None),
+            }
+        }
+    }
+}
+
+/// Returns the words of an operand of DATA.
+fn words_of_operand(
+    alloc: Global,
+    symbols: &[Symbol],
+    place: Place,
+    operand: &Operand,
+) -> Result<Option<Vec<u32>>, AllocError>
+    ensures { IfOk result (λ made. IfSome made (λ more. (words : List ℕ) → with_datum symbols.now place (Some words) operand.now ≡ Some (words ++ more.items))) }
+{
+    match operand {
+        Operand::Single(item) => words_of_datum(alloc, symbols, place, item),
+        _ => Ok(None),
+    }
+}
+
+/// Returns the words of the operands of DATA.
+fn words_of_items(
+    alloc: Global,
+    symbols: &[Symbol],
+    place: Place,
+    operands: &[Operand],
+) -> Result<Option<Vec<u32>>, AllocError>
+    ensures { IfOk result (λ made. IfSome made (λ words. fold (with_datum symbols.now place) (Some []) operands.now ≡ Some words.items)) }
+{
+    let mut words = Vec::new(alloc);
+    for operand in operands {
+        match words_of_operand(alloc, symbols, place, operand)? {
+            Some(more) => words.extend_from_slice(&more)?,
+            None => return Ok(None),
+        }
+    }
+    Ok(Some(words))
+}
+
+/// Returns the words of DATA, which has an operand.
+fn some_data(
+    alloc: Global,
+    symbols: &[Symbol],
+    place: Place,
+    operands: &[Operand],
+) -> Result<Option<Vec<u32>>, AllocError>
+    ensures { IfOk result (λ made. IfSome made (λ words. data_words symbols.now place operands.now ≡ Some words.items)) }
+{
+    if operands.is_empty() {
+        return Ok(None);
+    }
+    words_of_items(alloc, symbols, place, operands)
 }
 
 /// Returns words of zero.
@@ -201,11 +312,15 @@ fn words_at(
             Some(words) => Ok(Some(listed(alloc, words)?)),
             None => Ok(None),
         },
-        (Operation::Constants(_), _) => some_constants(alloc, symbols, place, operands),
+        (Operation::Constants, _) => some_constants(alloc, symbols, place, operands),
+        (Operation::Data, _) => some_data(alloc, symbols, place, operands),
         (Operation::Zeros, [x]) => match address_above(symbols, place, x) {
             Some(count) => Ok(Some(words_of_zero(alloc, count)?)),
             None => Ok(None),
         },
+        (Operation::Display, [Operand::Single(Item::Characters(text))]) => words_of_display(
+            alloc, text,
+        ),
         _ => Ok(None),
     }
 }
@@ -432,12 +547,134 @@ impl State {
                 _,
                 Operation::Blank
                 | Operation::Instruction(_)
-                | Operation::Constants(_)
-                | Operation::Zeros,
+                | Operation::Constants
+                | Operation::Data
+                | Operation::Zeros
+                | Operation::Display,
                 _,
             ) => { self.fill(alloc, symbols, label, operation, operands) }
             _ => Ok(None),
         }
+    }
+}
+
+impl State {
+    /// Notes that a literal is named. Returns whether it is one of those named above, or the next one.
+    fn name_literal(&mut self, literals: &[Literal], address: usize, words: &[u32]) -> Option<()>
+        ensures { IfSome result (λ done. naming literals.now (standing self.old) address (index_of literals.now (Some words.now)) ≡ Some (standing self.new)) }
+    {
+        let index = find(literals, words)?;
+        if !is_literal_at(literals, index, address) {
+            return None;
+        }
+        if index < self.literals {
+            return Some(());
+        }
+        if index != self.literals {
+            return None;
+        }
+        self.literals = self.literals.checked_add(1)?;
+        Some(())
+    }
+
+    /// Notes the literal that an operand names, if it names one.
+    fn note_operand(
+        &mut self,
+        alloc: Global,
+        symbols: &[Symbol],
+        literals: &[Literal],
+        operand: &Operand,
+    ) -> Result<Option<()>, AllocError>
+        ensures { IfOk result (λ made. IfSome made (λ done. with_literal symbols.now literals.now (Some (standing self.old)) operand.now ≡ Some (standing self.new))) }
+    {
+        let Operand::Literal(address, item) = operand else {
+            return Ok(Some(()));
+        };
+        match words_of_datum(alloc, symbols, self.place(), item)? {
+            Some(words) => Ok(self.name_literal(literals, *address, &words)),
+            None => Ok(None),
+        }
+    }
+
+    /// Notes the literals that operands name.
+    fn note_operands(
+        &mut self,
+        alloc: Global,
+        symbols: &[Symbol],
+        literals: &[Literal],
+        operands: &[Operand],
+    ) -> Result<Option<()>, AllocError>
+        ensures { IfOk result (λ made. IfSome made (λ done. fold (with_literal symbols.now literals.now) (Some (standing self.old)) operands.now ≡ Some (standing self.new))) }
+    {
+        for operand in operands {
+            if self
+                .note_operand(alloc, symbols, literals, operand)?
+                .is_none()
+            {
+                return Ok(None);
+            }
+        }
+        Ok(Some(()))
+    }
+
+    /// Keeps the cell after the highest one.
+    fn reach_on(&mut self)
+        ensures { reached (Some (standing self.old)) ≡ Some (standing self.new) }
+    {
+        if self.reach < self.origin {
+            self.reach = self.origin;
+        }
+    }
+
+    /// Does what a statement says, and notes its literals.
+    fn follow(
+        &mut self,
+        alloc: Global,
+        symbols: &[Symbol],
+        literals: &[Literal],
+        statement: &Statement,
+    ) -> Result<Option<()>, AllocError>
+        ensures { IfOk result (λ made. IfSome made (λ done. follow symbols.now literals.now (Some (standing self.old)) statement.now ≡ Some (standing self.new))) }
+    {
+        let operands = &statement.operands;
+        if self
+            .note_operands(alloc, symbols, literals, operands)?
+            .is_none()
+        {
+            return Ok(None);
+        }
+        let Statement {
+            label,
+            operation,
+            ..
+        } = statement;
+        if self
+            .perform(alloc, symbols, *label, *operation, operands)?
+            .is_none()
+        {
+            return Ok(None);
+        }
+        self.reach_on();
+        Ok(Some(()))
+    }
+
+    /// Puts the literals behind the highest cell.
+    fn put_literals(
+        &mut self,
+        alloc: Global,
+        literals: &[Literal],
+    ) -> Result<Option<()>, AllocError>
+        ensures { IfOk result (λ made. IfSome made (λ done. with_literals literals.now (Some (standing self.old)) ≡ Some (standing self.new))) }
+    {
+        if literals.is_empty() {
+            return Ok(Some(()));
+        }
+        if self.literals != literals.len() || !follow_one_another(literals, self.reach) {
+            return Ok(None);
+        }
+        let words = words_in(alloc, literals)?;
+        self.origin = self.reach;
+        self.put_words(&words)
     }
 }
 
@@ -456,9 +693,10 @@ fn empty_memory(alloc: Global) -> Result<Vec<Option<u32>>, AllocError>
 fn perform_all(
     alloc: Global,
     symbols: &[Symbol],
+    literals: &[Literal],
     statements: &[Statement],
 ) -> Result<State, Refusal>
-    ensures { IfOk result (λ state. assembled symbols.now statements.now ≡ Some (standing state)) }
+    ensures { IfOk result (λ state. performed symbols.now literals.now statements.now ≡ Some (standing state)) }
 {
     let memory = empty_memory(alloc)?;
     let mut state = State {
@@ -466,20 +704,15 @@ fn perform_all(
         origin: 0,
         base: None,
         defined: 0,
+        literals: 0,
+        reach: 0,
         memory,
         words: Vec::new(alloc),
         start: None,
     };
     let mut index: usize = 0;
     for statement in statements {
-        let done = state.perform(
-            alloc,
-            symbols,
-            statement.label,
-            statement.operation,
-            &statement.operands,
-        )?;
-        if done.is_none() {
+        if state.follow(alloc, symbols, literals, statement)?.is_none() {
             return Err(Refusal::At(index));
         }
         index = index.saturating_add(1);
@@ -487,15 +720,32 @@ fn perform_all(
     Ok(state)
 }
 
+/// Returns what there is after statements and literals.
+fn assemble_all(
+    alloc: Global,
+    symbols: &[Symbol],
+    literals: &[Literal],
+    statements: &[Statement],
+) -> Result<State, Refusal>
+    ensures { IfOk result (λ state. assembled symbols.now literals.now statements.now ≡ Some (standing state)) }
+{
+    let mut state = perform_all(alloc, symbols, literals, statements)?;
+    match state.put_literals(alloc, literals)? {
+        Some(()) => Ok(state),
+        None => Err(Refusal::At(statements.len())),
+    }
+}
+
 /// Returns what statements make.
 pub fn image_of(
     alloc: Global,
     symbols: &[Symbol],
+    literals: &[Literal],
     statements: &[Statement],
 ) -> Result<Image, Refusal>
-    ensures { IfOk result (λ image. IsAssembled symbols.now statements.now image) }
+    ensures { IfOk result (λ image. IsAssembled symbols.now literals.now statements.now image) }
 {
-    let state = perform_all(alloc, symbols, statements)?;
+    let state = assemble_all(alloc, symbols, literals, statements)?;
     if state.defined != symbols.len() {
         return Err(Refusal::At(statements.len()));
     }

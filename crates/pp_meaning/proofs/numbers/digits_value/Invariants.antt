@@ -1,5 +1,5 @@
 use Rattle.std.proofs.Common.{◌≡◌, drop}
-use Rattle.pp_meaning.specs.Expressions.{value_from}
+use Rattle.pp_meaning.specs.Numbers.{value_from}
 use Rattle.pp_meaning.proofs.numbers.digits_value.Given as goal
 
 abbrev pub invariant-loop-digit : goal.invariant-loop-digit
