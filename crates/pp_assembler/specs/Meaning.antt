@@ -7,6 +7,7 @@ use Rattle.pp_meaning.specs.Cells.{addressed, filled}
 use Rattle.pp_meaning.specs.Lines.{IsWritten}
 use Rattle.pp_meaning.specs.Meaning.{IsAssembled}
 use Rattle.pp_meaning.specs.Names.{AreNames}
+use Rattle.pp_meaning.specs.declared.expressions.Literal.{Literal}
 use Rattle.pp_meaning.specs.declared.expressions.Symbol.{Symbol}
 use Rattle.pp_meaning.specs.declared.statements.Image.{Image}
 use Rattle.pp_meaning.specs.declared.statements.Statement.{Statement}
@@ -20,9 +21,9 @@ use Rattle.pp_assembler.specs.declared.program.Performed.{Performed}
 
 -- The words of a program, by cell and in the order of the listing, are those that statements mean. The line of each statement is its
 -- label, operation, operands and comment, and no two names are one.
-pub record IsWordsOf (symbols : List Symbol) (statements : List Statement) (program : Program) (words : List ℕ) : Type 0 where
+pub record IsWordsOf (symbols : List Symbol) (literals : List Literal) (statements : List Statement) (program : Program) (words : List ℕ) : Type 0 where
   pub image : Image
-  pub assembled : IsAssembled symbols statements image
+  pub assembled : IsAssembled symbols literals statements image
   pub written : AllByRecursion (IsWritten symbols) statements
   pub names : AreNames symbols
   pub cells : addressed program.cells.items ≡ filled 0 image.memory.items
@@ -52,7 +53,7 @@ ArePerformed lines rows performed = AllZip (IsPerformed lines rows) performed.st
 -- A program and its words are those of statements that have been performed.
 abbrev pub AreMeant : Lines → List Row → Program → List ℕ → Performed → Type 0
 AreMeant lines rows program words performed =
-    IsWordsOf performed.symbols.items performed.statements.items program words × ArePerformed lines rows performed
+    IsWordsOf performed.symbols.items performed.literals.items performed.statements.items program words × ArePerformed lines rows performed
 
 -- What a pass has found has words only if they are those of its statements.
 abbrev pub IsFound : Lines → List Row → Found → Type 0

@@ -5,7 +5,7 @@ use crate::pass::Pass;
 use crate::running::Job;
 use pp_source::{
     Argument, Fault, Field, Here, Lines, Opening, Operation, Outcome, Remote, Span, Statement,
-    Stop, operation_of,
+    Stop, Wording, cut, operation_of,
 };
 use pp_statements::Base;
 
@@ -14,7 +14,7 @@ use pp_statements::Base;
 pub struct Block {
     first: Span,
     second: Span,
-    end: Span,
+    pub end: Span,
     /// The lines are ended, or counted.
     is_closed: bool,
 }
@@ -29,6 +29,30 @@ impl Block {
             is_closed,
         }
     }
+}
+
+/// Returns that a statement counts more lines than there are.
+fn fewer_lines(statement: Statement, count: usize) -> Fault {
+    Fault::new(Wording::HasFewerLines)
+        .part(statement.operation)
+        .count(count)
+}
+
+/// Returns whether a statement is an ELSE that counts its lines, of a condition with a label.
+fn is_else(here: &Here, statement: Statement, own: &[u8]) -> bool {
+    let label = statement.location.of(here.text);
+    matches!(statement.operation.of(here.text), b"ELSE")
+        && !statement.operand.is_empty()
+        && (label.is_empty() || label == own)
+}
+
+/// Returns the name that an end gives to say which statement it ends: the label, or else the name of a macro.
+pub fn name_of_block(here: &Here, statement: Statement, kind: Opening) -> Span {
+    if !statement.location.is_empty() || !matches!(kind, Opening::Macro { .. }) {
+        return here.span_of(statement.location);
+    }
+    let (name, _) = cut(statement.operand.of(here.text), b',');
+    here.span_of(statement.operand.part(0, name.len()))
 }
 
 impl Pass {
@@ -54,21 +78,20 @@ impl Pass {
         self.scope.plain_row(&here, false)?;
         let rest = Span::new(self.present.next, self.present.all.end);
         let name = statement.operation;
+        let own = name_of_block(&here, statement, kind);
         let count = self.count_of(&here, statement, kind)?;
         let found = match count {
-            0 => self.nested(lines, here.span_of(statement.location), kind, rest)?,
+            0 => self.nested(lines, own, kind, rest)?,
             _ => self.counted(lines, &here, name, rest, count)?,
         };
         if let Some(block) = found {
             return Ok(block);
         }
         let fault = match count {
-            0 => Fault::new("{} has no {}")
+            0 => Fault::new(Wording::HasNoEnd)
                 .part(name)
-                .with(Argument::Text(kind.end())),
-            _ => Fault::new("{} has fewer than {} (decimal) lines")
-                .part(name)
-                .count(count),
+                .with(Argument::Text(kind.ending())),
+            _ => fewer_lines(statement, count),
         };
         self.scope.report(&here, name.first, fault)?;
         Ok(Block::new(rest, false))
@@ -95,7 +118,7 @@ impl Pass {
         let operands = self.operands(here, statement)?;
         if let Some(before) = kind.operands() {
             if let Some(more) = operands.get(before.saturating_add(1)) {
-                let fault = Fault::new("{} takes {} (decimal) operands and a count of lines");
+                let fault = Fault::new(Wording::OperandsAndCount);
                 let fault = fault.part(statement.operation).count(before);
                 return Err(Stop::At(more.first, fault));
             }
@@ -127,7 +150,7 @@ impl Pass {
         let mut left = count;
         for index in rest.first..rest.end {
             if matches!(lines.part_of(index, Field::new(0, 1)), b"*") {
-                let fault = "warning: the notes among counted lines are not counted";
+                let fault = Wording::NotesNotCounted;
                 self.scope.warn(here, name.first, Fault::new(fault))?;
                 continue;
             }
@@ -140,9 +163,65 @@ impl Pass {
         Ok(None)
     }
 
+    /// ELSE n passes over n lines, if those before it were performed.
+    pub fn pass_else(&mut self, lines: &Lines, statement: Statement) -> Outcome {
+        let here = Here::new(lines, self.at);
+        let name = statement.operation;
+        let rest = Span::new(self.present.next, self.present.all.end);
+        let count = self.lines_count(&here, statement.operand)?;
+        if count == 0 {
+            return Err(Stop::of(Wording::EndsNothing, name));
+        }
+        let Some(block) = self.counted(lines, &here, name, rest, count)? else {
+            return Err(fewer_lines(statement, count).at(name.first));
+        };
+        self.go_on_at(block.end.end);
+        self.show(lines, Span::new(self.at, self.at.saturating_add(1)))?;
+        self.show(lines, block.first)
+    }
+
+    /// Returns the lines that a condition counts and that are not performed: up to an ELSE that counts its own, after them or among them.
+    fn up_to_else(&self, lines: &Lines, statement: Statement, block: Block) -> Block {
+        let own = lines.part_of(self.at, statement.location);
+        let counted = block.first;
+        let mut depth: u32 = 0;
+        for index in counted.first..self.present.all.end {
+            let here = Here::new(lines, index);
+            let found = self.statement(&here);
+            if let Ok(Some(inner)) = found {
+                if depth == 0 && is_else(&here, inner, own) {
+                    return Block {
+                        first: Span::new(counted.first, index),
+                        end: Span::new(index, index.saturating_add(1)),
+                        ..block
+                    };
+                }
+                depth = self.depth_after(&here, inner, depth);
+            }
+            if index >= counted.end && !matches!(found, Ok(None)) {
+                break;
+            }
+        }
+        block
+    }
+
+    /// Returns how many conditions are open after a statement, of those that do not count their lines.
+    fn depth_after(&self, here: &Here, statement: Statement, before: u32) -> u32 {
+        match operation_of(statement.operation.of(here.text)) {
+            Operation::Block(inner)
+                if inner.is_condition() && !self.has_count(here, statement, inner) => {
+                before.saturating_add(1)
+            }
+            Operation::Inside if matches!(statement.operation.of(here.text), b"ENDIF") => {
+                before.saturating_sub(1)
+            }
+            _ => before,
+        }
+    }
+
     /// Returns the lines up to the end of a statement with a name, if there is one. An end with a name is that of the statement with
-    /// this name, one without that of the last one that is open; of MACRO and RMT it is the first one.
-    fn nested(
+    /// this name, one without that of the last one that is open; of RMT it is the first one.
+    pub fn nested(
         &mut self,
         lines: &Lines,
         name: Span,
@@ -178,11 +257,14 @@ impl Pass {
         let word = statement.operation.of(here.text);
         let name = statement.location.of(here.text);
         let mut open = self.open_names.iter();
-        let own = open.position(|one| !name.is_empty() && one.of(&lines.capitals) == name);
+        let own = match name {
+            b"" => None,
+            name => open.position(|one| one.of(&lines.capitals) == name),
+        };
         let last = self.open_names.len().saturating_sub(1);
         if word == outer.end().as_bytes() {
             self.open_names.truncate(match outer {
-                Opening::Macro { .. } | Opening::Remote => 0,
+                Opening::Remote => 0,
                 _ => own.unwrap_or(last),
             });
             return Ok(false);
@@ -190,7 +272,8 @@ impl Pass {
         match operation_of(word) {
             Operation::Block(inner) if inner.end() == outer.end() => {
                 if !self.has_count(&here, statement, inner) {
-                    self.open_names.push(here.span_of(statement.location))?;
+                    self.open_names
+                        .push(name_of_block(&here, statement, inner))?;
                 }
                 Ok(false)
             }
@@ -228,9 +311,14 @@ impl Pass {
         } else {
             Ok(true)
         };
-        if is_condition && block.end.is_empty() && matches!(holds, Ok(true)) {
+        let is_counted = is_condition && block.end.is_empty();
+        if is_counted && matches!(holds, Ok(true)) {
             return Ok(());
         }
+        let block = match is_counted && matches!(holds, Ok(false)) {
+            true => self.up_to_else(lines, statement, block),
+            false => block,
+        };
         self.go_on_at(block.end.end);
         self.jobs.push(Job::Show(block.end))?;
         let is_first = holds?;
@@ -277,7 +365,7 @@ impl Pass {
         let operands = self.operands(here, statement)?;
         let operand = operands.first().copied().unwrap_or(statement.operand);
         let times = self.scope.count(here, operand, 0)?;
-        self.push_run(body, times, 0)
+        self.push_repeated(body, times)
     }
 
     /// Performs the lines up to ELSE, or those after it.

@@ -1,14 +1,9 @@
 //! The conditions of IF and the operations like it.
 use crate::pass::Pass;
 use pp_source::{
-    Fault, Field, Here, Opening, Operation, Order, Outcome, Statement, Stop, after_blanks, code_of,
-    end_of_word, first_parts, operation_of,
+    Fault, Field, Here, Opening, Operation, Order, Outcome, Statement, Stop, Wording, after_blanks,
+    code_of, end_of_word, first_parts, operation_of,
 };
-
-const TEXTS_WANTED: &str = "IFC wants EQ, NE, GT, GE, LT or LE, a comma and *one text*other text*";
-
-const ATTRIBUTE_WANTED: &str =
-    "IF wants DEF, SET, MIC, ABS, REL, EXT, COM, LCM, REG, SST or one of these after a minus, and a symbol";
 
 /// The operand of IFC: the condition, which a minus turns round, its two texts, and the count of lines.
 #[derive(Clone, Copy)]
@@ -24,7 +19,7 @@ pub struct Texts<'a> {
 pub fn texts_of<'a>(here: &Here<'a>, operand: Field) -> Outcome<Texts<'a>> {
     texts_in(operand.of(here.text), operand.end).ok_or(Stop::At(
         operand.first,
-        Fault::new(TEXTS_WANTED),
+        Fault::new(Wording::TextsWanted),
     ))
 }
 
@@ -84,9 +79,9 @@ impl Pass {
         let wanted = opening.operands().unwrap_or(0);
         if found.count < wanted {
             let fault = if wanted == 1 {
-                "{} wants one operand, and its lines end with ENDIF"
+                Wording::OneOperandOfCondition
             } else {
-                "{} wants two operands, and its lines end with ENDIF"
+                Wording::TwoOperandsOfCondition
             };
             return Err(Stop::of(fault, statement.operation));
         }
@@ -117,7 +112,7 @@ impl Pass {
             b"MIC" => self.vocabulary.micro_of(name).is_some(),
             b"ABS" => true,
             b"REL" | b"EXT" | b"COM" | b"LCM" | b"REG" | b"SST" => false,
-            _ => return Err(Stop::At(attribute.first, Fault::new(ATTRIBUTE_WANTED))),
+            _ => return Err(Stop::At(attribute.first, Fault::new(Wording::AttributeWanted))),
         };
         Ok(has != (word.first() == Some(&b'-')))
     }

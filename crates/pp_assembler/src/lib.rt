@@ -9,11 +9,13 @@ mod micros;
 mod pass;
 mod passes;
 mod program;
+mod readings;
 mod remote;
 mod running;
 mod terms;
 
 pub use passes::{assemble, assemble_with};
-pub use pp_source::{Complaint, Definition, Line, Lines, Span, Symbol, Symbols, Text};
+pub use pp_source::{Complaint, Deck, Decks, Definition, Line, Lines, Span, Symbol, Symbols, Text};
 pub use pp_statements::{CELLS, Row, Unit};
 pub use program::{Assembly, Performed};
+pub use readings::Reading;

@@ -1,8 +1,10 @@
 //! Macros: their definitions, and the lines that their calls make. ECHO makes lines likewise.
+use crate::blocks::name_of_block;
 use crate::pass::Pass;
 use pp_source::{
-    Argument, Call, Fault, Field, Here, Line, Lines, Macro, Meaning, Outcome, Span, Statement,
-    Stop, cut, end_of_name, length_without_blanks, split,
+    Argument, Call, Fault, Field, Here, Line, Lines, Macro, Meaning, Opening, Operation, Outcome,
+    Span, Statement, Stop, Wording, cut, end_of_name, length_without_blanks, operation_of,
+    split_nested,
 };
 use pp_statements::too_many_statements;
 use std::alloc::{AllocError, Global};
@@ -17,9 +19,8 @@ const MOST_PARTS: u32 = 1_000_000;
 const LABEL: usize = 8;
 /// The columns of an operation there.
 const OPERATION: usize = 6;
-
-const LISTS_DIFFER: &str =
-    "warning: the lists of ECHO are of several lengths; the shortest one ends it";
+/// What begins the operation that defines a macro.
+const MACRO: &[u8; 5] = b"MACRO";
 
 /// An operand of a macro's call: its column, and the part of the line without its parentheses.
 #[derive(Clone, Copy)]
@@ -87,7 +88,7 @@ impl Pass {
             [] => (none, none, [].as_slice()),
         };
         if name.is_empty() {
-            return Err(Stop::of("{} wants a name", statement.operation));
+            return Err(Stop::of(Wording::NameWanted, statement.operation));
         }
         let kept = Macro {
             name: self.keep_name(here, name)?,
@@ -128,7 +129,7 @@ impl Pass {
         let text = name.of(here.text);
         if !text.is_empty() && end_of_name(text, 0) != Some(text.len()) {
             self.scope
-                .report_stop(here, Stop::of("{} is no name", name))?;
+                .report_stop(here, Stop::of(Wording::NoName, name))?;
         }
         Ok(self.vocabulary.keep(text)?)
     }
@@ -143,7 +144,8 @@ impl Pass {
     ) -> Outcome {
         let kept = self.vocabulary.text.len();
         let here = Here::new(lines, self.at);
-        self.begin_call(&here, statement, called)?;
+        let is_of_system = called.body.end <= lines.source.first;
+        self.begin_call(&here, statement, called, is_of_system)?;
         let column = here.line.call.map_or(column, |outer| outer.column);
         let name = here.span_of(statement.operation);
         let line = Line {
@@ -160,16 +162,22 @@ impl Pass {
         self.push_run(made, 1, 1)
     }
 
-    /// Gives the operands of a call to the names of a macro, and its address to its label.
-    fn begin_call(&mut self, here: &Here, statement: Statement, called: Macro) -> Outcome {
+    /// Gives the operands of a call to the names of a macro, and its address to its label. SUBR wants one.
+    fn begin_call(
+        &mut self,
+        here: &Here,
+        statement: Statement,
+        called: Macro,
+        is_of_system: bool,
+    ) -> Outcome {
         let name = statement.operation;
         self.give_operands(here, statement, called)?;
         let has_label = !statement.location.is_empty();
-        if !called.label.is_empty() && !has_label {
-            return Err(Stop::of("{} wants a label", name));
+        if is_of_system && !called.label.is_empty() && !has_label {
+            return Err(Stop::of(Wording::LabelWanted, name));
         }
         if self.present.calls >= MOST_CALLS {
-            let fault = "macros call one another more than 20 (decimal) deep";
+            let fault = Wording::DeepMacros;
             return Err(Stop::At(name.first, Fault::new(fault)));
         }
         if called.label.is_empty() {
@@ -245,23 +253,28 @@ impl Pass {
         let words = &mut self.vocabulary;
         words.values.truncate(part.values);
         if let Some(items) = part.items {
-            let (text, items) = split(&words.text, items);
+            let (text, items) = split_nested(&words.text, items);
             if items.is_some() {
                 self.parts.push(Repetition { items, ..part })?;
             }
             let name = part.name;
             words.values.push(Meaning { name, text })?;
         }
+        let mut inner = part.body.first;
         for index in part.body.first..part.body.end {
             let here = Here::new(lines, index);
+            let is_own = index >= inner;
             match first_words(here.text) {
-                (b"LOCAL", names) => self.vocabulary.give_locals(names)?,
-                (b"IRP", name) if !name.is_empty() => {
+                (b"LOCAL", names) if is_own => self.vocabulary.give_locals(names)?,
+                (b"IRP", name) if is_own && !name.is_empty() => {
                     let rest = Span::new(index.saturating_add(1), part.body.end);
                     return self.begin_parts(lines, name, rest);
                 }
                 _ => {
-                    self.replace_line(lines, here)?;
+                    if is_own {
+                        inner = self.end_of_inner(lines, index, part.body.end)?;
+                    }
+                    self.replace_line(lines, Here::new(lines, index))?;
                     self.add_made(lines, name, line)?;
                 }
             }
@@ -269,11 +282,44 @@ impl Pass {
         Ok(())
     }
 
+    /// Returns the index of the last line of the macro that a line of another one defines, or that line if it defines none. The LOCAL and
+    /// IRP of such lines are those of the macro within.
+    fn end_of_inner(&mut self, lines: &Lines, index: usize, end: usize) -> Outcome<usize> {
+        let here = Here::new(lines, index);
+        let (first, second) = first_words(here.text);
+        if !(first.starts_with(MACRO.as_slice()) || second.starts_with(MACRO.as_slice())) {
+            return Ok(index);
+        }
+        let Ok(Some(statement)) = self.statement(&here) else {
+            return Ok(index);
+        };
+        let operation = operation_of(statement.operation.of(here.text));
+        let Operation::Block(kind @ Opening::Macro { .. }) = operation else {
+            return Ok(index);
+        };
+        let rest = Span::new(index.saturating_add(1), end);
+        let found = self.nested(lines, name_of_block(&here, statement, kind), kind, rest)?;
+        Ok(found.map_or(end, |block| block.end.first))
+    }
+
+    /// Returns the index of the IRP that ends the lines of another one, or that after all lines.
+    fn end_of_parts(&mut self, lines: &Lines, rest: Span) -> Outcome<usize> {
+        let mut inner = rest.first;
+        for index in rest.first..rest.end {
+            if index < inner {
+                continue;
+            }
+            if matches!(first_words(Here::new(lines, index).text), (b"IRP", b"")) {
+                return Ok(index);
+            }
+            inner = self.end_of_inner(lines, index, rest.end)?;
+        }
+        Ok(rest.end)
+    }
+
     /// Begins the lines up to the next IRP, which are there once for each item of what is given for a name.
     fn begin_parts(&mut self, lines: &Lines, name: &[u8], rest: Span) -> Outcome {
-        let end = (rest.first..rest.end)
-            .find(|at| matches!(first_words(Here::new(lines, *at).text), (b"IRP", b"")))
-            .unwrap_or(rest.end);
+        let end = self.end_of_parts(lines, rest)?;
         let words = &mut self.vocabulary;
         let items = words.meaning(&words.values, name);
         let name = words.keep(name)?;
@@ -289,7 +335,7 @@ impl Pass {
     /// Adds the line that has been made.
     fn add_made(&mut self, lines: &mut Lines, name: Field, line: Line) -> Outcome {
         if self.vocabulary.made.len() > LONGEST {
-            let fault = "a line that {} makes has more than 1000 (decimal) symbols";
+            let fault = Wording::LongMadeLine;
             return Err(Stop::of(fault, name));
         }
         self.count_made()?;
@@ -331,7 +377,7 @@ impl Pass {
         let mut end = lines.all.len();
         for _ in 0..count {
             let first = end.saturating_sub(size);
-            self.push_run(Span::new(first, end), 1, 0)?;
+            self.push_repeated(Span::new(first, end), 1)?;
             end = first;
         }
         Ok(())
@@ -355,7 +401,7 @@ impl Pass {
         let operands = operands_of(self.scope.alloc, here.text, statement.operand)?;
         for operand in operands.get(1..).unwrap_or(&[]) {
             let (name, Some(list)) = cut(operand.text.of(here.text), b'=') else {
-                let fault = Fault::new("{} is no name, a = and a list").part(operand.text);
+                let fault = Fault::new(Wording::NoNameAndList).part(operand.text);
                 return Err(Stop::At(operand.column, fault));
             };
             let list = without_all_parentheses(list);
@@ -367,7 +413,7 @@ impl Pass {
             most = size.max(most);
         }
         if least < most {
-            let fault = Fault::new(LISTS_DIFFER);
+            let fault = Fault::new(Wording::ListsDiffer);
             self.scope.warn(here, statement.operation.first, fault)?;
         }
         Ok(least.min(most))
@@ -377,10 +423,10 @@ impl Pass {
 /// Returns that a call of a macro does not have the operands that it may have.
 fn wrong_operands(called: Macro, name: Field, most: usize, count: usize) -> Fault {
     if called.has_names {
-        let fault = Fault::new("{} takes {} and nothing else").part(name);
+        let fault = Fault::new(Wording::TakesNothingElse).part(name);
         return fault.with(Argument::Names(called.operands));
     }
-    let fault = Fault::new("{} takes {} (decimal) operands, not {}").part(name);
+    let fault = Fault::new(Wording::TakesOperandsNot).part(name);
     fault.count(most).count(count)
 }
 

@@ -4,11 +4,13 @@ ghost use Rattle.pp_assembler.specs.Meaning.{ArePerformed, IsFound, IsWordsOf, r
 
 use crate::pass::Pass;
 use crate::program::Performed;
-use crate::terms::{Names, operand_of};
-use pp_meaning::{Operand, Operation as Meant, Refusal, Statement, Symbol, encode, program_of};
-use pp_notation::{Cell, Program};
+use crate::terms::{Names, begins_with_blank, may_follow, operand_of, text_of_display};
+use pp_meaning::{
+    Item, Literal, Operand, Operation as Meant, Refusal, Statement, Symbol, encode, program_of,
+};
+use pp_notation::{Cell, Form, Program, form_of};
 use pp_source::{
-    Elsewhere, Fault, Here, Lines, Message, Operation, Parts, Span, Statement as Fields, is_blank,
+    Elsewhere, Fault, Here, Lines, Message, Operation, Parts, Span, Statement as Fields, Wording,
     operation_of, tail,
 };
 use pp_statements::{CELLS, Row, base_of};
@@ -17,8 +19,10 @@ use std::alloc::{AllocError, Global};
 /// The greatest word.
 const WORD: u32 = 0o7777;
 
-const REFUSED: &str =
-    "this is right, and yet the assembler has no words for it: please report it with its source";
+/// The statement of a row of the listing that has a literal.
+const NO_STATEMENT: usize = usize::MAX;
+
+const REFUSED: Wording = Wording::NotEncoded;
 
 /// What statements make.
 #[derive(Drop)]
@@ -50,8 +54,8 @@ fn meant(operation: Operation, name: &[u8], operand: &[u8]) -> Option<Meant> {
     Some(match operation {
         Operation::None => Meant::Blank,
         Operation::Instruction(code) => Meant::Instruction(code),
-        Operation::Expressions => Meant::Constants(false),
-        Operation::Data => Meant::Constants(true),
+        Operation::Expressions => Meant::Constants,
+        Operation::Data => Meant::Data,
         Operation::Zeros => Meant::Zeros,
         Operation::Space => Meant::Space,
         Operation::Origin => Meant::Origin,
@@ -64,6 +68,7 @@ fn meant(operation: Operation, name: &[u8], operand: &[u8]) -> Option<Meant> {
         }
         Operation::Deck => Meant::Deck,
         Operation::End => Meant::End,
+        Operation::Text => Meant::Display,
         _ => return None,
     })
 }
@@ -109,7 +114,7 @@ fn part_of_statement(pass: &Pass, here: &Here, row: &Row, fields: Fields) -> Par
 
 /// Returns what a row is.
 fn part_of(pass: &Pass, lines: &Lines, row: &Row) -> Part {
-    if !row.is_performed {
+    if !row.is_performed || row.statement == NO_STATEMENT {
         return Part::Silent;
     }
     let here = Here::new(lines, row.statement);
@@ -149,22 +154,64 @@ fn names_of(alloc: Global, lines: &Lines, pass: &Pass) -> Result<Option<Names>, 
     Ok(Some(names))
 }
 
+/// Returns the address of a literal, by the words of the statement that has it as an operand.
+fn literal_address(operation: Meant, words: &[u16], index: usize) -> Option<usize> {
+    let first = usize::from(*words.first()?);
+    let second = words.get(1).copied().map(usize::from);
+    match operation {
+        Meant::Constants => words.get(index).copied().map(usize::from),
+        Meant::Instruction(code) => match (form_of(code), index) {
+            (Form::Constant, _) => Some((first & 0o77) << 12 | second?),
+            (Form::Indexed | Form::Both, 0) => second,
+            _ => Some(first & 0o77),
+        },
+        _ => None,
+    }
+}
+
+/// Returns the literals, which the listing has after the statements.
+fn literals_of(alloc: Global, pass: &Pass) -> Result<Vec<Literal>, AllocError> {
+    let mut literals = Vec::new(alloc);
+    for row in &pass.scope.rows {
+        if row.statement == NO_STATEMENT {
+            let mut words = Vec::new(alloc);
+            for word in words_of_row(pass, row) {
+                words.push(u32::from(*word))?;
+            }
+            let address = usize::try_from(row.origin).unwrap_or(CELLS);
+            literals.push(Literal { address, words })?;
+        }
+    }
+    Ok(literals)
+}
+
+/// Returns the words of a row.
+fn words_of_row<'a>(pass: &'a Pass, row: &Row) -> &'a [u16] {
+    pass.scope.words.get(row.first..row.end).unwrap_or(&[])
+}
+
 /// Returns the terms of operands, between two of which is a comma.
 fn operands_of(
     alloc: Global,
     names: &Names,
     line: &[u8],
-    operand: Span,
+    operation: Meant,
+    field: Span,
+    words: &[u16],
 ) -> Result<Option<Vec<Operand>>, AllocError> {
     let mut operands = Vec::new(alloc);
-    let mut parts = Parts::new(operand, false);
-    for _ in 0..=line.len() {
+    let is_data = matches!(operation, Meant::Data);
+    let is_literal = field.of(line).first() == Some(&b'=');
+    let is_instruction = matches!(operation, Meant::Instruction(_));
+    let mut parts = Parts::new(field, is_data || is_instruction && is_literal);
+    for index in 0..=line.len() {
         let part = match parts.next(line) {
             Ok(Some(part)) => part,
             Ok(None) => return Ok(Some(operands)),
             Err(_) => return Ok(None),
         };
-        match operand_of(alloc, names, part.of(line))? {
+        let address = literal_address(operation, words, index);
+        match operand_of(alloc, names, part.of(line), is_data, address)? {
             Some(operand) => operands.push(operand)?,
             None => return Ok(None),
         }
@@ -172,17 +219,41 @@ fn operands_of(
     Ok(None)
 }
 
-/// Returns the terms of the operands of a statement, if it has operands with terms.
-fn terms_of(
+/// Returns the text of DIS, and the columns that it has.
+fn display_of(
+    alloc: Global,
+    line: &[u8],
+    field: Span,
+) -> Result<Option<(Vec<Operand>, Span)>, AllocError> {
+    let Some((text, size)) = text_of_display(alloc, field.of(line))? else {
+        return Ok(None);
+    };
+    let field = field.part(0, size);
+    if !may_follow(&text, tail(line, field.end)) {
+        return Ok(None);
+    }
+    let mut operands = Vec::new(alloc);
+    operands.push(Operand::Single(Item::Characters(text)))?;
+    Ok(Some((operands, field)))
+}
+
+/// Returns the operands of a statement with their terms, and the columns that they have.
+fn variable_of(
     alloc: Global,
     names: &Names,
     line: &[u8],
     operation: Meant,
-    operand: Span,
-) -> Result<Option<Vec<Operand>>, AllocError> {
+    field: Span,
+    words: &[u16],
+) -> Result<Option<(Vec<Operand>, Span)>, AllocError> {
     match operation {
-        Meant::SetBase(..) => Ok(Some(Vec::new(alloc))),
-        _ => operands_of(alloc, names, line, operand),
+        Meant::SetBase(..) => Ok(Some((Vec::new(alloc), field))),
+        Meant::Deck => Ok(Some((Vec::new(alloc), Span::none()))),
+        Meant::Display => display_of(alloc, line, field),
+        _ => match operands_of(alloc, names, line, operation, field, words)? {
+            Some(operands) => Ok(Some((operands, field))),
+            None => Ok(None),
+        },
     }
 }
 
@@ -193,6 +264,7 @@ fn statement_of(
     line: &[u8],
     fields: Fields,
     operation: Meant,
+    words: &[u16],
 ) -> Result<Option<Statement>, AllocError>
     ensures { IfOk result (λ made. IfSome made (λ statement. statement.line.items ≡ line.now)) }
 {
@@ -201,17 +273,16 @@ fn statement_of(
         operation: name,
         operand,
     } = fields;
-    let (space, end) = if operand.is_empty() || matches!(operation, Meant::Deck) {
-        (Span::new(name.end, name.end), name.end)
-    } else {
-        (Span::new(name.end, operand.first), operand.end)
-    };
-    let variable = Span::new(space.end, end);
-    let Some(operands) = terms_of(alloc, names, line, operation, variable)? else {
+    let Some((operands, field)) = variable_of(alloc, names, line, operation, operand, words)? else {
         return Ok(None);
     };
+    let (space, end) = if field.is_empty() {
+        (Span::new(name.end, name.end), name.end)
+    } else {
+        (Span::new(name.end, field.first), field.end)
+    };
     let comment = tail(line, end);
-    if comment.first().is_some_and(|symbol| !is_blank(*symbol)) {
+    if !matches!(operation, Meant::Display) && !begins_with_blank(comment) {
         return Ok(None);
     }
     Ok(Some(Statement {
@@ -254,7 +325,14 @@ fn statements_of(
         }
         if let Part::Kept(fields, operation) = part_of(pass, lines, row) {
             let line = read_line(lines, row.statement);
-            match statement_of(alloc, &mut names, line, fields, operation)? {
+            match statement_of(
+                alloc,
+                &mut names,
+                line,
+                fields,
+                operation,
+                words_of_row(pass, row),
+            )? {
                 Some(statement) => statements.push(statement)?,
                 None => return Ok(None),
             }
@@ -263,6 +341,7 @@ fn statements_of(
     }
     Ok(Some(Performed {
         symbols: names.all,
+        literals: literals_of(alloc, pass)?,
         statements,
         lines: indices,
     }))
@@ -313,13 +392,14 @@ fn words_of(alloc: Global, words: &[u32]) -> Result<Option<Vec<u16>>, AllocError
 fn encoding_of(
     alloc: Global,
     symbols: &[Symbol],
+    literals: &[Literal],
     statements: &[Statement],
     lines: &[u32],
     count: usize,
 ) -> Result<(Program, Vec<u16>), Refusal>
-    ensures { IfOk result (λ made. IsWordsOf symbols.now statements.now made.0 made.1.items) }
+    ensures { IfOk result (λ made. IsWordsOf symbols.now literals.now statements.now made.0 made.1.items) }
 {
-    let image = encode(alloc, symbols, statements)?;
+    let image = encode(alloc, symbols, literals, statements)?;
     let refusal = Refusal::At(statements.len());
     let Some(program) = program_of(alloc, &image, lines)? else {
         return Err(refusal);
@@ -330,10 +410,13 @@ fn encoding_of(
     }
 }
 
-/// Returns whether the statement at an index is BSS, which may go back below cell 0: `pp_meaning` has no words of that.
-fn is_space(statements: &[Statement], index: usize) -> bool {
+/// Returns whether the statement at an index is BSS, which may go back below cell 0, or has a logical difference, whose numbers may have
+/// a minus: `pp_meaning` has no words of that.
+fn may_be_refused(statements: &[Statement], index: usize) -> bool {
     match statements.get(index) {
-        Some(statement) => matches!(statement.operation, Meant::Space),
+        Some(statement) => {
+            matches!(statement.operation, Meant::Space) || statement.line.contains(&b'^')
+        }
         None => false,
     }
 }
@@ -370,17 +453,19 @@ pub fn encode_performed(alloc: Global, lines: &Lines, pass: &Pass) -> Result<Fou
     let cells = lines_of_cells(alloc, unit.program.cells())?;
     let Performed {
         symbols,
+        literals,
         statements,
         ..
     } = &performed;
-    match encoding_of(alloc, symbols, statements, &cells, pass.scope.words.len()) {
+    let count = pass.scope.words.len();
+    match encoding_of(alloc, symbols, literals, statements, &cells, count) {
         Ok((program, words)) => Ok(Found::Words(Encoded {
             performed,
             program,
             words,
         })),
         Err(Refusal::NoMemory) => Err(AllocError),
-        Err(Refusal::At(index)) if is_space(statements, index) => Ok(Found::Nothing),
+        Err(Refusal::At(index)) if may_be_refused(statements, index) => Ok(Found::Nothing),
         Err(Refusal::At(index)) => Ok(Found::Refused(refused(lines, &performed, index))),
     }
 }

@@ -2,13 +2,11 @@
 use crate::pass::Pass;
 use pp_notation::put_digits;
 use pp_source::{
-    Definition, Fault, Field, Here, Lines, Meaning, Outcome, Span, Statement, Stop, cut,
+    Definition, Fault, Field, Here, Lines, Meaning, Outcome, Span, Statement, Stop, Wording, cut,
     end_of_name, first_parts,
 };
 use pp_statements::{Base, the_only, wants_operand};
 
-const MICRO_WANTED: &str =
-    "MICRO wants a number, how many symbols, and a text between two equal symbols";
 /// The text of the micros that COMPASS defines by the clock or its call.
 const BLANK: &[u8; 10] = b"          ";
 
@@ -67,7 +65,7 @@ impl Pass {
                 return Ok(Some(text));
             }
             b"DATE" | b"JDATE" | b"TIME" | b"MODLEVEL" | b"PCOMMENT" => {
-                let fault = Fault::new("warning: the micro {} is blank here").part(name);
+                let fault = Fault::new(Wording::BlankMicro).part(name);
                 self.scope.warn(here, name.first, fault)?;
                 BLANK.as_slice()
             }
@@ -79,7 +77,7 @@ impl Pass {
     /// MICRO n,m,*text* names m symbols of a text from the one with number n on; without m all up to its end.
     pub fn name_text(&mut self, here: &Here, statement: Statement) -> Outcome {
         let Some((number, size, text)) = operands_of_micro(here.text, statement.operand) else {
-            let fault = Fault::new(MICRO_WANTED);
+            let fault = Fault::new(Wording::MicroWanted);
             return Err(Stop::At(statement.operand.first, fault));
         };
         let number = self.lines_count(here, number)?;
@@ -132,7 +130,7 @@ impl Pass {
     fn name_micro(&mut self, here: &Here, statement: Statement, text: Span) -> Outcome {
         let name = statement.location.of(here.text);
         if end_of_name(name, 0) != Some(name.len()) {
-            return Err(Stop::of("{} wants a name before it", statement.operation));
+            return Err(Stop::of(Wording::NameBeforeWanted, statement.operation));
         }
         let name = self.vocabulary.keep(name)?;
         self.vocabulary.micros.push(Meaning { name, text })?;
@@ -142,11 +140,11 @@ impl Pass {
     /// MICCNT names how many symbols a micro has.
     pub fn count_micro(&mut self, here: &Here, statement: Statement) -> Outcome {
         if statement.location.is_empty() {
-            return Err(Stop::of("{} wants a symbol before it", statement.operation));
+            return Err(Stop::of(Wording::SymbolWanted, statement.operation));
         }
         let name = the_only(here, statement)?;
         let Some(text) = self.micro(here, name)? else {
-            return Err(Stop::of("{} is no micro", name));
+            return Err(Stop::of(Wording::NoMicro, name));
         };
         let count = i64::try_from(text.end.saturating_sub(text.first)).ok();
         let meaning = Definition {

@@ -1,5 +1,6 @@
 //! One pass over the statements of a source: what it knows, what the source has added to the notation, and what is still to be done.
 use crate::macros::Repetition;
+use crate::readings::Reading;
 use crate::running::{Job, Run};
 use pp_source::{Outcome, Span, Symbols, Vocabulary};
 use pp_statements::{Blocks, Scope, count_one};
@@ -21,6 +22,8 @@ pub struct Pass {
     pub open_names: Vec<Span>,
     /// The lines between two IRP that the next lines of a macro are within.
     pub parts: Vec<Repetition>,
+    /// The common decks that it has read.
+    pub readings: Vec<Reading>,
 }
 
 impl Pass {
@@ -40,6 +43,7 @@ impl Pass {
             jobs: Vec::new(alloc),
             open_names: Vec::new(alloc),
             parts: Vec::new(alloc),
+            readings: Vec::new(alloc),
         })
     }
 

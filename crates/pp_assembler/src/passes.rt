@@ -1,7 +1,11 @@
 //! A source in two passes: the first one finds what its names stand for, the second one makes its words and reports what is wrong.
-ghost use Rattle.std.specs.Prelude.{All, IfOk, IfSome, List, map};
+ghost use Rattle.std.specs.Prelude.{[], All, IfOk, IfSome, List, map};
+ghost use Rattle.std.specs.List.{AllByRecursion};
 ghost use Rattle.pp_notation.specs.Cells.{IsProgram, IsStart};
+ghost use Rattle.pp_assembler.specs.Decks.{AreRead, IsReading};
 ghost use Rattle.pp_assembler.specs.Meaning.{AreMeant, IsFound, IsMeant};
+ghost use Rattle.pp_source.specs.Decks.{AreOf};
+ghost use Rattle.pp_source.specs.declared.decks.Text.{Text as DeckText};
 ghost use Rattle.pp_source.specs.declared.lines.Lines.{Lines as AllLines};
 ghost use Rattle.pp_statements.specs.declared.scope.Row.{Row};
 ghost use Rattle.pp_source.specs.Places.{IsOfLine, length_of, line_lengths};
@@ -9,18 +13,19 @@ ghost use Rattle.pp_source.specs.Places.{IsOfLine, length_of, line_lengths};
 use crate::meaning::{Found, encode_performed};
 use crate::pass::Pass;
 use crate::program::{Assembly, Performed};
+use crate::readings::{Reading, are_readings};
 use crate::running::Ending;
 use pp_complaints::{Known, complaints};
 use pp_notation::Program;
-use pp_source::{Fault, Lines, Message, Span, Symbols, Text, cut_lines, read_lines};
+use pp_source::{
+    Decks, Fault, Lines, Message, Span, Symbols, Text, Wording, cut_lines, read_lines,
+};
 use pp_statements::{Blocks, Scope, Slot, Unit, program_of};
 use std::alloc::{AllocError, Global};
+use std::mem::replace;
 
 /// How many passes there are, until each block is where the pass before has put it.
 const MOST_PASSES: usize = 10;
-
-const UNSETTLED: &str =
-    "the addresses of blocks are others in each pass, for they depend on one another";
 
 /// Returns what a source makes that reads no common decks.
 ///
@@ -33,6 +38,8 @@ pub fn assemble(alloc: Global, source: &[u8]) -> Result<Assembly, AllocError>
     ensures warnings { IfOk result (λ made. All (IsOfLine (line_lengths source.now)) made.warnings.items) }
     // The words are what the statements mean.
     ensures meaning { IfOk result IsMeant }
+    // No deck is read.
+    ensures decks { IfOk result (AreRead []) }
 {
     assemble_with(alloc, source, &[])
 }
@@ -49,25 +56,64 @@ pub fn assemble_with(alloc: Global, source: &[u8], texts: &[Text]) -> Result<Ass
     ensures warnings { IfOk result (λ made. All (IsOfLine (line_lengths source.now)) made.warnings.items) }
     // The words are what the statements mean.
     ensures meaning { IfOk result IsMeant }
+    // What the source took from decks are the lines of the first one with each name.
+    ensures decks { IfOk result (AreRead texts.now) }
 {
     let spans = cut_lines(alloc, source)?;
-    let mut lines = read_lines(alloc, source, &spans, texts)?;
-    let mut pass = last_pass(alloc, &mut lines)?;
+    let (mut lines, decks) = read_lines(alloc, source, &spans, texts)?;
+    let mut pass = last_pass(alloc, &mut lines, &decks)?;
+    let readings = readings_of(alloc, &lines, &decks, &mut pass)?;
     let found = encode_performed(alloc, &lines, &pass)?;
     if let Found::Refused(message) = &found {
         pass.scope.messages.push(*message)?;
     }
-    assembly_of(alloc, lines, pass, found, &spans)
+    assembly_of(
+        alloc,
+        Read {
+            lines,
+            decks,
+            readings,
+        },
+        pass,
+        found,
+        &spans,
+    )
+}
+
+/// What is known of the lines of a source.
+#[derive(Drop)]
+struct Read {
+    lines: Lines,
+    decks: Decks,
+    readings: Vec<Reading>,
+}
+
+/// Returns what a pass has taken from common decks. If that is not their lines, a message says so.
+fn readings_of(
+    alloc: Global,
+    lines: &Lines,
+    decks: &Decks,
+    pass: &mut Pass,
+) -> Result<Vec<Reading>, AllocError>
+    ensures { IfOk result (λ readings. AllByRecursion (IsReading lines.now decks.now.all.items) readings.items) }
+{
+    let readings = replace(&mut pass.readings, Vec::new(alloc));
+    if are_readings(lines, decks, &readings) {
+        return Ok(readings);
+    }
+    let message = Message::new(1, 1, usize::MAX, Fault::new(Wording::NotEncoded));
+    pass.scope.messages.push(message)?;
+    Ok(Vec::new(alloc))
 }
 
 /// Returns the last pass over lines.
-fn last_pass(alloc: Global, lines: &mut Lines) -> Result<Pass, AllocError> {
+fn last_pass(alloc: Global, lines: &mut Lines, decks: &Decks) -> Result<Pass, AllocError> {
     let mut pass = Pass::new(alloc, Symbols::new(alloc), Blocks::new(alloc), false)?;
     for number in 0..MOST_PASSES {
         if number > 0 {
             pass = next_pass(alloc, pass)?;
         }
-        match pass.run(lines) {
+        match pass.run(lines, decks) {
             Ok(()) if number > 0 && pass.scope.has_settled() => return Ok(pass),
             Ok(()) => {}
             Err(Ending::NoMemory) => return Err(AllocError),
@@ -78,7 +124,7 @@ fn last_pass(alloc: Global, lines: &mut Lines) -> Result<Pass, AllocError> {
             }
         }
     }
-    let message = Message::new(1, 1, usize::MAX, Fault::new(UNSETTLED));
+    let message = Message::new(1, 1, usize::MAX, Fault::new(Wording::Unsettled));
     pass.scope.messages.push(message)?;
     Ok(pass)
 }
@@ -97,20 +143,27 @@ fn next_pass(alloc: Global, pass: Pass) -> Result<Pass, AllocError> {
 /// Returns what a pass has made.
 fn assembly_of(
     alloc: Global,
-    lines: Lines,
+    read: Read,
     pass: Pass,
     found: Found,
     spans: &[Span],
 ) -> Result<Assembly, AllocError>
     ensures messages { IfOk result (λ made. All (IsOfLine (map length_of spans.now)) made.messages.items) }
     ensures warnings { IfOk result (λ made. All (IsOfLine (map length_of spans.now)) made.warnings.items) }
-    ensures meaning { IsFound lines pass.scope.rows.items found → IfOk result IsMeant }
+    ensures meaning { IsFound read.lines pass.scope.rows.items found → IfOk result IsMeant }
+    ensures decks { (texts : List DeckText) → AreOf texts read.decks.all.items →
+        AllByRecursion (IsReading read.lines read.decks.all.items) read.readings.items → IfOk result (AreRead texts) }
 {
     let Pass {
         scope,
         vocabulary,
         ..
     } = pass;
+    let Read {
+        lines,
+        decks,
+        readings,
+    } = read;
     let Scope {
         mut units,
         cells,
@@ -129,6 +182,8 @@ fn assembly_of(
         meaning,
         others: units,
         lines,
+        decks,
+        readings,
         symbols,
         vocabulary,
         words,
@@ -136,21 +191,25 @@ fn assembly_of(
         messages: Vec::new(alloc),
         warnings: Vec::new(alloc),
     };
-    let known = Known {
-        lines: &made.lines,
-        symbols: &made.symbols,
-        vocabulary: &made.vocabulary,
-    };
     let messages = match made.meaning {
         Some(_) => Vec::new(alloc),
-        None => complaints(alloc, known, &wrong, spans)?,
+        None => complaints(alloc, known_of(&made), &wrong, spans)?,
     };
-    let warnings = complaints(alloc, known, &noticed, spans)?;
+    let warnings = complaints(alloc, known_of(&made), &noticed, spans)?;
     Ok(Assembly {
         messages,
         warnings,
         ..made
     })
+}
+
+/// Returns what messages may name.
+fn known_of(made: &Assembly) -> Known<'_> {
+    Known {
+        lines: &made.lines,
+        symbols: &made.symbols,
+        vocabulary: &made.vocabulary,
+    }
 }
 
 /// Returns the program of the first unit, or that of these cells if there is none.

@@ -1,7 +1,8 @@
 //! All that is known of a source.
-use pp_meaning::{Statement, Symbol};
+use crate::readings::Reading;
+use pp_meaning::{Literal, Statement, Symbol};
 use pp_notation::Program;
-use pp_source::{Complaint, Lines, Symbols, Vocabulary};
+use pp_source::{Complaint, Decks, Lines, Symbols, Vocabulary};
 use pp_statements::{Row, Unit};
 
 /// The statements of a source as they are performed, after macros, repetitions, conditions and micros, with the terms of their operands.
@@ -9,6 +10,8 @@ use pp_statements::{Row, Unit};
 pub struct Performed {
     /// What the names stand for, in the order of the statements that define them.
     pub symbols: Vec<Symbol>,
+    /// The words that operands name by what they are, in the order in which they are named first.
+    pub literals: Vec<Literal>,
     pub statements: Vec<Statement>,
     /// The index of the line of each statement.
     pub lines: Vec<usize>,
@@ -25,6 +28,10 @@ pub struct Assembly {
     pub others: Vec<Unit>,
     /// The lines, each with those that continue it.
     pub lines: Lines,
+    /// The common decks that were given.
+    pub decks: Decks,
+    /// The lines that read decks, as they were performed.
+    pub readings: Vec<Reading>,
     pub symbols: Symbols,
     pub vocabulary: Vocabulary,
     /// The words of the rows.

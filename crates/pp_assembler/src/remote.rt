@@ -1,8 +1,10 @@
 //! Directives that perform lines from elsewhere, or give operations other names.
 use crate::pass::Pass;
+use crate::readings::Reading;
 use pp_source::{
-    Argument, Call, Decks, Elsewhere, Fault, Field, Here, Line, Lines, Macro, Meaning, Outcome,
-    Span, Statement, Stop, after_blanks, end_of_word,
+    Argument, Call, Decks, Elsewhere, FIRST_OF_COMMENTS, Fault, Field, Here, Line, Lines, Macro,
+    Meaning, Operation, Outcome, Span, Statement, Stop, Wording, after_blanks, end_of_word,
+    operation_of,
 };
 use pp_statements::{the_only, too_many_statements};
 
@@ -14,15 +16,9 @@ const CALL: &[u8; 6] = b"*CALL ";
 /// Returns that there is no common deck with a name.
 fn no_deck(decks: &Decks, name: Field) -> Fault {
     let (text, nothing) = if decks.is_empty() {
-        (
-            "{} is a common deck: name the folder that has it by --text DIR",
-            "XTEXT",
-        )
+        (Wording::NoFolderOfDecks, Wording::Xtext)
     } else {
-        (
-            "the folder of common decks has no {}",
-            "deck without a name",
-        )
+        (Wording::NoDeck, Wording::NamelessDeck)
     };
     let name = match name.is_empty() {
         true => Argument::Text(nothing),
@@ -32,19 +28,44 @@ fn no_deck(decks: &Decks, name: Field) -> Fault {
 }
 
 /// Returns the name after *CALL, if a line is one, and there are common decks.
-pub fn name_after_call(lines: &Lines, index: usize) -> Option<Field> {
+pub fn name_after_call(lines: &Lines, decks: &Decks, index: usize) -> Option<Field> {
     let text = Here::new(lines, index).text;
-    if lines.decks.is_empty() || !text.starts_with(CALL.as_slice()) {
+    if decks.is_empty() || !text.starts_with(CALL.as_slice()) {
         return None;
     }
     let first = after_blanks(text, CALL.len());
     Some(Field::new(first, end_of_word(text, first)))
 }
 
+/// Returns the lines of the first deck with a name. No deck is without a name.
+fn deck_with(decks: &Decks, name: &[u8]) -> Option<Span> {
+    if name.is_empty() {
+        return None;
+    }
+    Some(decks.all.get(decks.find(name)?)?.lines)
+}
+
+/// Adds the lines of a deck, which have the number and the call of the line that reads it.
+fn copy_deck(lines: &mut Lines, deck: Span, number: u32, call: Call) -> Outcome {
+    for index in deck.first..deck.end {
+        let line = Here::new(lines, index).line;
+        lines.all.push(Line {
+            number,
+            call: Some(call),
+            ..line
+        })?;
+    }
+    if lines.all.len() > MOST_LINES {
+        return Err(too_many_statements());
+    }
+    Ok(())
+}
+
 impl Pass {
     pub fn elsewhere(
         &mut self,
         lines: &mut Lines,
+        decks: &Decks,
         statement: Statement,
         directive: Elsewhere,
     ) -> Outcome {
@@ -52,13 +73,15 @@ impl Pass {
         match directive {
             Elsewhere::Synonym => self.name_operation(&here, statement),
             Elsewhere::Purge => self.purge(&here, statement),
+            Elsewhere::Stop => self.stop_repetition(&here, statement),
+            Elsewhere::Column => self.set_comments(&here, statement),
             Elsewhere::Deck => {
                 let name = if statement.operand.is_empty() {
                     statement.location
                 } else {
                     statement.operand
                 };
-                self.read_deck(lines, name, statement.operand.first)
+                self.read_deck(lines, decks, name, statement.operand.first)
             }
             Elsewhere::Here => {
                 self.scope.plain_row(&here, false)?;
@@ -77,33 +100,33 @@ impl Pass {
     }
 
     /// Performs the lines of the common deck that a part of the present line names, next. A message is about a column.
-    pub fn read_deck(&mut self, lines: &mut Lines, name: Field, column: usize) -> Outcome {
+    pub fn read_deck(
+        &mut self,
+        lines: &mut Lines,
+        decks: &Decks,
+        name: Field,
+        column: usize,
+    ) -> Outcome {
         let here = Here::new(lines, self.at);
         self.scope.plain_row(&here, false)?;
-        let Some(deck) = lines.decks.find(name.of(here.text)) else {
-            return Err(no_deck(&lines.decks, name).at(column));
+        let Some(deck) = deck_with(decks, name.of(here.text)) else {
+            return Err(no_deck(decks, name).at(column));
         };
-        let number = here.line.number;
-        let call = Some(Call {
+        let call = Call {
             column: here.line.call.map_or(column, |outer| outer.column),
             name: here.span_of(name),
             is_deck: true,
-        });
+        };
+        let number = here.line.number;
         let first = lines.all.len();
         let size = deck.end.saturating_sub(deck.first);
+        self.readings.push(Reading {
+            statement: self.at,
+            name,
+            first,
+        })?;
         self.push_run(Span::new(first, first.saturating_add(size)), 1, 0)?;
-        for index in deck.first..deck.end {
-            let line = Here::new(lines, index).line;
-            lines.all.push(Line {
-                number,
-                call,
-                ..line
-            })?;
-        }
-        if lines.all.len() > MOST_LINES {
-            return Err(too_many_statements());
-        }
-        Ok(())
+        copy_deck(lines, deck, number, call)
     }
 
     /// Copies the lines of RMT with a name, which are then no longer kept.
@@ -132,9 +155,10 @@ impl Pass {
 
     /// OPSYN gives an operation another name; a macro with it is the same macro.
     fn name_operation(&mut self, here: &Here, statement: Statement) -> Outcome {
-        let old = the_only(here, statement)?.of(here.text);
+        let operand = the_only(here, statement)?;
+        let old = operand.of(here.text);
         if statement.location.is_empty() {
-            return Err(Stop::of("{} wants a name before it", statement.operation));
+            return Err(Stop::of(Wording::NameBeforeWanted, statement.operation));
         }
         let words = &mut self.vocabulary;
         let name = words.keep(statement.location.of(here.text))?;
@@ -142,9 +166,30 @@ impl Pass {
             let from = self.scope.performed;
             words.macros.push(Macro { name, from, ..one })?;
         } else {
-            let text = words.keep(old)?;
-            words.synonyms.push(Meaning { name, text })?;
+            let text = match operation_of(old) {
+                Operation::Unknown => self.synonym_of(here, operand)?,
+                _ => words.keep(old)?,
+            };
+            self.vocabulary.synonyms.push(Meaning { name, text })?;
         }
+        self.scope.plain_row(here, false)
+    }
+
+    /// Returns the operation that another OPSYN gives a name to.
+    fn synonym_of(&self, here: &Here, operand: Field) -> Outcome<Span> {
+        let words = &self.vocabulary;
+        words.meaning(&words.synonyms, operand.of(here.text)).ok_or(
+            Fault::new(Wording::NoOperation)
+                .part(operand)
+                .with(Argument::NearestOperation(operand, self.scope.performed))
+                .at(operand.first),
+        )
+    }
+
+    /// COL says from which column on no operand begins; without a number it is column 30.
+    fn set_comments(&mut self, here: &Here, statement: Statement) -> Outcome {
+        let column = self.lines_count(here, statement.operand)?;
+        self.vocabulary.comments = column.checked_sub(1).unwrap_or(FIRST_OF_COMMENTS);
         self.scope.plain_row(here, false)
     }
 

@@ -2,8 +2,8 @@
 use crate::pass::Pass;
 use crate::remote::name_after_call;
 use pp_source::{
-    Field, Here, Join, Line, Lines, Message, Operation, Origin, Outcome, Span, Statement, Stop,
-    operation_of, statement_of,
+    Decks, Field, Here, Join, Line, Lines, Message, Operation, Origin, Outcome, Span, Statement,
+    Stop, Wording, operation_of, statement_of,
 };
 use pp_statements::{MOST_STATEMENTS, is_known, too_many_statements};
 
@@ -20,6 +20,8 @@ pub struct Run {
     pub times: i64,
     pub level: u32,
     pub calls: u32,
+    /// They are those of a DUP, or one round of an ECHO.
+    pub is_repeated: bool,
 }
 
 /// What is still to be done.
@@ -41,21 +43,22 @@ impl Run {
             times: 1,
             level: 0,
             calls: 0,
+            is_repeated: false,
         }
     }
 }
 
 impl Pass {
     /// Performs all lines. Returns what ends the pass early.
-    pub fn run(&mut self, lines: &mut Lines) -> Result<(), Ending> {
+    pub fn run(&mut self, lines: &mut Lines, decks: &Decks) -> Result<(), Ending> {
         lines.forget_made();
         let source = lines.source;
-        self.run_all(lines, Span::new(0, source.first))?;
+        self.run_all(lines, decks, Span::new(0, source.first))?;
         self.scope.rows.clear();
-        self.run_all(lines, source)?;
+        self.run_all(lines, decks, source)?;
         if !self.scope.has_ended {
             match self.all_remote(lines) {
-                Ok(rest) => self.run_all(lines, rest)?,
+                Ok(rest) => self.run_all(lines, decks, rest)?,
                 Err(stop) => self.stopped(lines, stop)?,
             }
         }
@@ -67,7 +70,7 @@ impl Pass {
     }
 
     /// Performs lines, and those that they make.
-    fn run_all(&mut self, lines: &mut Lines, span: Span) -> Result<(), Ending> {
+    fn run_all(&mut self, lines: &mut Lines, decks: &Decks, span: Span) -> Result<(), Ending> {
         self.present = Run::new();
         if let Err(stop) = self.push_run(span, 1, 0) {
             return self.stopped(lines, stop);
@@ -76,7 +79,7 @@ impl Pass {
             let Some(job) = self.jobs.pop() else {
                 return Ok(());
             };
-            if let Err(stop) = self.perform_job(lines, job) {
+            if let Err(stop) = self.perform_job(lines, decks, job) {
                 self.stopped(lines, stop)?;
             }
         }
@@ -94,7 +97,7 @@ impl Pass {
         }
     }
 
-    fn perform_job(&mut self, lines: &mut Lines, job: Job) -> Outcome {
+    fn perform_job(&mut self, lines: &mut Lines, decks: &Decks, job: Job) -> Outcome {
         match job {
             Job::Show(span) => self.show(lines, span),
             Job::End(index, statement) => {
@@ -108,7 +111,7 @@ impl Pass {
                     ..run
                 };
                 self.jobs.push(Job::Run(self.present))?;
-                self.perform(lines)
+                self.perform(lines, decks)
             }
             Job::Run(run) if run.times > 1 && !run.all.is_empty() => {
                 let times = run.times.wrapping_sub(1);
@@ -122,7 +125,7 @@ impl Pass {
     /// Lets lines be performed next, so many times, in the present ones or in a call of a macro more.
     pub fn push_run(&mut self, all: Span, times: i64, calls: u32) -> Outcome {
         if self.present.level >= MOST_NESTED {
-            return Err(Stop::too_much("lines are nested more than 100 (decimal) deep"));
+            return Err(Stop::too_much(Wording::DeepLines));
         }
         if times < 1 {
             return Ok(());
@@ -133,8 +136,41 @@ impl Pass {
             times,
             level: self.present.level.saturating_add(1),
             calls: self.present.calls.saturating_add(calls),
+            is_repeated: false,
         };
         Ok(self.jobs.push(Job::Run(run))?)
+    }
+
+    /// Lets lines of a DUP or an ECHO be performed next, so many times.
+    pub fn push_repeated(&mut self, all: Span, times: i64) -> Outcome {
+        let index = self.jobs.len();
+        self.push_run(all, times, 0)?;
+        if let Some(Job::Run(run)) = self.jobs.get_mut(index) {
+            run.is_repeated = true;
+        }
+        Ok(())
+    }
+
+    /// STOPDUP lets the innermost DUP or ECHO end after its present round.
+    pub fn stop_repetition(&mut self, here: &Here, statement: Statement) -> Outcome {
+        let mut level = None;
+        for job in self.jobs.iter_mut().rev() {
+            let Job::Run(run) = job else {
+                continue;
+            };
+            match level {
+                None if run.is_repeated => level = Some(run.level),
+                None => continue,
+                // The rounds of an ECHO that are still to come are beside the present one.
+                Some(level) if run.is_repeated && run.level == level => run.next = run.all.end,
+                Some(_) => break,
+            }
+            run.times = 1;
+        }
+        if level.is_none() {
+            return Err(Stop::of(Wording::EndsNothing, statement.operation));
+        }
+        self.scope.plain_row(here, false)
     }
 
     /// Lets the present run go on at a line, after those that belong to the present one.
@@ -170,10 +206,10 @@ impl Pass {
     }
 
     /// Performs the present line.
-    fn perform(&mut self, lines: &mut Lines) -> Outcome {
+    fn perform(&mut self, lines: &mut Lines, decks: &Decks) -> Outcome {
         self.scope.count_statement()?;
-        if let Some(name) = name_after_call(lines, self.at) {
-            return self.read_deck(lines, name, 0);
+        if let Some(name) = name_after_call(lines, decks, self.at) {
+            return self.read_deck(lines, decks, name, 0);
         }
         self.replace_micros(lines)?;
         let Some(statement) = self.present_statement(lines)? else {
@@ -187,7 +223,7 @@ impl Pass {
         }
         match operation_of(name) {
             Operation::Block(opening) => self.block(lines, statement, opening),
-            Operation::Lines(directive) => self.elsewhere(lines, statement, directive),
+            Operation::Lines(directive) => self.elsewhere(lines, decks, statement, directive),
             Operation::End => {
                 let rest = self.all_remote(lines)?;
                 self.jobs.push(Job::End(self.at, statement))?;
@@ -198,6 +234,9 @@ impl Pass {
                 self.name_digits(&Here::new(lines, self.at), statement, is_decimal)
             }
             Operation::MicroCount => self.count_micro(&Here::new(lines, self.at), statement),
+            Operation::Inside if matches!(name, b"ELSE") && !statement.operand.is_empty() => {
+                self.pass_else(lines, statement)
+            }
             operation => self
                 .scope
                 .one(&Here::new(lines, self.at), statement, operation),

@@ -1,6 +1,11 @@
 //! The terms of operands, and the names that they have.
-use pp_meaning::{Atom, Factor, Label, Operand, Radix, Symbol, Term};
-use pp_source::{counter_of, end_of_name, number_of, tail};
+use pp_meaning::{
+    Atom, Cut, Expression, Factor, Item, Kind, Label, Linkage, Operand, Radix, Sign, Symbol, Term,
+    Text,
+};
+use pp_source::{
+    Number, code_of, counter_of, digits_of, end_of_name, find, is_blank, number_of, tail, text_at,
+};
 use std::alloc::{AllocError, Global};
 use std::collections::BTreeMap;
 
@@ -73,6 +78,9 @@ impl Names {
     }
 }
 
+/// A number that is shifted by more bits is 0.
+const MOST_SHIFT: u32 = 62;
+
 /// Reads the terms of a text.
 #[derive(Clone, Copy)]
 struct Reader<'a> {
@@ -83,7 +91,7 @@ struct Reader<'a> {
 }
 
 impl<'a> Reader<'a> {
-    /// Returns a number, a name or a counter. There is `None` if the text has something else.
+    /// Returns a number, a name, a counter or a text. There is `None` if the text has something else.
     fn atom(&mut self) -> Result<Option<Atom>, AllocError> {
         if let Some(size) = end_of_name(self.rest, 0) {
             let name = self.rest.get(..size).unwrap_or(b"");
@@ -101,28 +109,56 @@ impl<'a> Reader<'a> {
                     _ => Atom::LocationCounter,
                 }))
             }
-            _ => self.number(),
+            rest => match number_of(rest) {
+                Some(number) => self.number(number),
+                None => self.symbols(),
+            },
         }
     }
 
-    /// Returns a number that is not shifted.
-    fn number(&mut self) -> Result<Option<Atom>, AllocError> {
-        let Some(number) = number_of(self.rest) else {
+    /// Returns a text with R that has as many symbols as its count.
+    fn symbols(&mut self) -> Result<Option<Atom>, AllocError> {
+        let (size, count) = digits_of(self.rest, 9);
+        let digits = self.rest.get(..size).unwrap_or(b"");
+        let Some([b'R', after @ ..]) = self.rest.get(size..) else {
             return Ok(None);
         };
+        let Some((symbols, rest)) = after.split_at_checked(count as usize) else {
+            return Ok(None);
+        };
+        if count == 0 {
+            return Ok(None);
+        }
+        self.rest = rest;
+        let digits = Vec::from_slice(self.alloc, digits)?;
+        let codes = codes_of(self.alloc, symbols)?;
+        Ok(codes.map(|codes| Atom::Symbols(digits, codes)))
+    }
+
+    /// Returns a number, which may be shifted.
+    fn number(&mut self, number: Number<'a>) -> Result<Option<Atom>, AllocError> {
         let (radix, letters) = match number.letter {
             Some(b'B') => (Radix::B, 1),
             Some(b'O') => (Radix::O, 1),
             Some(_) => (Radix::D, 1),
             None => (Radix::Plain, 0),
         };
+        let digits = Vec::from_slice(self.alloc, number.digits)?;
         let size = number.digits.len().saturating_add(letters);
-        if tail(self.rest, size).len() != number.rest.len() {
+        let shift = match self.rest.get(size..) {
+            Some([b'S', shift @ ..]) => shift,
+            _ => b"",
+        };
+        self.rest = number.rest;
+        let (size, bits) = digits_of(shift, 2);
+        if size == 0 {
+            return Ok(Some(Atom::Number(digits, radix)));
+        }
+        if bits > MOST_SHIFT {
             return Ok(None);
         }
-        self.rest = number.rest;
-        let digits = Vec::from_slice(self.alloc, number.digits)?;
-        Ok(Some(Atom::Number(digits, radix)))
+        let shift = Vec::from_slice(self.alloc, shift.get(..size).unwrap_or(b""))?;
+        Ok(Some(Atom::Shifted(digits, radix, shift)))
     }
 
     /// Returns the factors after the first atom of a term.
@@ -144,10 +180,11 @@ impl<'a> Reader<'a> {
 
     /// Returns a term. Only the first one may have no sign.
     fn term(&mut self, is_first: bool) -> Result<Option<Term>, AllocError> {
-        let (is_minus, rest) = match self.rest {
-            [b'+', rest @ ..] => (false, rest),
-            [b'-', rest @ ..] => (true, rest),
-            rest if is_first => (false, rest),
+        let (sign, rest) = match self.rest {
+            [b'+', rest @ ..] => (Sign::Plus, rest),
+            [b'-', rest @ ..] => (Sign::Minus, rest),
+            [b'^', rest @ ..] => (Sign::Differ, rest),
+            rest if is_first => (Sign::Plus, rest),
             _ => return Ok(None),
         };
         self.rest = rest;
@@ -158,7 +195,7 @@ impl<'a> Reader<'a> {
             return Ok(None);
         };
         Ok(Some(Term {
-            is_minus,
+            sign,
             atom,
             factors,
         }))
@@ -179,18 +216,176 @@ impl<'a> Reader<'a> {
     }
 }
 
-/// Returns the terms of an operand, if it has no texts, shifts, literals and logical differences.
+/// Returns the kind with a letter.
+fn kind_of(letter: u8) -> Option<Kind> {
+    Some(match letter {
+        b'H' => Kind::H,
+        b'A' => Kind::A,
+        b'L' => Kind::L,
+        b'R' => Kind::R,
+        b'C' => Kind::C,
+        b'Z' => Kind::Z,
+        _ => return None,
+    })
+}
+
+/// Returns what says where a text ends: its count, or its mark.
+fn cut_of(alloc: Global, text: &[u8]) -> Result<Cut, AllocError> {
+    let (size, _) = digits_of(text, 9);
+    match text {
+        [_, mark, ..] if size == 0 => Ok(Cut::Marked(*mark)),
+        _ => Ok(Cut::Counted(Vec::from_slice(alloc, text.get(..size).unwrap_or(b""))?)),
+    }
+}
+
+/// Returns the text that is alone, if the line has all its symbols.
+fn text_alone(alloc: Global, text: &[u8], is_data: bool) -> Result<Option<Item>, AllocError> {
+    let Ok(Some(found)) = text_at(text, 0, is_data) else {
+        return Ok(None);
+    };
+    let Some(kind) = kind_of(found.kind) else {
+        return Ok(None);
+    };
+    if found.end != text.len() || found.symbols.len() != found.count {
+        return Ok(None);
+    }
+    let Some(codes) = codes_of(alloc, found.symbols)? else {
+        return Ok(None);
+    };
+    let cut = cut_of(alloc, text)?;
+    Ok(Some(Item::Characters(Text { kind, cut, codes })))
+}
+
+/// Returns whether a text alone is not a sum, as one with R is.
+fn is_alone(text: &[u8], is_data: bool) -> bool {
+    match text_at(text, 0, is_data) {
+        Ok(Some(found)) => found.end == text.len() && (is_data || found.kind != b'R'),
+        _ => false,
+    }
+}
+
+/// Returns an expression with its terms, or a text. That of DATA may have marks.
+fn item_of(
+    alloc: Global,
+    names: &Names,
+    text: &[u8],
+    is_data: bool,
+) -> Result<Option<Item>, AllocError> {
+    if is_alone(text, is_data) {
+        return text_alone(alloc, text, is_data);
+    }
+    sum_of(alloc, names, text)
+}
+
+/// Returns the letter before the name of a symbol that may be one of another program, and the name.
+fn name_after(text: &[u8]) -> Option<(Linkage, &[u8])> {
+    let (linkage, name) = match text {
+        [b'S', name @ ..] => (Linkage::S, name),
+        [b'X', name @ ..] => (Linkage::X, name),
+        [b'Y', name @ ..] => (Linkage::Y, name),
+        _ => return None,
+    };
+    (end_of_name(name, 0) == Some(name.len())).then_some((linkage, name))
+}
+
+/// Returns an operand with its terms, or as a text. A literal is at an address.
 pub fn operand_of(
     alloc: Global,
     names: &Names,
     text: &[u8],
+    is_data: bool,
+    address: Option<usize>,
 ) -> Result<Option<Operand>, AllocError> {
+    // Nothing between two commas of CON is zero, and has no terms.
+    if text.is_empty() {
+        return Ok(None);
+    }
+    let [b'=', named @ ..] = text else {
+        let item = item_of(alloc, names, text, is_data)?;
+        return Ok(item.map(Operand::Single));
+    };
+    if let Some((linkage, name)) = name_after(named) {
+        let index = names.index_of(name);
+        return Ok(index.map(|index| Operand::External(linkage, index)));
+    }
+    match (item_of(alloc, names, named, true)?, address) {
+        (Some(item), Some(address)) => Ok(Some(Operand::Literal(address, item))),
+        _ => Ok(None),
+    }
+}
+
+/// Returns the terms of an operand, if they are known here.
+fn sum_of(alloc: Global, names: &Names, text: &[u8]) -> Result<Option<Item>, AllocError> {
     let mut reader = Reader {
         alloc,
         names,
         rest: text,
     };
-    let has_sign = matches!(text.first(), Some(b'+' | b'-'));
+    let has_sign = matches!(text.first(), Some(b'+' | b'-' | b'^'));
     let terms = reader.terms()?;
-    Ok(terms.map(|terms| Operand { has_sign, terms }))
+    Ok(terms.map(|terms| Item::Sum(Expression { has_sign, terms })))
+}
+
+/// Returns the display codes of symbols, if each has one.
+fn codes_of(alloc: Global, symbols: &[u8]) -> Result<Option<Vec<u8>>, AllocError> {
+    let mut codes = Vec::new(alloc);
+    for symbol in symbols {
+        match code_of(*symbol) {
+            Some(code) => codes.push(code)?,
+            None => return Ok(None),
+        }
+    }
+    Ok(Some(codes))
+}
+
+/// Returns whether a text is empty or begins with a blank.
+pub fn begins_with_blank(text: &[u8]) -> bool {
+    text.first().is_none_or(|symbol| is_blank(*symbol))
+}
+
+/// Returns what says where a text ends, its symbols, and how many columns both have. With a count of words it may be short.
+fn cut_of_display(
+    alloc: Global,
+    operand: &[u8],
+) -> Result<Option<(Cut, &[u8], usize)>, AllocError> {
+    let (digits, count) = digits_of(operand, 4);
+    let first = digits.saturating_add(1);
+    let rest = tail(operand, first);
+    if digits > 0 {
+        let size = (count as usize).saturating_mul(2);
+        let symbols = rest.get(..size).unwrap_or(rest);
+        let count = Vec::from_slice(alloc, operand.get(..digits).unwrap_or(b""))?;
+        let end = first.saturating_add(symbols.len());
+        return Ok(Some((Cut::Counted(count), symbols, end)));
+    }
+    let [mark, rest @ ..] = rest else {
+        return Ok(None);
+    };
+    let Some(size) = find(rest, 0, *mark) else {
+        return Ok(None);
+    };
+    let symbols = rest.get(..size).unwrap_or(b"");
+    let end = first.saturating_add(size).saturating_add(2);
+    Ok(Some((Cut::Marked(*mark), symbols, end)))
+}
+
+/// Returns the text of DIS, and how many columns it has.
+pub fn text_of_display(alloc: Global, operand: &[u8]) -> Result<Option<(Text, usize)>, AllocError> {
+    let Some((cut, symbols, end)) = cut_of_display(alloc, operand)? else {
+        return Ok(None);
+    };
+    let kind = Kind::C;
+    let codes = codes_of(alloc, symbols)?;
+    Ok(codes.map(|codes| (Text { kind, cut, codes }, end)))
+}
+
+/// Returns whether a comment may follow a text of DIS: it may be any if the text has all symbols that its count says.
+pub fn may_follow(text: &Text, comment: &[u8]) -> bool {
+    match &text.cut {
+        Cut::Counted(digits) => {
+            let (_, count) = digits_of(digits, 4);
+            comment.is_empty() || text.codes.len() == (count as usize).saturating_mul(2)
+        }
+        Cut::Marked(_) => begins_with_blank(comment),
+    }
 }

@@ -5,6 +5,7 @@
 use pp_assembler::{Assembly, Text, assemble_with};
 use pp_disassembly::{disassemble, write_source};
 use pp_listing::{complaints_text, listing_text, words_text};
+use pp_notation::put_decimal;
 use std::alloc::{AllocError, Global};
 use std::io;
 use std::io::{Read, Write};
@@ -25,14 +26,31 @@ fn put_source(alloc: Global, out: &mut Vec<u8>, made: &Assembly) -> Result<(), A
     out.extend_from_slice(source.as_slice())
 }
 
-/// Writes what a source makes.
-fn put(alloc: Global, out: &mut Vec<u8>, source: &[u8], decks: &[Text]) -> Result<(), AllocError> {
+/// How many sources nothing is wrong with, and how many of these `pp_meaning` has the meaning of.
+#[derive(Clone, Copy)]
+struct Counts {
+    right: u32,
+    meant: u32,
+}
+
+/// Writes what a source makes, and counts it.
+fn put(
+    alloc: Global,
+    out: &mut Vec<u8>,
+    source: &[u8],
+    decks: &[Text],
+    counts: &mut Counts,
+) -> Result<(), AllocError> {
     let made = assemble_with(alloc, source, decks)?;
     out.extend_from_slice(complaints_text(alloc, &made)?.as_slice())?;
     out.extend_from_slice(words_text(alloc, &made)?.as_slice())?;
     out.extend_from_slice(listing_text(alloc, &made)?.as_slice())?;
     if made.messages.is_empty() {
         put_source(alloc, out, &made)?;
+        counts.right = counts.right.saturating_add(1);
+    }
+    if made.meaning.is_some() {
+        counts.meant = counts.meant.saturating_add(1);
     }
     out.extend_from_slice(END.as_slice())
 }
@@ -47,10 +65,19 @@ fn deck_of(text: &[u8]) -> Option<Text<'_>> {
     })
 }
 
+/// Writes how many sources there are with a meaning. A change of the assembler must not leave fewer of them.
+fn put_counts(alloc: Global, out: &mut Vec<u8>, counts: Counts) -> Result<(), AllocError> {
+    put_decimal(alloc, out, counts.meant)?;
+    out.extend_from_slice(b" of ")?;
+    put_decimal(alloc, out, counts.right)?;
+    out.extend_from_slice(b" right sources have a meaning\n")
+}
+
 /// Writes what each source makes.
 fn put_all(alloc: Global, input: &[u8]) -> Result<Vec<u8>, AllocError> {
     let mut out = Vec::new(alloc);
     let mut decks = Vec::new(alloc);
+    let mut counts = Counts { right: 0, meant: 0 };
     let mut first: usize = 0;
     for at in 0..input.len() {
         let end = at.saturating_add(END.len());
@@ -59,11 +86,12 @@ fn put_all(alloc: Global, input: &[u8]) -> Result<Vec<u8>, AllocError> {
             let text = input.get(first..at).unwrap_or(b"");
             match deck_of(text) {
                 Some(deck) => decks.push(deck)?,
-                None => put(alloc, &mut out, text, &decks)?,
+                None => put(alloc, &mut out, text, &decks, &mut counts)?,
             }
             first = end;
         }
     }
+    put_counts(alloc, &mut out, counts)?;
     Ok(out)
 }
 
