@@ -88,11 +88,13 @@ NextOrigins before after result = MatchOption before.session (OnlyReturns CLOSED
 
 -- ---- pp6600_last_write
 
+-- What the call writes: how many newer actions there are, the turn that wrote, and where its numbers come from.
 pub record FoundWrite : Type 0 where
   pub newer : ℕ
   pub turn : Made
   pub links : List Link
 
+-- The session and what the call writes, before it or after it.
 pub record LastWriteOuts : Type 0 where
   pub session : Option Console
   pub found : FoundWrite
