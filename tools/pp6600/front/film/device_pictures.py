@@ -8,8 +8,7 @@ from typing import Any, Dict, Iterable, Iterator, List, Sequence, Tuple
 
 from ...devices.pictures import svg
 from ...failure import Failure
-from ...run.attached import COUNTED
-from ...run.console import Console
+from ...run.console import COUNTED, Console
 from ...run.device import Device, Value, channel_of, drawn, looked, value_at_start
 
 MOST_MOMENTS = 0o1000000  # the page records all of them

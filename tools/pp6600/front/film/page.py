@@ -15,11 +15,11 @@ from typing import Any, Dict, Mapping, NamedTuple, Optional
 
 from ...language.display_code import SYMBOLS
 from ...language.notation import TAB
-from ...language.sources import Source, words_of
+from ...language.sources import Source
 from ...run import conditions, sentences
 from ...run.forms import MODES, STATES
 from ...run.names import AllSymbols
-from ...run.turn import BLOCK_GOES_ON, COMPLETES, NAMES, RELATIVE_JUMPS, TWO_WORDS, WAITS_FOR
+from ...run.turn import BLOCK_GOES_ON, COMPLETES, WAITS_FOR
 from ...shell.options import given_options, in_words
 from ..keys import for_page
 from .joining import joined
@@ -67,7 +67,7 @@ def packed(data: bytes) -> str:
 
 def tables() -> Dict[str, Any]:
     """Returns what it has to know of every machine: the one table of instructions, and the sentences about turns."""
-    return {"names": NAMES, "two_words": sorted(TWO_WORDS), "relative_jumps": list(RELATIVE_JUMPS), "symbols": SYMBOLS,
+    return {"symbols": SYMBOLS,
             "modes": {"reader": MODES["CR MODE"], "printer": MODES["LP MODE"]},
             "states": list(zip(STATES, ("inactive", "empty", "full", "function"))), "waits_for": WAITS_FOR,
             "goes_on_in": {"instruction": COMPLETES, "block": BLOCK_GOES_ON},
@@ -95,7 +95,8 @@ def options(asked: Any, devices: Mapping[int, str] = {}) -> Dict[str, Any]:
 
 def run(asked: Any, files: Files) -> Dict[str, Any]:
     """Returns the files of a run with their names, their bytes as characters, and how one performs them with the program."""
-    names, rows = {}, []
+    names: Dict[str, str] = {}
+    rows = []
     for kind, data in zip(Files._fields, files):
         path = getattr(asked, kind)
         name = readable(os.path.basename(path or "")) or kind
@@ -108,7 +109,7 @@ def run(asked: Any, files: Files) -> Dict[str, Any]:
 
 def of_symbols(symbols: AllSymbols) -> Dict[str, Any]:
     """Returns the labels of each processor that has some, and the lines and words of the sources."""
-    labels = {number: {**table, "entries": list(symbols.of[number].entries().items()),
+    labels = {number: {**table, "entries": list(symbols.of[number].entries()),
                        "addresses": {name: address for address, name in symbols.of[number].names.firsts().items()}}
               for number, table in symbols.tables().items()}
     sources = {number: source_of(source) for number, source in symbols.sources()}
@@ -116,15 +117,11 @@ def of_symbols(symbols: AllSymbols) -> Dict[str, Any]:
 
 
 def source_of(source: Source) -> Dict[str, Any]:
-    """Returns the lines of a source, each with the address of its first word if it has words; and of each word its line, its location,
-    its origin, its number, itself, and the second word if an instruction begins there that has one."""
-    words = [(word.row.number, word.row.location, word.row.origin, word.at, word.row.words[word.at],
-              None if word.second is None else int(word.second, 8)) for word in words_of(source.program.rows)]
-    firsts = {line: location for line, location, *_ in reversed(words)}
+    """Returns the lines of a source; and of each row of the listing that has words its line, its location, its origin and these."""
+    rows = [(row.number, row.location, row.origin, *row.words) for row in source.program.rows if row.words]
     texts = {row.number: row.text for row in source.program.rows if not row.is_made}
-    lines = [(texts.get(number, "").expandtabs(TAB), *((firsts[number],) if number in firsts else ()))
-             for number in range(1, max(texts) + 1)]
-    return {"name": readable(os.path.basename(source.path)), "lines": lines, "words": words}
+    lines = [texts.get(number, "").expandtabs(TAB) for number in range(1, max(texts) + 1)]
+    return {"name": readable(os.path.basename(source.path)), "lines": lines, "rows": rows}
 
 
 def readable(text: str) -> str:

@@ -16,7 +16,7 @@ performs the script, with its steps back; each turn, and each other line that do
 page goes on from there."""
 
 
-def main():
+def main() -> int:
     parser = arguments(DESCRIPTION)
     parser.add_argument("-o", "--output", metavar="FILE.html", required=True, help="the page to write")
     parser.add_argument("--around", metavar="N", type=octal, help="open after turn N, octal")
@@ -39,8 +39,7 @@ def main():
     highest = done.history.tape.turns
     if asked.around is not None and asked.around > highest:
         raise Failure(f"there is no turn {asked.around:o}: the highest is {highest:o} (octal)")
-    part = lambda path: bytes_of(path) if path is not None else b""
-    files = Files(script, part(asked.deck), part(asked.panel))
+    files = Files(script, *(b"" if path is None else bytes_of(path) for path in (asked.deck, asked.panel)))
     about = {**tables(), **options(asked, names_of(devices)), **run(asked, files), **of_symbols(symbols), "opens": asked.around,
              **pictures_of(words, devices, lines)}
     write_whole(asked.output, page(heading(asked.title, asked.script), page_module(), about).encode("utf-8"))

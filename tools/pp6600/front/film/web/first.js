@@ -1,6 +1,7 @@
 "use strict";
 
-// The one script that is not packed. It unpacks the others and runs the page's own, or says why not: in words that old browsers know.
+// The one script that is not packed. It unpacks the others and runs the page's own, or says why not: in words that old browsers
+// know.
 window.firstScript = (function () {
   var original = "<!DOCTYPE html>\n" + document.documentElement.outerHTML; // as it was before anything was drawn
 

@@ -1,4 +1,5 @@
-// ---- conditions on the machine, as P 0 = 105 and PP 3 waits: their texts, and how the library finds the turns in which they come to hold
+// ---- conditions on the machine, as P 0 = 105 and PP 3 waits: their texts, and how the library finds the turns in which they come
+// to hold
 
 import { CELLS, CLOCK, KINDS, PROCESSORS, layout, octal, placeIn, register } from "../machine/places.js";
 import { FORM } from "./library.mjs";
@@ -10,17 +11,11 @@ const RJM = 2, IN_BLOCK = 3; // an instruction, and the kind of a turn
 // Of each comparison the kind of its form, and the range, of the number or the two numbers that it has.
 const COMPARISONS = {
   "=": (a) => [INSIDE, a, a], "!=": (a) => [OUTSIDE, a, a], "<=": (a) => [INSIDE, 0n, a], ">=": (a) => [INSIDE, a, GREATEST],
-  "<": (a) => [OUTSIDE, a, GREATEST], ">": (a) => [OUTSIDE, 0n, a], inside: (a, b) => [INSIDE, a, b], outside: (a, b) => [OUTSIDE, a, b],
+  "<": (a) => [OUTSIDE, a, GREATEST], ">": (a) => [OUTSIDE, 0n, a], inside: (a, b) => [INSIDE, a, b],
+  outside: (a, b) => [OUTSIDE, a, b],
 };
 
-const joined = (alternatives) => alternatives.flatMap((forms, at) => (at ? [{ kind: OR }, ...forms] : forms));
-const writesP = (n) => ({ kind: WRITES, place: register(n, 0), first: 1 });
-
-// Whether forms come to hold in the latest turn, which is made again.
-function comesInLatest(session, forms) {
-  session.back(1);
-  return session.until(forms, 1).found;
-}
+// ---- what the library does not judge
 
 // The processors whose latest turn was a wait: it has not even written P.
 function waiting(session) {
@@ -34,40 +29,45 @@ function waiting(session) {
   return found;
 }
 
-// Notes the calls of subroutines. Returns a function that says after each turn of a processor whether a subroutine has returned to another
-// address than was stored.
+// Notes the calls of subroutines. Returns a function that says after each turn of a processor whether a subroutine has returned to
+// another address than was stored.
 function returnsOf({ n, entries }) {
-  const stored = new Map(), jumpOf = new Map(entries.map(([jump, cell]) => [cell + 1, jump]));
+  const stored = new Map(); // the return addresses by the jumps back, each of which is two before the first instruction
   return (session) => {
     session.back(1);
     const [, address, word, kind] = session.recorded(1).made;
-    const now = Number(session.numbers(register(n, 0), 1)[0]), jump = jumpOf.get(now), wanted = stored.get(address);
+    const now = Number(session.numbers(register(n, 0), 1)[0]), jump = now - 2, wanted = stored.get(address);
     if (kind === IN_BLOCK) return false;
-    if (word >> 6 === RJM && jump !== undefined && now !== address) stored.set(jump, (address + 2) % CELLS);
+    if (word >> 6 === RJM && entries.includes(jump) && now !== address) stored.set(jump, (address + 2) % CELLS);
     return stored.delete(address) && wanted !== now;
   };
 }
 
-// An alternative is forms that the library judges, and perhaps what else must be so then. Several processors wait together if the latest
-// turn of each was a wait.
+// Whether forms come to hold in the latest turn, which is made again.
+function comesInLatest(session, forms) {
+  session.back(1);
+  return session.until(forms, 1).found;
+}
+
+// An alternative is forms that the library judges, and perhaps what else must be so then. Several processors wait together if the
+// latest turn of each was a wait.
 function alternativesOf(tests) {
-  const returns = tests.filter((one) => one.entries), others = tests.filter(({ kind }) => kind !== undefined && kind !== WAITS);
+  const [returns] = tests.filter((one) => one.entries), others = tests.filter(({ kind }) => kind !== undefined && kind !== WAITS);
   const waits = tests.filter(({ kind }) => kind === WAITS).map(({ place }) => place);
   const allWait = (session) => waits.every(Set.prototype.has, waiting(session));
-  if (returns.length) {
-    const [one] = returns, forms = [writesP(one.n)], isWrong = returnsOf(one);
-    return [{ forms, also: (session) => isWrong(session) && comesInLatest(session, [...forms, ...others]) && allWait(session) }];
-  }
-  if (waits.length < 2) return [{ forms: tests }];
-  return waits.map((n) => ({ forms: [{ kind: WAITS, place: n }, ...others], also: allWait }));
+  if (!returns && waits.length < 2) return [{ forms: tests }];
+  if (!returns) return waits.map((n) => ({ forms: [{ kind: WAITS, place: n }, ...others], also: allWait }));
+  const forms = [{ kind: WRITES, place: register(returns.n, 0), first: 1 }], isWrong = returnsOf(returns);
+  return [{ forms, also: (session) => isWrong(session) && comesInLatest(session, [...forms, ...others]) && allWait(session) }];
 }
 
 // A condition is one of several lists of tests, which hold together.
 export class Condition {
   constructor(lists) {
     this.alternatives = lists.flatMap(alternativesOf);
-    if (this.alternatives.length > MOST_ALTERNATIVES) throw new Error(`at most ${octal(MOST_ALTERNATIVES)} conditions are joined by or`);
-    this.forms = joined(this.alternatives.map(({ forms }) => forms));
+    const isTooLong = this.alternatives.length > MOST_ALTERNATIVES;
+    if (isTooLong) throw new Error(`at most ${octal(MOST_ALTERNATIVES)} conditions are joined by or`);
+    this.forms = this.alternatives.flatMap(({ forms }, at) => (at ? [{ kind: OR }, ...forms] : forms));
     this.isOfLibrary = this.alternatives.every(({ also }) => !also);
   }
 
@@ -93,13 +93,14 @@ export const changes = (places) => new Condition(places.map((place) => [{ kind: 
 
 const PLACE = "(M \\S+ \\S+|[APQCH] \\S+)", DO = "(changes|is written)";
 const kindOf = (word) => (/^c/i.test(word) ? CHANGES : WRITES);
+// Each with the test that it makes of the place with the first name, and of the other words.
 const FORMS = [
   ["(PP \\S+) waits", ({ n }) => ({ kind: WAITS, place: n })], ["(PP \\S+) returns wrongly", returnTest],
   ["(PP \\S+) performs (\\S+)", ({ n, number }, word) => ({ kind: PERFORMS, place: n, first: number(word) })],
   ["(PP \\S+) (not )?in a block", ({ n }, not) => ({ kind: not ? INSIDE : OUTSIDE, place: register(n, 3) })],
   [`${PLACE} (=|!=|<|>|<=|>=) (\\S+)`, compareTest], [`${PLACE} (outside|inside) (\\S+) (\\S+)`, compareTest],
   [`(M \\S+ \\S+) (\\S+) ${DO}`, cellsTest], [`${PLACE} ${DO}`, ({ at }, word) => ({ kind: kindOf(word), place: at, first: 1 })],
-  ["(H \\S+) changes state", (channel) => ({ kind: CHANGES, place: stateOfChannel(channel), first: 1 })], ["(H \\S+) is (\\S+)", stateTest],
+  ["(H \\S+) changes state", ({ n }) => ({ kind: CHANGES, place: stateOf(n), first: 1 })], ["(H \\S+) is (\\S+)", stateTest],
 ].map(([form, make]) => [new RegExp(`^${form}$`, "i"), make]);
 
 // Conditions of which one must hold are joined by or. `forms` is the sentence about what a condition is.
@@ -122,10 +123,10 @@ function parseTest(text, labels, forms) {
 
 // A number that may be at a place, or a label of its processor.
 function numberFor(kind, word, own, name) {
-  const { digits } = KINDS[kind], label = own && own.addresses[word];
-  if (typeof label !== "number" && !/^[0-7]+$/.test(word)) throw new Error(`${word} is no octal number${own ? " and no label" : ""}`);
-  const number = typeof label === "number" ? BigInt(label) : BigInt(`0o${word}`);
-  if (number >= 1n << BigInt(3 * digits)) throw new Error(`${word} is more than ${name} can be`);
+  const label = own && Object.hasOwn(own.addresses, word) ? own.addresses[word] : null;
+  if (label === null && !/^[0-7]+$/.test(word)) throw new Error(`${word} is no octal number${own ? " and no label" : ""}`);
+  const number = label === null ? BigInt(`0o${word}`) : BigInt(label);
+  if (number >= 1n << BigInt(3 * KINDS[kind].digits)) throw new Error(`${word} is more than ${name} can be`);
   return number;
 }
 
@@ -141,18 +142,18 @@ function cellsTest({ at, name, number }, word, how) {
   return { kind: kindOf(how), place: at, first: count };
 }
 
-function stateOfChannel({ n }) {
-  if (n === CLOCK) throw new Error("the clock has no state");
-  return layout.states + n;
+function stateOf(channel) {
+  if (channel === CLOCK) throw new Error("the clock has no state");
+  return layout.states + channel;
 }
 
-function stateTest(place, letter) {
+function stateTest({ n }, letter) {
   const state = ["I", "E", "F", "X"].indexOf(letter.toUpperCase());
   if (state < 0) throw new Error("a channel is I, E, F or X");
-  return { kind: INSIDE, place: stateOfChannel(place), first: state, last: state };
+  return { kind: INSIDE, place: stateOf(n), first: state, last: state };
 }
 
-// Labels have the jump back of a subroutine with the cell of its return address.
+// Labels have the jumps back of subroutines.
 function returnTest({ n, name, own }) {
   if (own && own.entries.length) return { n, entries: own.entries };
   throw new Error(`${name} returns wrongly needs labels of a subroutine: NAMEX, and NAME at the cell after it`);

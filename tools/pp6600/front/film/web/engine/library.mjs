@@ -19,13 +19,24 @@ export class LibraryError extends Error {
 // Returns the calls of the module that these bytes are. One module can have many sessions.
 export const openLibrary = async (bytes) => (await WebAssembly.instantiate(bytes, {})).instance.exports;
 
+// Returns the instructions by their codes: of each its name, how many words it has, and what it has as operand.
+export function instructionsOf(calls) {
+  const rooms = new Rooms(calls), into = rooms.room("name", 8);
+  return Array.from({ length: 64 }, (_, code) => {
+    calls.pp6600_instruction(code, into, 8n, ...rooms.outs(3));
+    const [count, words, form] = rooms.results(3);
+    return { name: rooms.text(into, count), words, form };
+  });
+}
+
 // How many bits of its numbers a call takes, in turn. It would leave out those above.
 const WIDTHS = {
   open: [32, 32, 8, 8], numbers: [32], turns: [32], origins: [32], again: [32], looks: [32], until: [32], form: [32, 32, 64, 64],
   back: [32], forward: [32], assemble: [32], assemble_with: [32], load_lines: [32],
 };
 
-// Returns the numbers for a call. Throws a RangeError if one has more bits than the call takes, is less than 0 or is no whole number.
+// Returns the numbers for a call. Throws a RangeError if one has more bits than the call takes, is less than 0 or is no whole
+// number.
 const checked = (call, ...numbers) => {
   numbers.forEach((number, at) => {
     const bits = WIDTHS[call][at], isWhole = Number.isInteger(number) || (bits === 64 && typeof number === "bigint");
@@ -98,7 +109,8 @@ export class LibrarySession extends Rooms {
   open(machine, deck, panel) {
     this.handle = this.given("handle", Uint32Array.of(0, 0))[0];
     const line = this.room("line", 128), files = [...this.given("deck", deck), ...this.given("panel", panel)];
-    const status = this.calls.pp6600_open(...machine, ...files, this.handle, line, 128n, ...this.outs(2)), [size, exit] = this.results(2);
+    const status = this.calls.pp6600_open(...machine, ...files, this.handle, line, 128n, ...this.outs(2));
+    const [size, exit] = this.results(2);
     if (status !== STATUS.DONE) throw new LibraryError(status, status === STATUS.OPEN ? "" : this.text(line, size), exit);
   }
 
@@ -114,8 +126,9 @@ export class LibrarySession extends Rooms {
     throw new LibraryError(status);
   }
 
-  // Performs lines, a text or bytes. Returns their answers, how many lines there were, and how many were rejected. Throws a LibraryError
-  // at a line that is too long for a call; the lines before it were performed, and `done` of the error is what they came to.
+  // Performs lines, a text or bytes. Returns their answers, how many lines there were, and how many were rejected. Throws a
+  // LibraryError at a line that is too long for a call; the lines before it were performed, and `done` of the error is what they
+  // came to.
   answer(typed) {
     const bytes = typeof typed === "string" ? new TextEncoder().encode(typed) : typed, done = { text: "", lines: 0, refused: 0 };
     const [from] = this.given("typed", bytes);
@@ -140,17 +153,18 @@ export class LibrarySession extends Rooms {
     return this.view(BigUint64Array, into, count).slice();
   }
 
-  // Makes turns, or by another call performs actions again. Returns the status; for each its processor, 10 if it is no turn, and how many
-  // old numbers it has; and these, a place and the number that was there.
+  // Makes turns, or by another call performs actions again. Returns the status; for each its processor, 10 if it is no turn, and
+  // how many old numbers it has; and these, a place and the number that was there.
   turns(most, room = 4096, oldRoom = 8 * room, call = "turns") {
     const [turnsAtMost] = checked(call, most), made = this.room("made", 8 * room), olds = this.room("olds", 16 * oldRoom);
     const status = this.call(call, turnsAtMost, made, counted(room), olds, counted(oldRoom), ...this.outs(2));
     const [turns, used] = this.results(2);
-    return { status, made: this.view(Uint32Array, made, 2 * turns).slice(), olds: this.view(BigUint64Array, olds, 2 * used).slice() };
+    return { status, made: this.view(Uint32Array, made, 2 * turns).slice(),
+      olds: this.view(BigUint64Array, olds, 2 * used).slice() };
   }
 
-  // Makes turns as `turns` does. Returns the status, and what the library writes of them: of each turn eight numbers, of each link six, and
-  // the old numbers.
+  // Makes turns as `turns` does. Returns the status, and what the library writes of them: of each turn eight numbers, of each link
+  // six, and the old numbers.
   recorded(most, room = 4096, linkRoom = 8 * room, oldRoom = 8 * room) {
     const [turnsAtMost] = checked("origins", most), made = this.room("made", MADE_BYTES * room);
     const links = this.room("links", LINK_BYTES * linkRoom), olds = this.room("olds", 16 * oldRoom);
@@ -161,8 +175,8 @@ export class LibrarySession extends Rooms {
       olds: written(BigUint64Array, olds, 16 * used) };
   }
 
-  // Puts a condition into the memory: forms, each with a kind of FORM and the place and the numbers that this kind names. Returns its
-  // address and how many forms it has.
+  // Puts a condition into the memory: forms, each with a kind of FORM and the place and the numbers that this kind names. Returns
+  // its address and how many forms it has.
   condition(forms) {
     const words = new BigUint64Array(FORM_BYTES / 8 * forms.length);
     forms.forEach(({ kind, place = 0, first = 0, last = 0 }, at) => {
@@ -172,14 +186,15 @@ export class LibrarySession extends Rooms {
     return [this.given("condition", new Uint8Array(words.buffer))[0], BigInt(forms.length)];
   }
 
-  // Makes turns, at most so many, up to the first in which a condition comes to hold. Returns how many, and whether it does in the last.
+  // Makes turns, at most so many, up to the first in which a condition comes to hold. Returns how many, and whether it does in the
+  // last.
   until(condition, most) {
     const status = this.call("until", ...this.condition(condition), ...checked("until", most), ...this.outs(1));
     return { turns: this.results(1)[0], found: status === STATUS.DONE };
   }
 
-  // Goes back to the end of the last action before the newest in which a condition came to hold. Returns how many actions were undone; 0 if
-  // there is none.
+  // Goes back to the end of the last action before the newest in which a condition came to hold. Returns how many actions were
+  // undone; 0 if there is none.
   backUntil(condition) {
     const status = this.call("back_until", ...this.condition(condition), ...this.outs(1));
     return status === STATUS.DONE ? this.results(1)[0] : 0;
@@ -197,10 +212,11 @@ export class LibrarySession extends Rooms {
 
 // The assembler, whose calls need no session.
 export class Assembler extends Rooms {
-  // Returns the lines that a call writes of a source, for a form or a processor, and how many faults the source has. By "assemble_with" it
-  // may read common decks, each of which is a name and its lines.
+  // Returns the lines that a call writes of a source, for a form or a processor, and how many faults the source has. By
+  // "assemble_with" it may read common decks, each of which is a name and its lines.
   written(call, source, number, decks = [], room = 1 << 16) {
-    const given = [...this.given("source", new TextEncoder().encode(source)), ...(call === "assemble_with" ? this.decks(decks) : [])];
+    const given = [...this.given("source", new TextEncoder().encode(source)),
+      ...(call === "assemble_with" ? this.decks(decks) : [])];
     const into = this.room("text", room), numbers = checked(call, number);
     const status = this.calls[`pp6600_${call}`](...given, ...numbers, into, BigInt(room), ...this.outs(2));
     const [count, faults] = this.results(2);
@@ -209,7 +225,8 @@ export class Assembler extends Rooms {
     return { lines: new TextDecoder().decode(this.view(Uint8Array, into, count)).split("\n").slice(0, -1), faults };
   }
 
-  // Puts common decks into the memory: of each text its address and its size. Returns the address of these, and how many decks there are.
+  // Puts common decks into the memory: of each text its address and its size. Returns the address of these, and how many decks
+  // there are.
   decks(decks) {
     const texts = decks.flat().map((text) => new TextEncoder().encode(text)), words = new BigUint64Array(2 * texts.length);
     const at = this.room("texts", 8 + texts.reduce((sum, { length }) => sum + length, 0));

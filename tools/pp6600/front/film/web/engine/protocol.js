@@ -1,13 +1,16 @@
 // ---- what the page and its worker say to each other: the one table, by which both sides check what they send
 
 const MESSAGES = {
-  // From the page. A session with the files of a run takes the place of the one there is; `wanted` are positions to be recorded too.
+  // From the page. A session with the files of a run takes the place of the one there is; `wanted` are positions to be recorded
+  // too.
   open: ["module", "about", "given", "wanted", "isTrusted"],
-  act: ["lines", "position", "labels"], // performs lines and searches where so many actions are in effect
+  act: ["lines"], // performs lines at the newest moment
   look: ["given", "parts", "text"], // the answer to lines elsewhere; the session stays as it is
-  find: ["given", "parts", "from", "text", "isBack", "labels"], // after how many actions a condition comes to hold
-  // Replies to these, and to a request that failed. A reply carries what has come to the film since, so that one action is one drawing.
-  "open reply": ["said", "isWrong"], "act reply": ["said", "isWrong"], "look reply": ["answer", "acts"], "find reply": ["found", "end"],
+  find: ["given", "parts", "from", "text", "isBack", "labels"], // after how many actions a condition comes to hold in some parts
+  // Replies to these, and to a request that failed. A reply carries what has come to the film since, so that one action is one
+  // drawing.
+  "open reply": ["said", "isWrong"], "act reply": ["said", "isWrong"], "look reply": ["answer", "acts"],
+  "find reply": ["found", "end"],
   "fault reply": ["said", "isWrong", "isFault"],
   moments: ["rows", "lines"], working: [], // from the worker beside replies: what has come to the film, and that a search goes on
 };

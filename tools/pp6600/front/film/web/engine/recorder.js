@@ -1,9 +1,9 @@
-// ---- a session with its numbers: what the page gets of each action is a moment with the places that it changed, and of a turn the links
-// by which its numbers come from others
+// ---- a session with its numbers: what the page gets of each action is a moment with the places that it changed, and of a turn the
+// links by which its numbers come from others
 
-import { CELLS, HALF, isWord, layout, setLayout, upperOf } from "../machine/places.js";
+import { CELLS, HALF, REGISTERS, isWord, layout, setLayout, upperOf } from "../machine/places.js";
 import { BLOCK, BUSY, IDLE, LINE, ROWS, WAITING } from "../machine/moments.js";
-import { numberOfInstruction } from "../machine/turns.js";
+import { FORM } from "../machine/turns.js";
 import { AFTER, packed } from "../machine/written.js";
 import { STATUS } from "./library.mjs";
 
@@ -11,14 +11,21 @@ const MOST_RECORDED = 4096, MOST_OF_LINE = 76; // turns; places that a line over
 const LINKS = 4, OWN = 5, OLDS = 6, MADE = 8, LINK = 6; // which number of a turn is which; how many a turn and a link have
 const WAITED = 1, PASSED = 2; // kinds of turns
 const OLD = 4, LOW = 2, HIGH = 3; // an old number: its place and the number itself, each of 64 bits as two words
-const isRelative = (code) => code >= 3 && code < 8, isConditional = (code) => isRelative(code) || (code >= 0o64 && code < 0o70);
+const CHANNEL_JUMPS = [0o64, 0o65, 0o66, 0o67];
+
+const isAdvance = (operation) => operation >= AFTER.one && operation <= AFTER.five;
 
 export class Recorder {
-  constructor(session, about) {
-    Object.assign(this, { session, twoWords: new Set(about.two_words), numbers: new Int32Array(setLayout(about.central)) });
-    Object.assign(this, { count: 0, position: 0, turn: 0 }); // moments, and actions and turns in effect
-    // Of the places that the latest batch of turns overwrote: the numbers that the action before left, and the number of the batch.
-    Object.assign(this, { left: new Uint32Array(2 * layout.high), batch: new Uint32Array(layout.high), latest: 0 });
+  // Moments; actions and turns in effect; the number of the latest batch of turns.
+  count = 0;
+  position = 0;
+  turn = 0;
+  latest = 0;
+
+  constructor(session, { central, instructions }) {
+    Object.assign(this, { session, instructions, numbers: new Int32Array(setLayout(central)) });
+    // Of the places that the latest batch overwrote: the numbers that the action before left, and the number of the batch.
+    Object.assign(this, { left: new Uint32Array(2 * layout.high), batch: new Uint32Array(layout.high) });
     this.beginDelivery();
     this.leap(LINE, 0, 0);
   }
@@ -32,67 +39,60 @@ export class Recorder {
     return rows;
   }
 
-  endMoment(kind, processor, p, turned) {
+  endMoment(kind, processor = 0) {
     const { rows } = this;
     rows.kinds.push(kind);
     rows.position.push(this.position);
     rows.turn.push(this.turn);
     rows.processor.push(processor);
-    rows.p.push(p);
-    rows.turned.push(turned);
     rows.starts.push(rows.places.length);
     rows.linkStarts.push(rows.links.length);
     this.count++;
   }
-
-  // ---- turns
 
   // Makes turns, at most `most`. Returns how many, and whether a watch ended them.
   turns(most) {
     const { status, made, links, olds } = this.session.recorded(Math.min(most, MOST_RECORDED), MOST_RECORDED);
     const old = new Uint32Array(olds.buffer), now = this.newNumbers(made, old);
     for (let at = 0, pair = 0, link = 0; at < made.length; at += MADE) {
-      const before = this.before(made[at]);
+      const before = this.registers(made[at]);
       for (const end = pair + made[at + OLDS]; pair < end; pair++) this.put(old[OLD * pair], now[2 * pair], now[2 * pair + 1]);
       this.endTurn(made.subarray(at, at + MADE), links.subarray(link, link += LINK * made[at + LINKS]), before);
     }
     return { count: made.length / MADE, isWatched: status === STATUS.WATCHED };
   }
 
-  // The registers of a processor, and its word after P.
-  before(n) {
-    const { numbers } = this, p = numbers[layout.P + n];
-    const second = numbers[n * CELLS + ((p + 1) % CELLS)];
-    return { p, a: numbers[layout.A + n], q: numbers[layout.Q + n], phase: numbers[layout.phase + n], second };
-  }
+  registers(n) { return REGISTERS.map((first) => this.numbers[first + n]); }
 
   endTurn(made, links, before) {
-    const [n, , word, kind] = made, after = this.before(n), isTwo = this.twoWords.has(word >> 6);
-    const isUnmoved = after.p === before.p && after.a === before.a && after.q === before.q && after.phase === before.phase;
-    const { p, phase, second } = before, jump = { word, isNext: after.p === (p + (isTwo ? 2 : 1)) % CELLS };
+    const [n, , word, kind] = made, after = this.registers(n), [p, , , phase] = before;
+    const isUnmoved = before.every((one, at) => one === after[at]), isInBlock = phase || after[3];
     this.position++;
     this.turn++;
-    this.addLinks(links, LINK * made[OWN], n, !phase && isConditional(word >> 6) ? jump : null);
-    const what = kind === WAITED ? WAITING : phase || after.phase ? BLOCK : isUnmoved || kind === PASSED ? IDLE : BUSY;
-    this.endMoment(what, n, p, numberOfInstruction(word, phase, isTwo ? second : null));
+    const { words, form } = this.instructions[word >> 6], isRelative = form === FORM.TARGET, d = word & 0o77;
+    const goesOn = after[0] === (p + words) % CELLS || (isRelative && (d === 0 || d === 0o77)); // a jump by no cells is a stop
+    const isJump = !phase && (isRelative || CHANNEL_JUMPS.includes(word >> 6));
+    this.addLinks(links, LINK * made[OWN], n, isJump ? goesOn : null);
+    this.endMoment(kind === WAITED ? WAITING : isInBlock ? BLOCK : isUnmoved || kind === PASSED ? IDLE : BUSY, n);
   }
 
-  // Adds the links of a turn, of which the first so many numbers are its processor's. Those of the clock and of the slot say nothing, and P
-  // is written by jumps and blocks alone.
-  addLinks(links, own, n, jump) {
+  // Adds the links of a turn, of which the first so many numbers are its processor's. Those of the clock and of the slot say
+  // nothing, and that P goes on to the next instruction, or to the next cell of a block, is no write.
+  addLinks(links, own, n, goesOn) {
     for (let at = 0, rest = 0, isAdded = false; at < links.length; at += LINK) {
       const place = links[at], how = links[at + 4], operation = how & 0xff, source = links[at + 3] ? -1 : links[at + 2];
       const isOfDevice = at >= own;
       if (!rest && isOfDevice) isAdded = place >= layout.states && place < layout.clock;
-      else if (!rest && place === layout.P + n) isAdded = !goesOn(jump, operation, source === place);
+      else if (!rest && place === layout.P + n) isAdded = !(goesOn ?? (source === place && isAdvance(operation)));
       else if (!rest) isAdded = place < layout.phase || place >= layout.words;
       rest = how >>> 16;
       if (isAdded) this.rows.links.push(packed(place, operation, (how >> 8) & 0xff, isOfDevice, rest), source);
     }
   }
 
-  // The number that its action left at each place of these old numbers, as two words: the old number of the next action that overwrote it,
-  // or the number that is there now. If an action names a place twice, the first old number is the one that was there.
+  // The number that its action left at each place of these old numbers, as two words: the old number of the next action that
+  // overwrote it, or the number that is there now. If an action names a place twice, the first old number is the one that was
+  // there.
   newNumbers(made, old) {
     const now = new Uint32Array(old.length / 2), { left } = this, latest = ++this.latest;
     for (let at = made.length - MADE, end = now.length / 2; at >= 0; at -= MADE) {
@@ -120,17 +120,17 @@ export class Recorder {
     const { olds } = this.session.turns(1, 1, MOST_OF_LINE, "again");
     for (let at = 0; at < olds.length; at += 2) this.read(Number(olds[at]), 1);
     this.position++;
-    this.endMoment(LINE, 0, 0, 0);
+    this.endMoment(LINE);
   }
 
   // Notes a BACK or FORWARD, or turns that were not recorded, by all numbers, and how many actions and turns are then in effect.
   leap(kind, position, turn) {
     Object.assign(this, { position, turn });
     this.read(0, layout.high);
-    this.endMoment(kind, 0, 0, 0);
+    this.endMoment(kind);
   }
 
-  // The numbers at places in a row, each as two words.
+  // Those at places in a row, each as two words.
   words(first, count) { return new Uint32Array(this.session.numbers(first, count).buffer); }
 
   read(first, count) {
@@ -138,7 +138,6 @@ export class Recorder {
     for (let at = 0; at < count; at++) this.put(first + at, words[2 * at], words[2 * at + 1]);
   }
 
-  // Puts a number, which comes as two words of 32 bits.
   put(place, low, high) {
     if (!isWord(place)) return this.note(place, low);
     this.note(place, low & 0x3fffffff);
@@ -153,11 +152,4 @@ export class Recorder {
     rows.was.push(was);
     rows.now.push(number);
   }
-}
-
-// Whether P goes on to the next instruction, also by a jump there, or to the next cell of a block; or stops, by a jump by no cells.
-function goesOn(jump, operation, isOfItself) {
-  if (!jump) return isOfItself && operation >= AFTER.one && operation <= AFTER.five;
-  const { word, isNext } = jump, d = word & 0o77;
-  return isNext || (isRelative(word >> 6) && (d === 0 || d === 0o77));
 }

@@ -1,30 +1,117 @@
-// ---- a session: its lines, its tape, and the simulator at a position on it
+// ---- sessions of the simulator over the actions of a run: one in which lines are performed and recorded, and others in which one
+// searches
 
 import { layout, octal, two, watchesIn } from "../machine/places.js";
 import { JUMP, SKIP } from "../machine/moments.js";
-import { LONGEST_ANSWER, MOST_TURNS, wordsIn } from "../machine/lines.js";
-import { Recorder } from "./recorder.js";
+import { LONGEST_ANSWER, MOST_TURNS, actionsIn, linesIn, moveBy, partsBetween, turnsIn, wordsIn } from "../machine/lines.js";
 import { changes } from "./conditions.js";
-import { Searcher, ask, stepped } from "./tape.js";
+import { LibrarySession } from "./library.mjs";
+import { Recorder } from "./recorder.js";
 
+const MOST_AT_ONCE = 1 << 18, MOST_KEPT = 9999; // turns of one call; actions over which one looks back
 const MOST_MOMENTS = 1 << 20, FULL = 5 << 18, AFTER_LONG = 0o10000;
 const MOVES = { BACK: -1, FORWARD: 1 };
-export const moveBy = (distance) => `${distance < 0 ? "BACK" : "FORWARD"} ${octal(Math.abs(distance))}`;
+
+const ask = (session, text) => linesIn(session.answer(`${text}\n`).text);
+
+// Makes turns by one line, at most so many. Returns how many, and whether a watch ended them.
+function stepped(session, most) {
+  const [made, ...hits] = ask(session, `STEP ${octal(Math.min(most, MOST_AT_ONCE))}`);
+  return { count: parseInt(made.split(" ")[1], 8), isWatched: hits.length > 0 };
+}
+
+// What searches the parts of a run: those in effect, and behind them those that were taken back. `control` has pause(), which lets
+// messages come, and isStopped().
+export class Searcher {
+  constructor(calls, about, control, parts = []) { Object.assign(this, { calls, about, control, parts }); }
+
+  opened(more) { return new LibrarySession(this.calls, { ...this.about, ...more }); }
+
+  // Makes turns, a batch after the other, and lets messages come between them.
+  async *batches(count, make, news = null) {
+    for (let left = count; left > 0;) {
+      const batch = make(left);
+      left -= batch.count;
+      yield batch;
+      await this.control.pause(news);
+    }
+  }
+
+  // Performs parts in a session, up to where it is enough: this is asked after each line, and after each batch of turns.
+  async replay(session, parts, make = (left) => stepped(session, left), isEnough = () => false) {
+    for (const part of parts) {
+      const isLine = typeof part === "string";
+      if (isLine) ask(session, part);
+      if (isLine && isEnough({ count: 1 })) return;
+      for await (const batch of this.batches(isLine ? 0 : part, make)) if (isEnough(batch)) return;
+    }
+  }
+
+  // A session in which so many actions were performed.
+  async sessionAt(position) {
+    const session = this.opened();
+    await this.replay(session, partsBetween(this.parts, 0, position));
+    return session;
+  }
+
+  // After how many actions a condition first comes to hold, in a turn from a position on, or null; and up to where one has looked.
+  // What the library does not judge depends on turns before: a return is wrong if its call stored another address.
+  async firstOf(condition, from) {
+    const begin = condition.isOfLibrary ? from : 0, session = await this.sessionAt(begin);
+    let at = begin, found = null;
+    const make = (left) => condition.next(session, Math.min(left, MOST_AT_ONCE));
+    await this.replay(session, partsBetween(this.parts, begin, Infinity), make, ({ count, isFound }) => {
+      at += count;
+      if (isFound && at > from) found = at;
+      return found !== null || this.control.isStopped();
+    });
+    session.close();
+    return { found, end: at };
+  }
+
+  // After how many actions a condition came to hold last, before the last of those up to a position; or null. The library looks
+  // back from the end of each stretch that it keeps.
+  async lastOf(condition, end) {
+    const session = this.opened({ history: MOST_KEPT + 1 }), { isOfLibrary, forms } = condition;
+    let at = 0, looked = 0, found = null;
+    const make = (left) => (isOfLibrary ? stepped(session, Math.min(left, looked + MOST_KEPT - at))
+      : condition.next(session, Math.min(left, MOST_AT_ONCE)));
+    const look = () => {
+      const undone = session.backUntil(forms);
+      if (undone) found = at - undone;
+      if (undone) session.forward(undone);
+      looked = at;
+    };
+    await this.replay(session, partsBetween(this.parts, 0, end), make, ({ count, isFound }) => {
+      at += count;
+      if (isFound && at < end) found = at;
+      if (isOfLibrary && (at === end || at - looked === MOST_KEPT)) look();
+      return this.control.isStopped();
+    });
+    session.close();
+    return found;
+  }
+}
 
 export class Session extends Searcher {
+  lines = []; // those that have come since the last delivery, with their answers and moments
+
   // `wanted` are first and last positions that a long STEP records too.
   constructor(calls, about, control, wanted = []) {
     super(calls, about, control);
     this.wanted = wanted;
     this.recorder = new Recorder(this.opened(), about);
-    this.lines = []; // those that have come since the last delivery, with their answers and moments
   }
 
   get simulator() { return this.recorder.session; }
-  close() { this.simulator.close(); }
   get position() { return this.recorder.position; }
+  get slot() { return two(this.recorder.numbers[layout.slot]); }
   get isFull() { return this.recorder.count >= FULL; }
   checkRoom() { if (this.isFull) throw new Error(`the film is full, it has ${octal(FULL)} moments: save the script`); }
+  close() { this.simulator.close(); }
+
+  // What has come since the last delivery.
+  take() { return { rows: this.recorder.take(), lines: this.lines.splice(0) }; }
 
   // ---- one line
 
@@ -40,57 +127,52 @@ export class Session extends Searcher {
 
   async performOther(text, words) {
     const count = countOf(words), answer = ask(this.simulator, text), [kind, moved] = (answer[0] || "").split(" ");
-    if (kind === "OK") this.settle(text);
+    if (kind === "OK") this.add(text);
+    if (kind === "OK") this.recorder.addLine();
     if (kind in MOVES) this.moved(this.position + MOVES[kind] * parseInt(moved, 8));
-    if (/^ERR (07|16)/.test(answer[0]) && count && words[0] in MOVES) return this.goAnew(this.position + MOVES[words[0]] * count, answer);
+    const isTooFar = /^ERR (07|16)/.test(answer[0]) && count && words[0] in MOVES;
+    if (isTooFar) return this.goAnew(this.position + MOVES[words[0]] * count, answer);
     if (words[0] === "BACK" && words[1] === "W" && answer[0].startsWith("ERR 10")) return this.backToChange(answer);
     return answer;
   }
 
-  // A SET, WATCH, UNWATCH or DEADSTART that was performed.
-  settle(text) {
-    this.tape.cut(this.position);
-    this.tape.add(1, text);
-    this.recorder.addLine();
-  }
+  // Adds a part behind so many actions, which are in effect. What was taken back goes.
+  add(part, position = this.position) { this.parts = [...partsBetween(this.parts, 0, position), part]; }
 
   // ---- turns
 
-  // Makes turns, and records them, if the session does not become too long. If a watch has ended them, the last one is made once more, for
-  // the simulator's answer.
+  // Makes turns, and records them, if the session does not become too long. If a watch has ended them, the last one is made once
+  // more, for the simulator's answer.
   async step(turns) {
     const first = this.position;
-    this.tape.cut(first);
     let isHit = false;
-    for (const { count, isRecorded } of this.partsOf(turns)) {
+    for (const { count, isRecorded } of this.stretchesOf(turns)) {
       isHit = await (isRecorded ? this.recordTurns(count) : this.skipTurns(count));
       if (isHit || this.control.isStopped()) break;
     }
     const made = this.position - first;
     if (!made) return ["TURNS 0", "stopped"];
-    const turnsLine = `TURNS ${octal(made)} SLOT ${this.slot()}`;
+    const turnsLine = `TURNS ${octal(made)} SLOT ${this.slot}`;
     if (!isHit) return [turnsLine, ...(made < turns ? ["stopped"] : [])];
     this.simulator.back(1);
     return [turnsLine, ...ask(this.simulator, "STEP 1").slice(1)];
   }
 
-  slot() { return two(this.recorder.numbers[layout.slot]); }
-
   // How so many turns are recorded: all, or if the session would become too long the last ones and those that are wanted.
-  partsOf(turns) {
+  stretchesOf(turns) {
     const begin = this.position, end = begin + turns, isShort = this.recorder.count + turns <= MOST_MOMENTS;
     const ranges = isShort ? [[begin, end]] : [...this.wanted, [end - AFTER_LONG, end]];
     const points = [begin, end, ...ranges.flat()].filter((at) => at >= begin && at <= end).sort((one, other) => one - other);
     const isRecorded = (from, to) => ranges.some(([low, high]) => low < to && from < high);
-    const parts = points.slice(1).map((to, at) => ({ count: to - points[at], isRecorded: isRecorded(points[at], to) }));
-    return parts.filter(({ count }) => count > 0);
+    const stretches = points.slice(1).map((to, at) => ({ count: to - points[at], isRecorded: isRecorded(points[at], to) }));
+    return stretches.filter(({ count }) => count > 0);
   }
 
   // Returns whether a watch ended the turns.
   async recordTurns(count) {
-    for await (const { count: made, isWatched } of this.batches(count, (left) => this.recorder.turns(left), this)) {
-      this.tape.add(made);
-      if (isWatched || this.control.isStopped()) return isWatched;
+    for await (const batch of this.batches(count, (left) => this.recorder.turns(left), this)) {
+      this.add(batch.count, this.position - batch.count);
+      if (batch.isWatched || this.control.isStopped()) return batch.isWatched;
     }
     return false;
   }
@@ -103,23 +185,27 @@ export class Session extends Searcher {
       isWatched = batch.isWatched;
       if (isWatched || this.control.isStopped()) break;
     }
-    const recorded = made < count || isWatched ? Math.min(made, AFTER_LONG, this.simulator.counts().kept) : 0, skipped = made - recorded;
+    const recorded = made < count || isWatched ? Math.min(made, AFTER_LONG, this.simulator.counts().kept) : 0;
+    const skipped = made - recorded;
     this.simulator.back(recorded);
-    this.tape.add(skipped);
+    this.add(skipped);
     this.recorder.leap(SKIP, this.position + skipped, this.recorder.turn + skipped);
     return (await this.recordTurns(recorded)) || isWatched;
   }
 
   // ---- back and forward, over all actions
 
-  // Beyond what the simulator keeps: performs the tape anew up to a position, if it has it. The answer has a second line that says so.
+  moved(position) { this.recorder.leap(JUMP, position, turnsIn(partsBetween(this.parts, 0, position))); }
+
+  // Beyond what the simulator keeps: performs the parts anew up to a position, if they reach there. The answer has a second line
+  // that says so.
   async goAnew(position, answer) {
-    if (position < 0 || position > this.tape.length) return answer;
+    if (position < 0 || position > actionsIn(this.parts)) return answer;
     const distance = position - this.position, session = await this.sessionAt(position);
     this.close();
     this.recorder.session = session;
     this.moved(position);
-    return [`${moveBy(distance)} SLOT ${this.slot()}`, "replayed"];
+    return [`${moveBy(distance)} SLOT ${this.slot}`, "replayed"];
   }
 
   // Beyond what the simulator keeps: the latest change of what is watched now.
@@ -129,11 +215,6 @@ export class Session extends Searcher {
     const last = await this.lastOf(changes(watched), this.position);
     return last === null ? answer : this.goAnew(last - 1, answer);
   }
-
-  moved(position) { this.recorder.leap(JUMP, position, this.tape.turnsAt(position)); }
-
-  // What has come since the last delivery.
-  take() { return { rows: this.recorder.take(), lines: this.lines.splice(0) }; }
 }
 
 // The count of a line with one count at most, or 0.

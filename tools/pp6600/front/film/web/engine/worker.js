@@ -1,12 +1,10 @@
 // ---- the worker: it has the session, serves one request after the other, and delivers what came of it
 
-import { octal } from "../machine/places.js";
-import { LONGEST_ANSWER, UNTIL, bytesOfText, linesIn, ofLines, stepsOf } from "../machine/lines.js";
+import { LONGEST_ANSWER, bytesOfText, linesIn, scriptOf } from "../machine/lines.js";
 import { STOP, message, wordsOf } from "./protocol.js";
 import { LibrarySession, openLibrary } from "./library.mjs";
 import { parseCondition } from "./conditions.js";
-import { Session, moveBy } from "./session.js";
-import { Searcher, Tape } from "./tape.js";
+import { Searcher, Session } from "./session.js";
 
 const AT_ONCE = 50; // milliseconds between two deliveries, and after which messages are looked for
 const MOST_SECONDS = 20, MOST_SEARCHED = 10; // seconds of a script that is opened, and of a search
@@ -35,8 +33,6 @@ function deliver() {
 const withFiles = ({ deck = "", panel = "", options = {} }) =>
   ({ ...at.about, ...options, deck: bytesOfText(deck), panel: bytesOfText(panel) });
 
-// ---- requests
-
 const SERVICES = {
   // A script that the page does not know yet may take so many seconds. It says what is left of it.
   async open({ module, about = at.about, given, wanted = [], isTrusted = false }) {
@@ -52,16 +48,14 @@ const SERVICES = {
     return left || control.isStopped() ? { said: `stopped: ${left} lines of the script are left`, isWrong: true } : {};
   },
 
-  // A refused line, a watch, a search in vain or a hand ends them.
-  async act({ lines, position, labels }) {
-    const { session } = at, distance = position - session.position, actions = lines.map((line) => actionOf(line, labels));
-    if (distance) await session.perform(moveBy(distance));
+  // A refused line, a watch or a hand ends them.
+  async act({ lines }) {
     let reply = {};
-    for (const action of actions) {
-      session.checkRoom();
-      const { isHit, ...more } = await action(session);
-      reply = more;
-      if (reply.isWrong || isHit || control.isStopped()) break;
+    for (const line of lines) {
+      at.session.checkRoom();
+      const answer = await at.session.perform(line);
+      reply = { said: answer.slice(0, LONGEST_ANSWER).join("\n"), isWrong: /^ERR /.test(answer[0]) };
+      if (reply.isWrong || answer.some((one) => one.startsWith("HIT ")) || control.isStopped()) break;
     }
     return reply;
   },
@@ -69,53 +63,23 @@ const SERVICES = {
   // In a session of its own.
   async look({ given, parts, text }) {
     const session = new LibrarySession(at.calls, withFiles(given));
-    session.answer(ofLines(parts.flatMap((part) => (typeof part === "number" ? stepsOf(part) : [part]))));
+    session.answer(scriptOf(parts));
     const answer = linesIn(session.answer(text).text);
     session.close();
     return { answer, acts: answer.some((line) => ACTED.test(line)) };
   },
 
-  // The first time after so many actions at which a condition comes to hold among actions that the film has; or the last time before.
+  // The first time after so many actions at which a condition comes to hold in some parts, or the last time before.
   async find({ given, parts, from, text, isBack, labels }) {
-    const condition = parseCondition(text, labels, at.about.condition), tape = new Tape();
-    for (const part of parts) tape.add(typeof part === "number" ? part : 1, typeof part === "number" ? null : part);
-    const searcher = new Searcher(at.calls, withFiles(given), control, tape);
-    return searched(searcher, condition, from, isBack ? null : tape.between(from, tape.length));
+    const condition = parseCondition(text, labels, at.about.condition);
+    const searcher = new Searcher(at.calls, withFiles(given), control, parts);
+    at.until = performance.now() + 1000 * MOST_SEARCHED;
+    if (!isBack) return searcher.firstOf(condition, from);
+    const found = await searcher.lastOf(condition, from);
+    if (control.isStopped()) throw new Error("stopped: the search took too long");
+    return { found };
   },
 };
-
-// What performs a line, or a search in whose condition labels may be.
-function actionOf(line, labels) {
-  const [, back, text] = UNTIL.exec(line) || [];
-  if (text === undefined) return (session) => performLine(session, line);
-  const condition = parseCondition(text, labels, at.about.condition);
-  return (session) => search(session, condition, Boolean(back));
-}
-
-async function performLine(session, line) {
-  const answer = await session.perform(line), isHit = answer.some((one) => one.startsWith("HIT "));
-  return { said: answer.slice(0, LONGEST_ANSWER).join("\n"), isWrong: /^ERR /.test(answer[0]), isHit };
-}
-
-// After how many actions a condition comes to hold the first time in parts of a tape, or without these came to hold the last time before.
-async function searched(searcher, condition, from, parts) {
-  at.until = performance.now() + 1000 * MOST_SEARCHED;
-  if (parts) return searcher.firstOf(condition, from, parts);
-  const found = await searcher.lastOf(condition, from);
-  if (control.isStopped()) throw new Error("stopped: the search took too long");
-  return { found };
-}
-
-// Goes on to where a condition comes to hold the first time, or back to the last time.
-async function search(session, condition, isBack) {
-  const begin = session.position, parts = isBack ? null : [{ text: null, count: Infinity }];
-  const { found, end } = await searched(session, condition, begin, parts);
-  if (found === null) return { said: isBack ? "not before this" : `not among the next ${octal(end - begin)} turns`, isWrong: true };
-  at.until = Infinity;
-  if (isBack) await session.perform(moveBy(found - begin));
-  while (session.position < found && !control.isStopped()) await session.perform(stepsOf(found - session.position)[0]);
-  return { said: `found: turn ${octal(session.recorder.turn)}` };
-}
 
 // ---- messages: STOP is heard while a request is performed; others wait
 

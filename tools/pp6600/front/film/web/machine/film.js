@@ -1,10 +1,11 @@
-// ---- a film: the numbers of the machine are one row, and each moment has the places that it changed with their numbers before and after.
-// Going to and fro computes no turn. Moments come from the worker, at the end.
+// ---- a film: the numbers of the machine are one row, and each moment has the places that it changed with their numbers before and
+// after. Going to and fro computes no turn. Moments come from the worker, at the end.
 
-import { CELLS, CHANNELS, CLOCK, KINDS, PROCESSORS, layout, nameOf, octal, placeAt, placeIn, placeOf, range, setLayout,
-  watchesIn } from "./places.js";
+import { CELLS, CHANNELS, CLOCK, KINDS, PROCESSORS, isCentral, isFrame, layout, nameOf, octal, placeAt, placeIn, placeOf, range,
+  setLayout, watchesIn } from "./places.js";
 import { BLOCK, BUSY, IDLE, JUMP, LINE, ROWS, SKIP, WAITING, firstNot } from "./moments.js";
-import { instructionOf, isOfBlock, turning } from "./turns.js";
+import { growSources, sourcesOf } from "./sources.js";
+import { Turn } from "./turns.js";
 import { writesIn } from "./written.js";
 
 export const NOT_RECORDED = -1; // in the place of a moment: it may lie in turns that were not recorded
@@ -14,20 +15,24 @@ export const countUpTo = (moments, moment) => firstNot(moments.length, (at) => m
 const lastUpTo = (moments, moment) => moments[countUpTo(moments, moment) - 1] || 0;
 
 export class Film {
+  count = 0; // of the moments
+  at = -1; // the one that is shown
+  lines = []; // each with its answer, and the moments from its first to its last
+  jumps = new Map(); // where BACK and FORWARD lead
+  breaks = []; // the moments of these, and of turns that were not recorded
+  settings = []; // the moments of lines that set a number of a processor
+  phases = range(PROCESSORS).map(() => []); // of each processor the moments that changed its phase
+  processorLanes = range(PROCESSORS).map(() => new Lane());
+  channelLanes = range(CHANNELS).map(() => new Lane());
+  used = new Map(); // of the parts of the machine that not every run uses the place that this one changed first
+  highestTurn = 0;
+  firstTurn = -1;
+
+  // `about` has the options of the machine, its instructions, the labels of processors, and what is known of their sources.
   constructor(about) {
     for (const [name, Kind] of Object.entries(ROWS)) this[name] = new Kind(isStarts(name) ? 1 : 0);
     this.numbers = new Int32Array(setLayout(about.central));
-    Object.assign(this, { about, labels: about.labels || {}, count: 0, at: -1, highestTurn: 0, firstTurn: -1 });
-    this.lines = []; // each with its answer, and the moments from its first to its last
-    this.lineAt = new Int32Array(0); // of each moment the number of its line, -1 before the first
-    this.jumps = new Map(); // where BACK and FORWARD lead
-    this.breaks = []; // the moments of these, and of turns that were not recorded
-    this.settings = []; // the moments of lines that set a number of a processor
-    this.phases = range(PROCESSORS).map(() => []); // of each processor the moments that changed its phase
-    this.processorLanes = range(PROCESSORS).map(() => new Lane());
-    this.channelLanes = range(CHANNELS).map(() => new Lane());
-    this.used = new Set(); // the parts of the machine that not every run uses, of those that this one does
-    turning.open(about);
+    Object.assign(this, { about, labels: about.labels || {}, sources: sourcesOf(about) });
   }
 
   get last() { return this.count - 1; }
@@ -36,15 +41,16 @@ export class Film {
   // ---- what has come
 
   grow({ rows, lines }) {
-    if (this.count) this.goTo(this.last);
-    const first = this.count, firstLine = this.lines.length;
-    for (const [name, more] of Object.entries(rows)) this.append(name, more);
+    const first = this.count;
     this.lines.push(...lines);
+    if (!rows.kinds.length) return;
+    if (first) this.goTo(this.last);
+    for (const [name, more] of Object.entries(rows)) this.append(name, more);
     this.count += rows.kinds.length;
-    this.lineAt = longer(this.lineAt, this.count).fill(-1, first);
-    lines.forEach((line, at) => line.acts && this.lineAt.fill(firstLine + at, line.first, line.moment + 1));
-    this.noteFrom(first);
+    for (let moment = first; moment < this.count; moment++) this.note(moment, this.kinds[moment]);
+    if (this.firstTurn < 0) this.firstTurn = this.kinds.findIndex((kind) => kind < LINE);
     this.goTo(this.last);
+    growSources(this, first);
   }
 
   // The worker counts starts from the beginning of its delivery.
@@ -54,41 +60,31 @@ export class Film {
     this[name].set(base ? more.map((one) => one + base) : more, before);
   }
 
-  // Notes what the moments from a first one on are.
-  noteFrom(first) {
-    const { kinds, places, now, starts, turn, processor, processorLanes } = this;
-    for (let moment = first; moment < this.count; moment++) {
-      if (kinds[moment] < LINE) processorLanes[processor[moment]].goOn(moment, kinds[moment]);
-      else this.noteLine(moment, kinds[moment]);
-      if (turn[moment] > this.highestTurn) this.highestTurn = turn[moment];
-      for (let at = starts[moment]; at < starts[moment + 1]; at++) {
-        if (places[at] >= layout.phase) this.noteChange(moment, places[at], now[at]);
-      }
-    }
-    if (this.firstTurn < 0) this.firstTurn = kinds.findIndex((kind) => kind < LINE);
-  }
-
-  noteLine(moment, kind) {
+  // Notes what a moment is.
+  note(moment, kind) {
+    const { places, now, starts, turn, processor, processorLanes } = this;
+    if (kind < LINE) processorLanes[processor[moment]].goOn(moment, kind);
     if (kind === JUMP) this.jumps.set(moment, this.targetOf(moment));
     if (kind >= JUMP) this.breaks.push(moment);
     if (kind === LINE && this.processorSet(moment) >= 0) this.settings.push(moment);
+    if (turn[moment] > this.highestTurn) this.highestTurn = turn[moment];
+    for (let at = starts[moment]; at < starts[moment + 1]; at++) {
+      if (places[at] >= layout.phase) this.noteChange(moment, places[at], now[at]);
+    }
   }
 
   noteChange(moment, place, now) {
     const c = place - layout.states, n = place - layout.phase;
     if (c >= 0 && c < CHANNELS) this.channelLanes[c].goOn(moment, now);
-    if (n >= 0 && n < PROCESSORS && this.kinds[moment] !== JUMP) this.phases[n].push(moment);
-    if (moment && place >= layout.frame && place < layout.reader) this.used.add("frame");
-    if (moment && place >= layout.central && place < layout.high && !this.used.has("central")) {
-      this.used.add("central");
-      this.firstWord = place - layout.central;
-    }
+    if (n < PROCESSORS && this.kinds[moment] !== JUMP) this.phases[n].push(moment);
+    const part = isFrame(place) ? "frame" : isCentral(place) ? "central" : "";
+    if (moment && part && !this.used.has(part)) this.used.set(part, place);
   }
 
   // The processor whose cell or register a line has set, or -1.
   processorSet(moment) {
-    const [first] = this.places.subarray(this.starts[moment], this.starts[moment + 1]),
-      { kind = "", numbers = [] } = (first >= 0 && placeAt(first)) || {};
+    const [first] = this.places.subarray(this.starts[moment], this.starts[moment + 1]);
+    const { kind = "", numbers = [] } = (first >= 0 && placeAt(first)) || {};
     return ["M", "A", "P", "Q", "PHASE"].includes(kind) ? numbers[0] : -1;
   }
 
@@ -135,15 +131,14 @@ export class Film {
 
   // ---- what is in effect at a moment
 
-  // The lines that lead to what is in effect at a moment, without what was taken back: texts, and counts of turns.
-  partsInEffect(moment) {
+  // The parts that lead to what is in effect at a moment, without what was taken back: lines, and counts of turns.
+  partsInEffect(moment = this.at) {
     const { kinds, position } = this, parts = [];
     for (let at = moment, left = position[moment]; left > 0; at--) {
       const turns = left - position[at - 1];
       if (kinds[at] === JUMP || turns <= 0) continue;
       if (kinds[at] === LINE) parts.push(this.lineOf(at).text);
-      else if (typeof parts.at(-1) === "number") parts.push(parts.pop() + turns);
-      else parts.push(turns);
+      else parts.push(turns + (typeof parts.at(-1) === "number" ? parts.pop() : 0));
       left -= turns;
     }
     return parts.reverse();
@@ -195,8 +190,6 @@ export class Film {
     return found;
   }
 
-  // ---- numbers
-
   number(kind, ...indices) { return this.numbers[placeOf(kind, ...indices)]; }
   cell(n, address) { return this.numbers[n * CELLS + ((address + CELLS) % CELLS)]; }
   channelState(c) { return c === CLOCK ? 2 : this.number("STATE", c); } // the clock is always full
@@ -213,9 +206,13 @@ export class Film {
 
   // ---- what a moment did
 
-  lineOf(moment) { return this.lines[this.lineAt[moment]]; }
-  turnOf(moment) { return instructionOf(this.turned[moment]); }
-  isBlock(moment) { return isOfBlock(this.turned[moment]); }
+  // The number of the line that made a moment; -1 if none has, or as long as it is performed.
+  lineAt(moment) {
+    const at = moment ? firstNot(this.lines.length, (one) => this.lines[one].moment < moment) : -1;
+    return at < this.lines.length ? at : -1;
+  }
+
+  lineOf(moment) { return this.lines[this.lineAt(moment)]; }
 
   // The places that a moment changed, each with the number before and after it; none of a line that went to and fro.
   changesOf(moment) {
@@ -224,10 +221,9 @@ export class Film {
       const place = placeAt(this.places[at]);
       if (place && place.kind !== "SLOT") found.add(place);
     }
-    return [...found].map((place) => ({ place, was: this.textIn(moment, place, this.was), now: this.textIn(moment, place, this.now) }));
+    const textIn = ({ kind, places }, row) => this.textOf(kind, places.map((at) => this.numberIn(moment, at, row)));
+    return [...found].map((place) => ({ place, was: textIn(place, this.was), now: textIn(place, this.now) }));
   }
-
-  textIn(moment, { kind, places }, row) { return this.textOf(kind, places.map((at) => this.numberIn(moment, at, row))); }
 
   // The number of a place before or after the moment that is shown.
   numberIn(moment, place, row) {
@@ -251,17 +247,19 @@ export class Film {
     return null;
   }
 
-  // Where the block transfer was issued that a processor is in after a moment; null if no turn that is known issued it.
-  issuedAt(n, moment) {
-    const at = this.changeBefore(this.phases[n], moment);
-    return at > 0 && this.isTurn(at) && this.processor[at] === n ? this.p[at] : null;
+  // The next turn of a processor; and the turn of a moment, as it was before it.
+  next(n) { return new Turn(this, n); }
+  turnOf(moment) { return this.atMoment(moment - 1, () => this.next(this.processor[moment])); }
+
+  // The address of the instruction of a next turn; in a block transfer of the one that began it, or null if that is not known.
+  addressOf(turn) {
+    const at = turn.phase ? this.changeBefore(this.phases[turn.n], this.at) : 0;
+    if (!turn.phase) return turn.p;
+    return at > 0 && this.isTurn(at) && this.processor[at] === turn.n ? this.turnOf(at).p : turn.address;
   }
 
-  // The address of the instruction of a turn; in a block transfer of the one that began it, if that is known.
-  addressOf(moment) { return this.isBlock(moment) ? this.issuedAt(this.processor[moment], moment - 1) : this.p[moment]; }
-
-  // The next turn of a processor: its registers and its instruction.
-  next(n) { return turning.processor(this.numbers, n); }
+  // The address of the instruction of the turn of a moment.
+  addressAt(moment) { return this.atMoment(moment - 1, () => this.addressOf(this.next(this.processor[moment]))); }
 }
 
 // ---- lanes: the stretches of moments in which a processor or a channel is of one kind

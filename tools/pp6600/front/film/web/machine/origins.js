@@ -1,6 +1,6 @@
 // ---- where a number came from: the steps by which it came to be in its place, from the writes of the moments of a film
 
-import { four, isWord, layout, nameOf, octal, range, two } from "./places.js";
+import { four, isWord, layout, nameOf, octal, placeAt, range, two } from "./places.js";
 import { LINE, SKIP } from "./moments.js";
 import { placesOfSetting, wordsIn } from "./lines.js";
 import { placeIn } from "./written.js";
@@ -11,10 +11,8 @@ const MOST_STEPS = 32;
 const HAVE_AN_ORIGIN = ["M", "A", "P", "Q", "H", "C", "XP"];
 export const hasOrigin = (place) => place !== null && HAVE_AN_ORIGIN.includes(place.kind);
 
-// ---- steps
-
-// The latest write of a place in effect at a moment, and its moment: 0 if none, -1 if it may be in skipped turns. That of a line is the
-// number of its word, and that of the clock is null.
+// The latest write of a place in effect at a moment, and its moment: 0 if none, -1 if it may be in skipped turns. That of a line is
+// the number of its word, and that of the clock is null.
 function lastWrite(film, place, moment) {
   let at = film.resolve(moment);
   for (; at > 0; at = film.resolve(at - 1)) {
@@ -46,18 +44,20 @@ function sourcesOf({ place, isMoved, sources }, wanted) {
 const isTurnStep = (film, { moment, write }) => moment > 0 && film.isTurn(moment) && write !== null;
 export const isOfDevice = (film, step) => isTurnStep(film, step) && step.write.isOfDevice;
 
-// The write before it, if by the same instruction (in a block, of the same one), which computes the place from itself alone; or null.
+// The write before a step's, if by the same instruction (in a block, of the same one), which computes the place from itself alone;
+// or null.
 function isAgain(film, { moment, write }) {
   const isComputed = (step) => isTurnStep(film, step) && !step.write.isMoved && !step.write.isOfDevice;
-  const isOfItself = write && write.sources.length === 1 && write.sources[0].place === write.place;
-  if (!isOfItself || !isComputed({ moment, write }) || write.constant) return null;
-  const before = lastWrite(film, write.place, moment - 1), { processor, turned, p } = film;
-  if (!isComputed(before) || processor[before.moment] !== processor[moment] || turned[before.moment] !== turned[moment]) return null;
-  const hasBegun = () => film.changeBefore(film.phases[processor[moment]], moment - 1) > before.moment; // or ended a block transfer since
-  return (film.turnOf(moment).isBlock ? !hasBegun() : p[before.moment] === p[moment]) ? before : null;
+  const isOfItself = write.sources.length === 1 && write.sources[0].place === write.place && !write.constant;
+  const before = isOfItself && isComputed({ moment, write }) ? lastWrite(film, write.place, moment - 1) : null;
+  if (!before || !isComputed(before) || film.processor[before.moment] !== film.processor[moment]) return null;
+  const one = film.turnOf(moment), other = film.turnOf(before.moment), isBlock = one.phase > 0;
+  if (one.text !== other.text || isBlock !== other.phase > 0 || (!isBlock && one.p !== other.p)) return null;
+  const hasBegun = isBlock && film.changeBefore(film.phases[one.n], moment - 1) > before.moment; // another block, since
+  return hasBegun ? null : before;
 }
 
-// The step that wrote a place, with the steps of its sources, the latest first, up to so many.
+// The step that wrote a place, with the steps of its sources, the latest first, up to so many. The film goes along.
 function originOf(film, place, moment) {
   const known = new Map(), root = { place, parts: 0, ...lastWrite(film, place, moment) }, open = [root];
   const numberOfWrite = ({ write }) => write?.at ?? -1;
@@ -70,6 +70,7 @@ function originOf(film, place, moment) {
     known.set(key, link.step);
     if (!isTurnStep(film, link.step)) continue;
     count++;
+    film.goTo(link.moment);
     follow(film, link.step);
     open.push(...link.step.links);
   }
@@ -81,6 +82,7 @@ function follow(film, step) {
   for (let before = isAgain(film, step); before; before = isAgain(film, before)) {
     step.times++;
     step.earliest = before.moment;
+    film.goTo(before.moment);
   }
   const sources = isOfDevice(film, step) ? [] : sourcesOf(step.write, step.parts);
   step.links = sources.map((source) => ({ ...source, ...lastWrite(film, source.place, step.earliest - 1) }));
@@ -101,60 +103,59 @@ function sourceText({ place, parts }) {
 
 // The constant of a write, in words; or "".
 export function constantText(film, moment, { constant }) {
-  const { word, second } = film.turnOf(moment), d = two(word & 0o77), texts = { d, m: second, dm: d + second };
+  const { d, m } = film.turnOf(moment), texts = { d: two(d), m: four(m), dm: two(d) + four(m) };
   if (constant in texts) return `the constant ${texts[constant]}`;
   return { return: "the return address", "no word": "zero, past the last central word" }[constant] || constant;
 }
 
 // What wrote a step's number, in words.
-function causeText(film, sources, step) {
-  const { moment, write } = step, when = whenText(film, Math.max(0, moment));
+function causeText(film, step) {
+  const { moment, write } = step, when = whenText(film, Math.max(0, moment)), column = columnOf(film, step);
   if (moment < 0) return "written in turns that were not recorded, or never";
-  if (moment === 0) return `never written${film.changeBefore(film.momentsThatChanged([step.place]), film.at) ? ", it only went on" : ""}`;
+  const wentOn = () => film.changeBefore(film.momentsThatChanged([step.place]), film.at) > 0;
+  if (moment === 0) return `never written${wentOn() ? ", it only went on" : ""}`;
   if (film.kinds[moment] === LINE) return `${when}, ${lineCause(film, moment, write)}`;
   if (!write) return `${when}, the clock`;
-  const column = columnOf(film, step);
   if (column) return `${when}, the card reader, card ${four(column.card)} column ${octal(column.column, 3)}`;
   if (isOfDevice(film, step)) return `${when}, the status of the ${film.about.devices[step.place - layout.words]}`;
   const times = step.times > 1 ? `, ${octal(step.times)} times since ${whenText(film, step.earliest)}` : "";
   const names = [...step.links.map(sourceText), constantText(film, moment, write)].filter(Boolean).join(" and ");
   const verb = write.endsBlock ? "at its end, of " : !write.isMoved ? "of " : step.links.length ? "from " : "";
-  return `${when}, ${turnText(film, sources, moment)}${times}, ${verb}${names}`;
+  return `${when}, ${turnText(film, moment)}${times}, ${verb}${names}`;
 }
 
 // The line of the script that wrote a number, and the word in it.
 function lineCause(film, moment, word) {
-  const text = lineText(film, moment), isPanel = /^d/i.test(text), line = `line ${film.lineAt[moment] + 1}`;
-  if (isPanel) return `${line} (decimal) of the script: ${text}${word ? `, word ${word} (decimal) of the panel` : ""}`;
-  return `${line} word ${word} (decimal) of the script: ${text}`;
+  const text = lineText(film, moment), line = `line ${film.lineAt(moment) + 1}`;
+  if (!/^d/i.test(text)) return `${line} word ${word} (decimal) of the script: ${text}`;
+  return `${line} (decimal) of the script: ${text}${word ? `, word ${word} (decimal) of the panel` : ""}`;
 }
 
-function textOfStep(film, sources, step, isNew) {
-  const name = nameOf(step.place), number = film.atMoment(Math.max(0, step.moment), () => film.text(film.placeNamed(name)));
-  return `${name} ${number}: ${isNew ? causeText(film, sources, step) : `as above, ${whenText(film, step.moment)}`}`;
+function textOfStep(film, step, isNew) {
+  const place = placeAt(step.place), number = film.atMoment(Math.max(0, step.moment), () => film.text(place));
+  return `${place.name} ${number}: ${isNew ? causeText(film, step) : `as above, ${whenText(film, step.moment)}`}`;
 }
 
-// The lines of the origin of a place at the moment that is shown: each a step with its depth and its text, and what it is for. The source
-// at the same place goes on at the same depth. If the number is another one by now, as P that goes on, the first line has it too.
-export function originLines(film, sources, place) {
-  const at = place.places.at(-1), root = originOf(film, at, film.at), rows = []; // of 60 bits the lower half stands for the whole
+// The lines of the origin of a place at the moment that is shown: each a step with its depth and its text, and what it is for. The
+// source at the same place goes on at the same depth. If the number is another one by now, as P that goes on, the first line has it
+// too.
+export function originLines(film, place) {
+  const here = film.at, root = originOf(film, place.places.at(-1), here), rows = []; // the lower half stands for a whole word
+  film.goTo(here);
   const todo = [{ link: root, depth: 0, after: null }], seen = new Set();
   while (todo.length) {
     const { link, depth, after } = todo.pop(), { step = null } = link, isNew = step !== null && !seen.has(step);
-    const text = step ? textOfStep(film, sources, step, isNew) : `${nameOf(link.place)}: further back`;
+    const text = step ? textOfStep(film, step, isNew) : `${nameOf(link.place)}: further back`;
     const row = { step: step || link, depth, after, text, column: step && columnOf(film, step) };
     rows.push(row);
     if (!isNew) continue;
     seen.add(step);
     const same = step.links.length === 1 ? step.links : step.links.filter((one) => one.place === step.place).slice(-1);
     const others = step.links.filter((one) => !same.includes(one)).reverse();
-    todo.push(...[...same, ...others].map((one, number) => ({ link: one, depth: depth + (number < same.length ? 0 : 1), after: row })));
+    todo.push(...same.map((one) => ({ link: one, depth, after: row })));
+    todo.push(...others.map((one) => ({ link: one, depth: depth + 1, after: row })));
   }
-  rows[0].text += nowText(film, place, root.moment);
+  const now = film.text(place), then = root.moment < 0 ? now : film.atMoment(root.moment, () => film.text(place));
+  if (then !== now) rows[0].text += `; now ${now}`;
   return rows;
-}
-
-function nowText(film, place, moment) {
-  const now = film.text(place);
-  return moment >= 0 && film.atMoment(moment, () => film.text(place)) !== now ? `; now ${now}` : "";
 }

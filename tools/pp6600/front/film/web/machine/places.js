@@ -3,8 +3,8 @@
 export const PROCESSORS = 10, CHANNELS = 12, CLOCK = 12, CELLS = 4096, FRAME_WORDS = 16, WATCHES = 8, COLUMNS = 80;
 export const HALF = 30; // a number of 60 bits is kept in halves
 
-// The first place of each part; the clock is the last of the words. Behind the library's places come the upper halves of the numbers of 60
-// bits.
+// The first place of each part; the clock is the last of the words. Behind the library's places come the upper halves of the
+// numbers of 60 bits.
 export const layout = {
   cells: 0, A: 40960, P: 40970, Q: 40980, phase: 40990, states: 41000, words: 41012, clock: 41024, frame: 41025, reader: 41041,
   printer: 41044, paper: 41047, slot: 106583, watches: 106584, central: 106592,
@@ -22,8 +22,9 @@ export function setLayout(size) {
 export const REGISTERS = [layout.P, layout.A, layout.Q, layout.phase];
 export const register = (processor, index) => REGISTERS[index] + processor; // P, A, Q, phase
 
-const isFrame = (place) => place >= layout.frame && place < layout.reader;
-export const isWord = (place) => isFrame(place) || (place >= layout.central && place < layout.high); // whether its number has 60 bits
+export const isFrame = (place) => place >= layout.frame && place < layout.reader;
+export const isCentral = (place) => place >= layout.central && place < layout.high;
+export const isWord = (place) => isFrame(place) || isCentral(place); // whether its number has 60 bits
 export const isUpper = (place) => place >= layout.high && place < layout.end;
 export const upperOf = (place) => layout.high + (isFrame(place) ? place - layout.frame : FRAME_WORDS + place - layout.central);
 export const wordOfUpper = (place) => (place - layout.high < FRAME_WORDS ? layout.frame + place - layout.high
@@ -33,20 +34,24 @@ export const octal = (number, digits = 1) => number.toString(8).padStart(digits,
 export const two = (number) => octal(number, 2);
 export const four = (number) => octal(number, 4);
 
-// ---- the kinds of numbers with a name, by their first places: how many there are, how many digits they and indices have, and modes
+// ---- the kinds of numbers with a name, by their first places: how many there are, how many digits they and indices have, and
+// modes
 
 export const KINDS = Object.fromEntries([
   ["M", layout.cells, [PROCESSORS, CELLS], [2, 4], 4], ["A", layout.A, [PROCESSORS], [2], 6], ["P", layout.P, [PROCESSORS], [2], 4],
-  ["Q", layout.Q, [PROCESSORS], [2], 4], ["PHASE", layout.phase, [PROCESSORS], [2], 4], ["STATE", layout.states, [CHANNELS], [2], 1],
+  ["Q", layout.Q, [PROCESSORS], [2], 4], ["PHASE", layout.phase, [PROCESSORS], [2], 4],
+  ["STATE", layout.states, [CHANNELS], [2], 1],
   ["H", layout.words, [CHANNELS + 1], [2], 4], ["XP", layout.frame, [FRAME_WORDS], [2], 20],
-  ["CARD", layout.reader, [], [], 4], ["CARD-COLUMN", layout.reader + 1, [], [], 3], ["CARD-MODE", layout.reader + 2, [], [], 0, "reader"],
+  ["CARD", layout.reader, [], [], 4], ["CARD-COLUMN", layout.reader + 1, [], [], 3],
+  ["CARD-MODE", layout.reader + 2, [], [], 0, "reader"],
   ["SYMBOLS", layout.printer, [], [], 6], ["PAPER-COLUMN", layout.printer + 1, [], [], 3],
   ["PAPER-MODE", layout.printer + 2, [], [], 0, "printer"], ["SLOT", layout.slot, [], [], 2], ["C", layout.central, [], [6], 20],
 ].map(([kind, first, sizes, widths, digits, modes]) => [kind, { first, sizes, widths, digits, modes }]));
-export const SETTABLE = ["M", "A", "P", "Q", "C", "H"]; // what a SET takes, and what is watched, in the order of the watch entries' kinds
+export const SETTABLE = ["M", "A", "P", "Q", "C", "H"]; // what a SET takes; what is watched, in the order of the codes of watches
 
 // The place of a number by its kind and its indices.
-export const placeOf = (kind, ...indices) => indices.reduce((at, index, one) => at * KINDS[kind].sizes[one] + index, 0) + KINDS[kind].first;
+export const placeOf = (kind, ...indices) =>
+  KINDS[kind].first + indices.reduce((at, index, one) => at * KINDS[kind].sizes[one] + index, 0);
 const nameWith = (kind, indices) => [kind, ...indices.map((index, at) => octal(index, KINDS[kind].widths[at]))].join(" ");
 
 // The number that has a place, of 60 bits also that of its upper half; or null if it has no name.
@@ -73,8 +78,8 @@ const placesKnown = new Map(); // by the places of their numbers
 export function placeIn(text, labels) {
   const [first, ...words] = text.trim().split(/\s+/), kind = first.toUpperCase(), sizes = KINDS[kind] ? KINDS[kind].sizes : [];
   const numbers = words.map((word, at) => (at ? addressIn(word, labels[octalIn(words[0])]) : octalIn(word)));
-  const isRight = KINDS[kind] && words.length === sizes.length && numbers.every((number, at) => number !== null && number < sizes[at]);
-  return isRight ? placeWith(kind, ...numbers) : null;
+  const fits = (number, at) => number !== null && number < sizes[at];
+  return KINDS[kind] && words.length === sizes.length && numbers.every(fits) ? placeWith(kind, ...numbers) : null;
 }
 
 export const octalIn = (word) => (/^[0-7]+$/.test(word) ? parseInt(word, 8) : null);

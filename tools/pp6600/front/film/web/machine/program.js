@@ -8,8 +8,9 @@ const FROM_BEFORE = 8; // more cells before a window, so that its rows begin whe
 export function rowsFrom(film, n, first, count, heads) {
   const rows = [];
   for (let address = (first + CELLS) % CELLS; rows.length < count;) {
-    const second = (address + 1) % CELLS, hasTwo = film.about.two_words.includes(film.cell(n, address) >> 6) && !heads.includes(second);
-    rows.push({ address, words: (hasTwo ? [address, second] : [address]).map((at) => film.cell(n, at)) });
+    const word = film.cell(n, address), second = (address + 1) % CELLS;
+    const hasTwo = film.about.instructions[word >> 6].words === 2 && !heads.includes(second);
+    rows.push({ address, words: hasTwo ? [word, film.cell(n, second)] : [word] });
     address = (address + rows.at(-1).words.length) % CELLS;
   }
   return rows;
@@ -25,8 +26,6 @@ export function topWith(film, n, top, address, count, heads) {
 
 // Where other rows begin: at P, at the instruction of a block transfer, and where this goes on.
 export function headsOf(film, n) {
-  const { p, phase, word } = film.next(n);
-  if (!phase) return [p];
-  const back = (film.cell(n, 0) + 1) & 0o7777, issued = (film.cell(n, 0) - 1) & 0o7777;
-  return film.cell(n, issued) === word ? [p, issued, back] : [p, back];
+  const { p, phase, address, cell } = film.next(n);
+  return [p, ...(phase && address !== null ? [address] : []), ...(phase ? [(cell(0) + 1) & 0o7777] : [])];
 }

@@ -1,41 +1,38 @@
-// ---- the sources of processors: whose line a cell is, where the processor is, when each line was performed, and what has been overwritten
+// ---- the sources of processors: whose line a cell is, where the processor is, when each line was performed, and what has been
+// overwritten
 
 import { CELLS } from "./places.js";
 import { LINE, SKIP, WAITING } from "./moments.js";
 
-const NO_LINE = { number: 0, note: "" };
-const WHOLE = { text: "", address: null };
+const NO_LINE = { number: 0, note: "" }, WHOLE = { text: "", address: null };
 
-// The sources of a film by their processors.
-export function sourcesOf(film) {
-  return new Map(Object.entries(film.about.sources || {}).map(([n, { name, lines, words }]) => {
-    const one = { n: Number(n), name, begun: [], last: 0, ...indexOfWords(words) };
-    const wordsOf = (line) => (one.ofLine.get(line) || []).filter(({ isSecondWord }) => !isSecondWord);
-    one.lines = lines.map(([text, address], at) => ({ number: at + 1, text, address, words: wordsOf(at + 1), loadedAt: -1, times: [] }));
-    return [one.n, one];
+// The sources of a film by their processors, of what it knows of them: a name, lines, and rows of the listing that have words, each
+// with the number of its line, where it runs, where it was loaded, and its words.
+export function sourcesOf({ sources = {}, instructions }) {
+  return new Map(Object.entries(sources).map(([n, { name, lines, rows }]) => {
+    const words = rows.flatMap((row) => wordsOfRow(row, instructions)), ofLine = grouped(words, "line");
+    const wordsOf = (line) => ofLine.get(line) || [], isOwn = ({ isSecondWord }) => !isSecondWord;
+    const lineOf = (text, at) => ({ number: at + 1, text, address: wordsOf(at + 1)[0]?.location, loadedAt: -1, times: [],
+      words: wordsOf(at + 1).filter(isOwn) });
+    const places = { ofLine, atLocation: grouped(words, "location"), atOrigin: new Map(words.map((word) => [word.origin, word])) };
+    return [Number(n), { n: Number(n), name, begun: [], waitsAt: -1, lines: lines.map(lineOf), ...places }];
   }));
 }
 
-// The text of the source of a processor, as it is loaded in a film; null if it has none.
-export function sourceText({ about: { sources = {} } }, n) { return sources[n] ? sources[n].lines.map(([line]) => line).join("\n") : null; }
-
-// The tables of a source from its words, each with its line, location, origin, number in the line, itself, and second word or null.
-function indexOfWords(words) {
-  const made = { atLocation: new Map(), atOrigin: new Map(), ofLine: new Map() };
-  const add = (map, key, word) => map.set(key, [...(map.get(key) || []), word]);
-  let before = null;
-  for (const [line, location, origin, at, word, second] of words) {
-    const one = { line, at, word, second, location: (location + at) % CELLS, origin: (origin + at) % CELLS };
-    one.isSecondWord = Boolean(before && before.line === line && before.second !== null && !before.isSecondWord && at === before.at + 1);
-    add(made.ofLine, line, one);
-    add(made.atLocation, one.location, one);
-    made.atOrigin.set(one.origin, one);
-    before = one;
-  }
-  return made;
+// The words of a row. Of an instruction with two words the first one has the second, of others null.
+function wordsOfRow([line, location, origin, ...words], instructions) {
+  const hasTwo = words.length === 2 && instructions[words[0] >> 6].words === 2;
+  return words.map((word, at) => ({ line, at, word, second: hasTwo && at === 0 ? words[1] : null, isSecondWord: hasTwo && at === 1,
+    location: (location + at) % CELLS, origin: (origin + at) % CELLS }));
 }
 
-// ---- where a processor is
+function grouped(words, key) {
+  const groups = new Map();
+  for (const word of words) groups.set(word[key], [...(groups.get(word[key]) || []), word]);
+  return groups;
+}
+
+export const textOfSource = (source) => source.lines.map(({ text }) => text).join("\n");
 
 // The word of a source that is in a cell, or was before it was overwritten; or null. First come those whose location it is.
 function wordIn({ atOrigin, atLocation }, address, cell) {
@@ -45,29 +42,19 @@ function wordIn({ atOrigin, atLocation }, address, cell) {
   return best ? { ...best, isThere: true } : loaded ? { ...loaded, isThere: false } : null;
 }
 
-// The line at an address of a processor, and if it does not perform its instruction, why not.
-function lineAt(source, address, cell) {
-  const found = source && address !== null ? wordIn(source, address, cell) : null;
+// The line of the next turn of a processor, and if it does not perform its instruction, why not; in a block transfer the line that
+// began it.
+export function lineOfNext(film, source, turn = film.next(source.n)) {
+  const address = film.addressOf(turn), cell = (at) => (at === address ? turn.word : turn.cell(at));
+  const found = address === null ? null : wordIn(source, address, cell);
   return found ? { number: found.line, note: !found.isThere ? "was" : found.at ? `word ${found.at + 1}` : "" } : NO_LINE;
 }
 
-// The line of a processor's next turn; in a block transfer that which began it.
-export function lineOfNext(film, source) {
-  const { n } = source, { phase, p, word } = film.next(n), back = (film.cell(n, 0) - 1) & 0o7777;
-  const address = !phase ? p : film.cell(n, back) === word ? back : film.issuedAt(n, film.at);
-  return lineAt(source, address, (at) => film.cell(n, at));
+// The line that a turn performed.
+export function lineOfMoment(film, moment) {
+  const source = film.isTurn(moment) && film.sources.get(film.processor[moment]);
+  return source ? film.atMoment(moment - 1, () => lineOfNext(film, source)) : NO_LINE;
 }
-
-// The line that a turn performed; its words are those of its instruction.
-export function lineOfMoment(film, sources, moment) {
-  const source = film.isTurn(moment) && sources.get(film.processor[moment]);
-  if (!source) return NO_LINE;
-  const { word, second, isBlock } = film.turnOf(moment), p = isBlock ? film.addressOf(moment) : film.p[moment];
-  const other = (at) => (isBlock ? source.atOrigin.get(at)?.word ?? -1 : second === "" ? -1 : parseInt(second, 8));
-  return lineAt(source, p, (at) => (at === p ? word : other(at)));
-}
-
-// ---- what has been overwritten
 
 // What is said of the words of a line at the moment that is shown: a text, and the address of the cell that has another word.
 export function markOf(film, source, words) {
@@ -92,9 +79,9 @@ function markOfWord(film, source, word) {
 export const isLoaded = (film, { loadedAt }) => loadedAt >= 0 && film.resolve(film.at) >= loadedAt;
 
 // The line whose word a moment has overwritten in a cell that had it; or null.
-export function lineLost(film, sources, moment) {
-  for (const { place } of sources.size ? film.changesOf(moment) : []) {
-    const source = place.kind === "M" && sources.get(place.numbers[0]), word = source && source.atOrigin.get(place.numbers[1]);
+export function lineLost(film, moment) {
+  for (const { place } of film.sources.size ? film.changesOf(moment) : []) {
+    const source = place.kind === "M" && film.sources.get(place.numbers[0]), word = source && source.atOrigin.get(place.numbers[1]);
     if (!word || film.numberIn(moment, place.places[0], film.was) !== word.word) continue;
     const line = source.lines[word.line - 1];
     if (isLoaded(film, line)) return { source, line };
@@ -104,35 +91,34 @@ export function lineLost(film, sources, moment) {
 
 // ---- what has come: from which moment on each line is loaded, and when it was begun
 
-export function growSources(film, sources, first) {
-  noteLoaded(film, sources, first);
-  for (const one of sources.values()) noteTimes(film, sources, one, Math.max(first, 1));
-}
-
-// A line of the script loads a source.
-function noteLoaded(film, sources, first) {
-  const isOpen = ([, line]) => line.words.length > 0 && line.loadedAt < 0;
-  let open = [...sources.values()].flatMap((one) => one.lines.map((line) => [one, line])).filter(isOpen);
-  const note = (moment) => {
-    film.goTo(moment);
-    for (const [one, line] of open) if (markOf(film, one, line.words) === WHOLE) line.loadedAt = moment;
-    open = open.filter(isOpen);
-  };
+export function growSources(film, first) {
   film.atMoment(film.at, () => {
-    for (let moment = first; moment < film.count && open.length; moment++) {
-      if (film.kinds[moment] === LINE || film.kinds[moment] === SKIP) note(moment);
+    for (const source of film.sources.values()) noteLoaded(film, source, first);
+    for (let moment = Math.max(first, 1); film.sources.size && moment < film.count; moment++) {
+      const source = film.isTurn(moment) && film.sources.get(film.processor[moment]);
+      if (source) noteTime(film, source, moment);
     }
   });
 }
 
-// A line that waits, or that is in its block, only goes on.
-function noteTimes(film, sources, one, first) {
-  for (let moment = first; moment < film.count; moment++) {
-    if (!film.isTurn(moment) || film.processor[moment] !== one.n) continue;
-    const waited = film.kinds[one.last] === WAITING && film.p[one.last] === film.p[moment];
-    one.last = moment;
-    if (waited || film.isBlock(moment)) continue;
-    const { number, note } = lineOfMoment(film, sources, moment);
-    if (number && !note) for (const moments of [one.begun, one.lines[number - 1].times]) moments.push(moment);
+// A line of the script loads a source.
+function noteLoaded(film, source, first) {
+  const isOpen = ({ words, loadedAt }) => words.length > 0 && loadedAt < 0;
+  let open = source.lines.filter(isOpen);
+  for (let moment = first; moment < film.count && open.length; moment++) {
+    if (film.kinds[moment] !== LINE && film.kinds[moment] !== SKIP) continue;
+    film.goTo(moment);
+    for (const line of open) if (markOf(film, source, line.words) === WHOLE) line.loadedAt = moment;
+    open = open.filter(isOpen);
   }
+}
+
+// Notes which line a turn begins. One that waits, or that is in its block, only goes on.
+function noteTime(film, source, moment) {
+  film.goTo(moment - 1);
+  const turn = film.next(source.n), hasWaited = source.waitsAt === turn.p;
+  source.waitsAt = film.kinds[moment] === WAITING ? turn.p : -1;
+  if (hasWaited || turn.phase) return;
+  const { number, note } = lineOfNext(film, source, turn);
+  if (number && !note) for (const moments of [source.begun, source.lines[number - 1].times]) moments.push(moment);
 }

@@ -1,4 +1,5 @@
-// ---- what is chosen and what is seen of it: a number, the windows of memory and of the run. Each function returns a change of the state
+// ---- what is chosen and what is seen of it: a number, the windows of memory and of the run. Each function returns a change of the
+// state
 
 import { CELLS, KINDS, layout, placeWith } from "../machine/places.js";
 import { isQuiet } from "../machine/film.js";
@@ -8,13 +9,15 @@ const CENTRAL_ROWS = 8;
 export const rowsOf = ({ room }) => room.memoryRows || 16;
 
 // How memory is shown: as it was chosen, else as numbers, but for a class that sees no source as instructions.
-export const formOf = ({ memory, look, sources }) => memory.as || (look === "projector" && !sources.size ? "instructions" : "numbers");
+export const formOf = ({ memory, look, film: { sources } }) =>
+  memory.as || (look === "projector" && !sources.size ? "instructions" : "numbers");
 
-// The processor that memory follows: that of the latest turn that did more than pass, of those that do not only wait; or one that a line
-// has set.
+// The processor that memory follows: that of the latest turn that did more than pass, of those that do not only wait; or one that a
+// line has set.
 function followed({ film }, before) {
   const turns = film.processorLanes.map((lane, n) => [isQuiet(lane) ? 0 : film.changeBefore(lane.active, film.at), n]);
-  const [latest, n] = turns.reduce((one, other) => (other[0] > one[0] ? other : one)), line = film.changeBefore(film.settings, film.at);
+  const [latest, n] = turns.reduce((one, other) => (other[0] > one[0] ? other : one));
+  const line = film.changeBefore(film.settings, film.at);
   if (line > latest) return film.processorSet(line);
   return latest > 0 ? n : film.count > 1 ? before : 0;
 }
@@ -29,7 +32,8 @@ function windowWith(state, n, address) {
 function addressSeen(state, n) {
   const { film, memory, chosen } = state;
   if (!memory.follows && chosen && chosen.kind === "M") return chosen.numbers[1];
-  const changed = formOf(state) === "numbers" && film.changesOf(film.at).find(({ place }) => place.kind === "M" && place.numbers[0] === n);
+  const isOwn = ({ place: { kind, numbers } }) => kind === "M" && numbers[0] === n;
+  const changed = formOf(state) === "numbers" && film.changesOf(film.at).find(isOwn);
   return changed ? changed.place.numbers[1] : film.number("P", n);
 }
 
@@ -43,6 +47,12 @@ export function viewAt(state) {
   return { memory: next, span: spanAt(state) };
 }
 
+// What is chosen, or how memory is shown, with the windows that go with it.
+function seen(state, change, memory) {
+  const sourceOf = state.film.sources.has(memory.n) ? memory.n : state.sourceOf;
+  return { ...change, sourceOf, ...viewAt({ ...state, ...change, memory: { ...state.memory, isHeld: false, ...memory } }) };
+}
+
 // The part of the run that is shown. The whole run has room at its end, so that its scale stays a while.
 function spanAt({ film, zoom, span }) {
   const step = 1 << Math.max(0, 25 - Math.clz32(film.count)), whole = Math.max(8, Math.ceil(film.count / step) * step);
@@ -53,38 +63,22 @@ function spanAt({ film, zoom, span }) {
 }
 
 // The source that is seen: that of the processor that was chosen last, of those that have one, else the first.
-export const sourceSeen = ({ sources, sourceOf }) => sources.get(sourceOf) || sources.values().next().value;
-const sourceWith = ({ sources, sourceOf }, n) => ({ sourceOf: sources.has(n) ? n : sourceOf });
-
-// ---- a number
+export const sourceSeen = ({ film: { sources }, sourceOf }) => sources.get(sourceOf) || sources.values().next().value;
 
 export function choose(state, place) {
-  const changes = place ? state.film.momentsThatChanged(place.places) : [],
-    chosen = { chosen: place, changes, origin: null, setting: null, wrong: {} };
-  if (place && place.kind === "M") return { ...chosen, ...windowOn({ ...state, ...chosen }, place) };
+  const changes = place ? state.film.momentsThatChanged(place.places) : [];
+  const chosen = { chosen: place, changes, origin: null, setting: null, wrong: {} }, [first] = place ? place.numbers : [];
+  const isCell = place && place.kind === "M";
+  if (isCell) return seen(state, chosen, { n: first, follows: false, first: windowWith(state, ...place.numbers) });
   if (!place || place.kind !== "C") return chosen;
-  const [address] = place.numbers, { first } = state.central, isIn = address >= first && address < first + CENTRAL_ROWS;
-  return { ...chosen, central: { first: isIn ? first : Math.max(0, Math.min(address, layout.size - CENTRAL_ROWS)) } };
+  const isIn = first >= state.central.first && first < state.central.first + CENTRAL_ROWS;
+  return { ...chosen, central: isIn ? state.central : { first: Math.max(0, Math.min(first, layout.size - CENTRAL_ROWS)) } };
 }
 
-// The window of memory at a cell; it does not follow the turns.
-function windowOn(state, { numbers: [n] }) {
-  const memory = { ...state.memory, follows: false, isHeld: false, n, first: windowWith(state, ...state.chosen.numbers) };
-  return { ...viewAt({ ...state, memory }), ...sourceWith(state, n) };
-}
-
-export const follow = (state) => viewAt({ ...state, memory: { ...state.memory, follows: true, isHeld: false } });
-export function chooseNone(state) {
-  const none = { chosen: null, changes: [], origin: null, setting: null };
-  return { ...none, ...follow({ ...state, ...none }) };
-}
-
-export function chooseProcessor(state, n) {
-  const memory = { ...state.memory, n, follows: false, isHeld: false };
-  return { ...viewAt({ ...state, chosen: null, memory }), ...sourceWith(state, n) };
-}
-
-export const showAs = (state, as) => viewAt({ ...state, memory: { ...state.memory, as, isHeld: false } });
+export const follow = (state, change = {}) => seen(state, change, { follows: true });
+export const chooseNone = (state) => follow(state, { chosen: null, changes: [], origin: null, setting: null });
+export const chooseProcessor = (state, n) => seen({ ...state, chosen: null }, {}, { n, follows: false });
+export const showAs = (state, as) => seen(state, {}, { as });
 
 // Memory from another row on, as a wheel asks for it.
 export function scrolled(state, rows) {
@@ -102,8 +96,8 @@ export function placeBeside(state, right, down) {
   return placeWith(kind, ...numbers.slice(0, -1), (numbers.at(-1) + right + far * down + size) % size);
 }
 
-// The changes around the moment that is shown: the latest; that to which "change before" goes, at the moment of a change the one before it;
-// the next, which may be the first at all; and the line that goes back before there is one.
+// The changes around the moment that is shown: the latest; that to which "change before" goes, at the moment of a change the one
+// before it; the next, which may be the first at all; and the line that goes back before there is one.
 export function changesAround({ film, changes }) {
   const last = film.changeBefore(changes, film.at), { next, cut } = film.changeAfter(changes, film.at);
   const previous = last > 0 && last === film.at ? film.changeBefore(changes, film.at - 1) : last;

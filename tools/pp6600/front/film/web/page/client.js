@@ -3,12 +3,12 @@
 import { STOP, message, wordsOf } from "../engine/protocol.js";
 
 const LONGEST_SILENCE = 20000; // milliseconds after which the page says that the worker does not answer
+const SILENT = "the simulator does not answer: wait, or open this page in another browser";
 
 export class Client {
-  // `hears` has grown(moments) of what came with a reply, moments(words) and working() of news, busy(is), silent(), fault(text), and
-  // isHeld(), which says whether the film is to stay as it is for a while. `engine` is the worker's script.
+  // `hears` has grown(moments) of what came with a reply, moments(words) and working() of news, busy(is), fault(text), and the
+  // state, which says whether a pointer is down: as long as it is, the film stays as it is. `engine` is the worker's script.
   constructor(hears, engine) {
-    if (!window.Worker) throw new Error("this browser has no workers");
     Object.assign(this, { hears, waiting: new Map(), latest: 0, chain: Promise.resolve() });
     this.worker = new Worker(URL.createObjectURL(new Blob([engine], { type: "text/javascript" })));
     this.worker.onmessage = ({ data }) => this.received(data);
@@ -28,13 +28,19 @@ export class Client {
 
   listen() {
     clearTimeout(this.timer);
-    this.timer = this.isBusy ? setTimeout(() => this.hears.silent(), LONGEST_SILENCE) : 0;
+    this.timer = this.isBusy ? setTimeout(() => this.isSilent(), LONGEST_SILENCE) : 0;
+  }
+
+  isSilent() {
+    const box = document.querySelector(".opening");
+    if (box) box.textContent = `${SILENT[0].toUpperCase()}${SILENT.slice(1)}.`;
+    else this.hears.fault(SILENT);
   }
 
   // While a pointer drags, the film does not change: another moment would be under the hand.
   received(data) {
     this.chain = this.chain.then(async () => {
-      while (this.hears.isHeld()) await new Promise((done) => setTimeout(done, 50));
+      while (this.hears.state.isDown) await new Promise((done) => setTimeout(done, 50));
       this.take(data);
       this.listen();
     });

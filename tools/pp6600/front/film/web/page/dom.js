@@ -3,29 +3,18 @@
 const SVG = "http://www.w3.org/2000/svg", PROPERTIES = new Set(["value", "checked", "disabled", "hidden", "scrollTop"]);
 const waiting = []; // what reads the page's layout, when all is written
 
-const kinds = new Map(); // of each selector its kind, and its classes as properties
-
-function kindOf(selector) {
-  const [kind, ...names] = selector.split(".");
-  if (!kinds.has(selector)) kinds.set(selector, { kind, own: names.length ? { class: names.join(" ") } : {} });
-  return kinds.get(selector);
-}
-
 // Describes an element by its kind with its classes, as p.soft, then its properties if it has others, and its parts. These are
 // descriptions, texts, or lists of them; null, false and "" are left out.
 export function h(selector, ...parts) {
-  const { kind, own } = kinds.get(selector) || kindOf(selector), hasProps = isProps(parts[0]), more = hasProps ? parts.shift() : null;
-  const props = more && own.class ? { ...own, ...more } : more || own;
-  return { kind, props, parts: parts.length > 1 || Array.isArray(parts[0]) ? flat(parts) : parts.filter(isPart) };
+  const [kind, ...names] = selector.split("."), [first] = parts;
+  const own = typeof first === "object" && first !== null && !Array.isArray(first) && !first.kind ? parts.shift() : {};
+  return { kind, props: names.length ? { class: names.join(" "), ...own } : own, parts: flat(parts) };
 }
-
-const isProps = (one) => typeof one === "object" && one !== null && !Array.isArray(one) && !one.kind;
-const isPart = (part) => part !== null && part !== undefined && part !== false && part !== "";
 
 function flat(parts, into = []) {
   for (const part of parts) {
     if (Array.isArray(part)) flat(part, into);
-    else if (isPart(part)) into.push(part);
+    else if (part !== null && part !== undefined && part !== false && part !== "") into.push(part);
   }
   return into;
 }
@@ -40,7 +29,8 @@ function patch(element, parts) {
   let node = element.firstChild;
   for (const part of parts) {
     if (!node || (node.localName || "") !== (part.kind || "")) node = element.insertBefore(made(element, part), node);
-    if (!part.kind) { if (node.data !== String(part)) node.data = part; } else if (node.described !== part) update(node, part);
+    if (part.kind && node.described !== part) update(node, part);
+    else if (!part.kind && node.data !== String(part)) node.data = part;
     node = node.nextSibling;
   }
   while (node) {
@@ -50,10 +40,8 @@ function patch(element, parts) {
   }
 }
 
-function made(parent, { kind }) {
-  if (!kind) return document.createTextNode("");
-  return document.createElementNS(kind === "svg" ? SVG : parent.namespaceURI, kind);
-}
+const made = (parent, { kind }) => (!kind ? document.createTextNode("")
+  : document.createElementNS(kind === "svg" ? SVG : parent.namespaceURI, kind));
 
 function update(element, description) {
   const before = element.described ? element.described.props : {}, { props, parts } = description;
@@ -64,27 +52,21 @@ function update(element, description) {
 }
 
 function set(element, name, value) {
+  const isTyped = name === "value" && document.activeElement === element; // what a hand types in a field that has the focus stays
   if (name === "seen") { if (value) waiting.push(() => see(element)); } // another key: the element is to be seen in its box
   else if (name === "html") element.innerHTML = value; // of a picture, which a device of the file has drawn
-  else if (PROPERTIES.has(name)) setProperty(element, name, value);
+  else if (PROPERTIES.has(name)) { if (!isTyped) element[name] = value ?? ""; }
   else if (value === null || value === undefined || value === false) element.removeAttribute(name);
   else element.setAttribute(name, value === true ? "" : value);
-}
-
-// What a hand types in a field that has the focus stays.
-function setProperty(element, name, value) {
-  if (name === "value" && document.activeElement === element) return;
-  element[name] = value ?? "";
 }
 
 // Scrolls the box of an element, and no other, so that it is in the middle third if it was not seen.
 function see(element) {
   const box = element.closest("[data-box]");
   if (!box) return;
-  const { scrollTop, clientHeight } = box, top = element.getBoundingClientRect().top - box.getBoundingClientRect().top + scrollTop,
-    end = top + element.offsetHeight;
-  if (top < scrollTop + 4 || (end > scrollTop + clientHeight - 4
-    && top > scrollTop + clientHeight / 3)) box.scrollTop = top - clientHeight / 3;
+  const { scrollTop, clientHeight } = box, place = element.getBoundingClientRect().top - box.getBoundingClientRect().top;
+  const isBelow = place + element.offsetHeight > clientHeight - 4 && place > clientHeight / 3;
+  if (place < 4 || isBelow) box.scrollTop = scrollTop + place - clientHeight / 3;
 }
 
 export const classes = (all) => Object.keys(all).filter((name) => all[name]).join(" ");
@@ -93,10 +75,7 @@ export const classes = (all) => Object.keys(all).filter((name) => all[name]).joi
 export function keeper() {
   const kept = new WeakMap();
   return (object, key, describe) => {
-    const old = kept.get(object);
-    if (old && old.key === key) return old.part;
-    const part = describe();
-    kept.set(object, { key, part });
-    return part;
+    if (kept.get(object)?.key !== key) kept.set(object, { key, part: describe() });
+    return kept.get(object).part;
   };
 }

@@ -1,37 +1,32 @@
 // ---- the editor of a source: what is typed is assembled and kept, and loaded by lines of the script
 
 import { ofLines } from "../machine/lines.js";
-import { growSources, sourceText, sourcesOf } from "../machine/sources.js";
+import { growSources, sourcesOf, textOfSource } from "../machine/sources.js";
 import { chooseProcessor } from "./choice.js";
 import { NEW_SOURCE, sourceOf } from "./assembling.js";
 import { keep, kept } from "./kept.js";
-import { NOTE, NO_ROOM } from "./session.js";
+import { NOTE } from "./session.js";
 import { Part } from "./store.js";
 
 export class Editor extends Part {
   nameOf(n) { return `draft ${this.state.exercise || "run"} ${n}`; }
-  assembled(text) { return { text, ...this.assembling.assembled(text), texts: [...this.assembling.texts.keys()] }; }
+  sourceOf(n) { return this.film.sources.has(n) ? textOfSource(this.film.sources.get(n)) : null; }
+
+  // Shows a text, with what the assembler makes of it.
+  show(n, text) {
+    this.update({ editor: { n, text, ...this.assembling.assembled(text), texts: [...this.assembling.texts.keys()] } });
+  }
 
   edit(text) {
-    const { editor, drafts } = this.state;
-    drafts.set(this.nameOf(editor.n), text);
-    this.update({ editor: { ...editor, ...this.assembled(text) } });
-    this.keepSoon();
+    const { n } = this.state.editor;
+    this.show(n, text);
+    this.keepOr(keep(this.nameOf(n), text));
   }
-
-  keepNow() {
-    const name = this.nameOf(this.state.editor.n), text = this.state.drafts.get(name);
-    clearTimeout(this.timer);
-    if (text !== undefined && !keep(name, text)) this.say(NO_ROOM, true);
-  }
-
-  sourceOf(n) { return sourceText(this.state.film, n); }
 
   // Opens the source of a processor: what was typed last, or that of the film, or a new one.
   open(n) {
-    const own = this.sourceOf(n), name = this.nameOf(n), draft = this.state.drafts.get(name) ?? kept(name);
-    const text = draft ?? (own === null ? NEW_SOURCE : `${own}\n`);
-    this.update({ editor: { n, ...this.assembled(text) } });
+    const own = this.sourceOf(n);
+    this.show(n, kept(this.nameOf(n)) ?? (own === null ? NEW_SOURCE : `${own}\n`));
   }
 
   // The texts of a system, and common decks: their names and macros are known to what is assembled.
@@ -40,38 +35,38 @@ export class Editor extends Part {
     const { texts } = this.assembling, { editor } = this.state;
     if (text === null) texts.delete(name);
     else texts.set(name, text);
-    if (!keep("texts", [...texts])) this.say(NO_ROOM, true);
-    this.update({ editor: { ...editor, ...this.assembled(editor.text) } });
+    this.show(editor.n, editor.text);
+    this.keepOr(keep("texts", [...texts]));
   }
 
   // Loads what was typed by lines of the script; from then on it is the source of the processor.
   async load() {
     const { editor: { n, text, rows } } = this.state, { session } = this;
     if (!rows.length || !(await session.act(this.assembling.loadLines(text, n)))) return;
-    const { film } = this, made = this.loaded(film, n, text, rows);
+    const { film } = this, made = this.loaded(n, text, rows);
     Object.assign(film.about, made);
-    Object.assign(film, { labels: made.labels });
+    Object.assign(film, { labels: made.labels, sources: sourcesOf(film.about) });
     session.given = { ...session.given, ...made };
-    const sources = sourcesOf(film);
-    growSources(film, sources, 0);
-    this.update({ sources, ...chooseProcessor(this.state, n) });
+    growSources(film, 0);
+    this.update(chooseProcessor(this.state, n));
     session.keepSoon();
   }
 
   // Loads what was typed in the place of the source before, and performs the script again, in a session beside the one there is.
   async loadAndRun() {
-    const { editor: { n, text, rows }, film } = this.state, { session } = this, lines = session.typedLines(), old = this.sourceOf(n);
+    const { editor: { n, text, rows } } = this.state, { session, assembling } = this, lines = session.typedLines();
+    const old = this.sourceOf(n);
     if (!rows.length) return;
-    const before = old === null ? [] : this.assembling.loadLines(old, n), at = placeOfLines(lines, before);
+    const before = old === null ? [] : assembling.loadLines(old, n), at = placeOfLines(lines, before);
     const begin = at < 0 ? lines.filter((line) => NOTE.test(line)).length : at, end = begin + (at < 0 ? 0 : before.length);
-    const script = ofLines([...lines.slice(0, begin), ...this.assembling.loadLines(text, n), ...lines.slice(end)]);
-    const { sources, labels } = this.loaded(film, n, text, rows);
-    if (await session.beginBeside(`${sources[n].name} again`, { ...session.given, script, sources, labels, wanted: [] })) this.open(n);
+    const script = ofLines([...lines.slice(0, begin), ...assembling.loadLines(text, n), ...lines.slice(end)]);
+    const made = this.loaded(n, text, rows);
+    if (await session.beginBeside(`${made.sources[n].name} again`, { ...session.given, script, ...made })) this.open(n);
   }
 
-  // The sources and labels of a film with a source in the place of that of a processor.
-  loaded({ about, labels }, n, text, rows) {
-    const source = sourceOf(about.sources?.[n]?.name || "typed", text, rows, about.two_words);
+  // The sources and labels of the film with a source in the place of that of a processor.
+  loaded(n, text, rows) {
+    const { about, labels } = this.film, source = sourceOf(about.sources?.[n]?.name || "typed", text, rows);
     return { sources: { ...about.sources, [n]: source }, labels: { ...labels, [n]: this.assembling.labelsOf(text, rows) } };
   }
 }

@@ -3,28 +3,31 @@
 import { ofLines } from "../machine/lines.js";
 import { four } from "../machine/places.js";
 import { panelIn } from "./files.js";
-import { sessionToGoOn } from "./kept.js";
+import { keep, sessionToGoOn } from "./kept.js";
 import { Part } from "./store.js";
-import { branchNow, newTree } from "./tree.js";
+import { newTree } from "./tree.js";
 
 const noteIn = (script, kind) => (new RegExp(`^\\* ${kind} (.*?)\\s*$`, "m").exec(script) || [])[1];
 
 export class Exercises extends Part {
   named(name) { return this.state.exercises.find((one) => one.name === name); }
 
-  // The session with which an exercise begins. Its first line is a note that names it, and a second one has the panel.
-  beginning({ name, files, options }, panel = files.panel) {
-    const words = files.panel ? panelIn(panel) : null, note = words ? [`* PANEL ${words.map(four).join(" ")}`] : [];
-    const script = ofLines([`* EXERCISE ${name}`, ...note]) + files.script;
+  // The session of an exercise with a script: the deck and the options are those of the exercise.
+  given({ name, files, options }, script, panel) {
     return { script, deck: files.deck, panel, options, exercise: name, sources: {}, labels: {} };
   }
 
-  // The files of a run whose script begins an exercise: the deck and the options are those of the exercise.
+  // The session with which an exercise begins. Its first line is a note that names it, and a second one has the panel.
+  beginning(one, panel = one.files.panel) {
+    const words = one.files.panel ? panelIn(panel) : null, note = words ? [`* PANEL ${words.map(four).join(" ")}`] : [];
+    return this.given(one, ofLines([`* EXERCISE ${one.name}`, ...note]) + one.files.script, panel);
+  }
+
+  // The files of a run; if its script begins an exercise, in a session of that.
   withExercise(given) {
     const one = this.named(noteIn(given.script, "EXERCISE"));
     if (!one) return { ...given, exercise: null };
-    const { files, options, name } = one, panel = noteIn(given.script, "PANEL") || given.panel || files.panel;
-    return { ...given, deck: files.deck, panel, options, exercise: name, sources: {}, labels: {} };
+    return this.given(one, given.script, noteIn(given.script, "PANEL") || given.panel || one.files.panel);
   }
 
   // Goes to the session of an exercise: as it was left, or to its beginning.
@@ -32,12 +35,11 @@ export class Exercises extends Part {
     const { session } = this;
     return session.inTurn(async () => {
       session.keepNow();
-      this.editor.keepNow();
-      const old = await sessionToGoOn(name), now = old && branchNow(old.tree).session;
+      const old = await sessionToGoOn(name);
       this.update({ chosen: null, changes: [] });
-      const opened = now ? [now, old.tree, { moment: now.moment, isTrusted: true }] : [this.beginning(this.named(name)), newTree(name)];
-      const reply = await session.open(...opened);
+      const reply = await session.open(old ? old.tree : newTree(this.beginning(this.named(name)), name), { isNew: !old });
       if (reply.isFault) return;
+      session.isChanged = false;
       this.update({ offer: null, panelText: session.given.panel || "" });
       this.editor.open(0);
     });
@@ -63,18 +65,18 @@ export class Exercises extends Part {
   async check() {
     const { film, exercise, solved } = this.state, { files, check, expected, isHidden } = this.named(exercise) || {};
     if (!files) return this.say("choose an exercise first", true);
-    const makesTurns = /^\s*STEP\b/im.test(files.script), isPart = (part) =>
-      (typeof part === "number" ? makesTurns : /^\s*(SET|DEADSTART)\b/i.test(part));
-    const turn = film.turn[film.at], parts = film.partsInEffect(film.at).filter(isPart);
-    const { answer, said } = await this.session.look(check, parts);
+    const makesTurns = /^\s*STEP\b/im.test(files.script), turn = film.turn[film.at];
+    const isPart = (part) => (typeof part === "number" ? makesTurns : /^\s*(SET|DEADSTART)\b/i.test(part));
+    const { answer, said } = await this.session.look(check, film.partsInEffect().filter(isPart));
     if (!answer) return this.say(said, true);
     const wrong = differences(expected.split("\n").slice(0, -1), answer, isHidden);
     this.update({ checked: { wrong, turn }, solved: wrong.length ? solved : { ...solved, [exercise]: true } });
-    return this.session.keepNow();
+    return this.keepOr(keep("solved", this.state.solved));
   }
 }
 
-// What is expected at the end of an answer and is not there. If the answer has another number of lines, the two may begin together instead.
+// What is expected at the end of an answer and is not there. If the answer has another number of lines, the two may begin together
+// instead.
 function differences(wanted, answer, isHidden) {
   const from = (first) => wanted.flatMap((line, at) =>
     (line === answer[first + at] ? [] : [{ wanted: isHidden ? "another line" : line, found: answer[first + at] ?? "" }]));

@@ -1,10 +1,14 @@
-// ---- files and links: the page with a session in it, the script alone, and the part of an address after #; first.js unpacks
+// ---- files and links: the page or the script as a file, the part of an address after #, and files that are dropped; first.js
+// unpacks
 
-import { CELLS, octalIn } from "../machine/places.js";
+import { CELLS, octal, octalIn } from "../machine/places.js";
 import { bytesOfText } from "../machine/lines.js";
+import { keptForFile } from "./kept.js";
+import { Part } from "./store.js";
 
+const KINDS = ["script", "deck", "panel"];
 const LONGEST_LINK = 8000, MOST_ODD = 0.02; // letters; the part of the bytes of a text that may be no text
-export const textOfBytes = (bytes) => new TextDecoder("latin1").decode(bytes);
+const textOfBytes = (bytes) => new TextDecoder("latin1").decode(bytes);
 
 async function deflated(bytes, format) {
   const stream = new Blob([bytes]).stream().pipeThrough(new CompressionStream(format));
@@ -15,12 +19,12 @@ async function deflated(bytes, format) {
 }
 
 // The page with another film in it.
-export async function pageWith(about) {
+async function pageWith(about) {
   const text = await deflated(new TextEncoder().encode(JSON.stringify(about)), "deflate");
   return firstScript.original.replace(/(<script type="text\/plain" id="film">)[^<]*/, (_, begin) => `${begin}\n${text}\n`);
 }
 
-export function saveBytes(bytes, download) {
+function saveBytes(bytes, download) {
   const href = URL.createObjectURL(new Blob([bytes], { type: "application/octet-stream" }));
   Object.assign(document.createElement("a"), { href, download }).click();
   setTimeout(() => URL.revokeObjectURL(href), 60000);
@@ -30,9 +34,11 @@ export function saveBytes(bytes, download) {
 export const octalRows = (text) => (text || "").split("\n").map((line) => line.trim()).filter((line) => line && line[0] !== "*")
   .map((line) => line.split(/\s+/).map((word) => octalIn(word) ?? NaN));
 
-// What a dropped file is, by its text: rows of octal numbers are a panel if they are twelve, else a deck; and lines of text are a script.
-export function kindOfFile(text) {
-  const rows = octalRows(text), words = rows.flat(), odd = [...text].filter((letter) => /[^\t\n\r\f -~\xa0-\xff]/.test(letter)).length;
+// What a dropped file is, by its text: rows of octal numbers are a panel if they are twelve, else a deck; and lines of text are a
+// script.
+function kindOfFile(text) {
+  const rows = octalRows(text), words = rows.flat();
+  const odd = [...text].filter((letter) => /[^\t\n\r\f -~\xa0-\xff]/.test(letter)).length;
   if (odd > MOST_ODD * text.length) return null;
   if (!rows.length || words.some(Number.isNaN)) return "script";
   return words.length === 12 ? "panel" : "deck";
@@ -43,6 +49,15 @@ export function panelIn(text) {
   const words = octalRows(text).flat();
   return words.length === 12 && words.every((word) => word < CELLS) ? words : null;
 }
+
+// The texts of the files of a film.
+export const filesOf = ({ files }) =>
+  ({ script: "", deck: "", panel: "", ...Object.fromEntries(files.map(({ kind, bytes }) => [kind, bytes])) });
+
+// ---- links
+
+// What a moment and the chosen place are in an address.
+export const shownOf = ({ film, chosen }) => `moment=${octal(film.at)}${chosen ? `&place=${chosen.name.replace(/ /g, "+")}` : ""}`;
 
 // A link to files of a run, and to what is shown: its letters, or null if these are too many.
 export async function linkTo(files, shown) {
@@ -56,7 +71,7 @@ export async function linkTo(files, shown) {
 // The files of a run that the address has.
 export async function filesOfAddress() {
   const words = new URLSearchParams(location.hash.slice(1)), files = {};
-  for (const kind of ["script", "deck", "panel"].filter((one) => words.has(one))) {
+  for (const kind of KINDS.filter((one) => words.has(one))) {
     try {
       files[kind] = textOfBytes(await firstScript.inflated(words.get(kind).replace(/-/g, "+").replace(/_/g, "/"), "deflate-raw"));
     } catch {
@@ -64,4 +79,65 @@ export async function filesOfAddress() {
     }
   }
   return files;
+}
+
+export class Sharing extends Part {
+  get name() { return this.state.exercise || "session"; }
+  filesNow() { return { script: this.session.scriptToSave(), deck: this.session.files().deck, panel: this.session.files().panel }; }
+
+  saveScript() { saveBytes(bytesOfText(this.session.scriptToSave()), this.name); }
+
+  saveFile(at) {
+    const { name, bytes } = this.session.about.files[at];
+    saveBytes(bytesOfText(bytes), name);
+  }
+
+  // Whether a script begins with the one whose pictures are in this file.
+  hasPictures(script) {
+    const { about } = this.session;
+    return Boolean(about.pictures) && script.startsWith(filesOf(about).script.slice(0, about.pictures.script));
+  }
+
+  // The page as one file: the session, the branches, the drafts, the sessions of other exercises, and what is solved.
+  async savePage() {
+    const { session, name } = this, { exercise, film } = this.state, now = this.filesNow();
+    session.keepNow();
+    const files = KINDS.filter((kind) => kind === "script" || now[kind])
+      .map((kind) => ({ kind, name: kind === "script" ? name : kind, bytes: now[kind] }));
+    const { instructions, ...known } = session.about, { sources, labels } = exercise ? known : film.about;
+    const keeps = { exercise, tree: session.tree(), ...keptForFile() };
+    const about = { ...known, ...session.given.options, sources, labels, files, again: "", opens: null, keeps };
+    if (!this.hasPictures(now.script)) delete about.pictures;
+    saveBytes(new TextEncoder().encode(await pageWith(about)), `${name}.html`);
+  }
+
+  async copyLink() {
+    const own = filesOf(this.session.about), others = Object.entries(this.filesNow()).filter(([kind, text]) => kind === "script"
+      || text !== own[kind]);
+    const link = await linkTo(Object.fromEntries(others), shownOf(this.state));
+    if (!link) return this.say("the session is too long for a link: save this file, and pass that on", true);
+    try {
+      await navigator.clipboard.writeText(link);
+      return this.say(`copied: a link of ${link.length} (decimal) letters`);
+    } catch {
+      history.replaceState(null, "", `#${link.split("#")[1]}`);
+      return this.say("the address of this page is the link");
+    }
+  }
+
+  // Files that are dropped take the place of those of the run, in a session beside this. On the editor they are texts for the
+  // assembler.
+  async takeFiles(files, isForEditor) {
+    const given = { ...this.session.now(), script: this.session.scriptToSave() }, names = files.map(({ name }) => name);
+    for (const file of files) {
+      const text = textOfBytes(new Uint8Array(await file.arrayBuffer())), kind = kindOfFile(text);
+      if (!kind) return this.say(`${file.name} is no script, deck or panel: these are texts`, true);
+      if (isForEditor) this.exercises.editor.setText(file.name, text);
+      else given[kind] = text;
+    }
+    if (isForEditor || !files.length) return null;
+    const isDone = await this.exercises.show(names.join(" "), given);
+    if (isDone) this.say(`begun anew with ${names.join(" and ")}; the session before is among the branches`);
+    return isDone;
+  }
 }

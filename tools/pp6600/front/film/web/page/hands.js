@@ -15,60 +15,64 @@ const EVENTS = ["click", "input", "change", "submit", "pointerdown", "pointermov
 const byId = (id) => document.getElementById(id);
 
 export class Hands extends Part {
+  count = ""; // digits that were typed
+  typed = []; // lines of the console
+  recalled = 0; // which of them the field has
+
   constructor(store, parts, root) {
-    super(store, { ...parts, count: "", typed: [], recalled: 0, isDown: false });
+    super(store, parts);
     this.moves = new Moves(store, { session: this.session, hands: this }); // which says what has the focus
     for (const kind of EVENTS) root.addEventListener(kind, (event) => this[kind](event), { passive: kind === "wheel" });
     for (const kind of ["pointerdown", "pointermove", "pointerup", "pointercancel"]) {
-      window.addEventListener(kind, ({ buttons }) => { this.isDown = buttons > 0; });
+      window.addEventListener(kind, ({ buttons }) => { this.state.isDown = buttons > 0; });
     }
     document.addEventListener("keydown", (event) => this.keydown(event));
     document.addEventListener("dragover", (event) => event.preventDefault());
     document.addEventListener("drop", (event) => this.drop(event));
   }
 
+  // ---- buttons and clicks
+
   // Performs an action of the table of keys, or of a button.
   do(name, count = 1, digits = "") {
     if (name !== "play" && this.state.playing) this.moves.play(false);
-    const action = this.moves.actions[name] || this.buttons[name];
-    return action(count, digits);
+    return (this.moves.actions[name] || this.buttons[name])(count, digits);
   }
 
   // What buttons do that have no key.
   get buttons() {
-    const { session, state } = this;
+    const { session, state, editor, sharing, exercises } = this;
     return {
-      check: () => this.exercises.check(), "begin-again": () => this.exercises.again(), load: () => this.editor.load(),
-      "load-and-run": () => this.editor.loadAndRun(), edit: () => this.openEditor(),
-      save: () => this.sharing.savePage(), "save-script": () => this.sharing.saveScript(), "copy-link": () => this.sharing.copyLink(),
-      restore: () => session.restore(state.offer.record), undo: () => session.leaveBranch(), stop: () => session.stop(),
+      check: () => exercises.check(), "begin-again": () => exercises.again(), load: () => editor.load(),
+      "load-and-run": () => editor.loadAndRun(), edit: () => this.openEditor(), save: () => sharing.savePage(),
+      "save-script": () => sharing.saveScript(), "copy-link": () => sharing.copyLink(), stop: () => session.stop(),
+      restore: () => session.restore(state.offer.record), undo: () => session.leaveBranch(),
       "time-before": () => this.moves.toTimeOf(state.line, -1), "next-time": () => this.moves.toTimeOf(state.line, 1),
-      "all-lanes": () => this.update({ allLanes: !state.allLanes }), "close-setting": () => this.update({ setting: null }),
+      "all-lanes": () => this.update({ allLanes: !state.allLanes }),
     };
   }
 
-  // ---- clicks
+  // What is under a click, by the names of its attributes.
+  get clicks() {
+    const { session, moves, state } = this, see = (place) => this.update(choose(state, place));
+    return {
+      action: (action) => this.do(action), fold: (name) => this.fold(name), file: (at) => this.sharing.saveFile(Number(at)),
+      point: (one) => this.update({ breakpoints: toggled(state.breakpoints, one) }),
+      cell: (at) => see(placeWith("M", Math.floor(at / CELLS), at % CELLS)), place: (name) => see(state.film.placeNamed(name)),
+      "line-at": (at) => this.toLine(...at.split(" ").map(Number)), moment: (moment) => moves.moveTo(Number(moment)),
+      processor: (n) => this.update(chooseProcessor(state, Number(n))), branch: (id) => session.goToBranch(Number(id)),
+      look: (look) => this.look(look), tab: (tab) => this.update({ tab }), exercise: (name) => this.exercises.goTo(name),
+      line: (number, { shiftKey }) => moves.toTimeOf(Number(number), shiftKey ? -1 : 1),
+      meaning: (meaning) => this.update({ meaning }), text: (name) => this.editor.setText(name),
+    };
+  }
 
   click(event) {
-    for (const [name, act] of this.clicks) {
+    for (const [name, act] of Object.entries(this.clicks)) {
       const found = event.target.closest(`[data-${name}]`);
       if (found) return act(found.getAttribute(`data-${name}`), event);
     }
     return null;
-  }
-
-  get clicks() {
-    const { store, session, moves, state } = this, { film } = state, see = (place) => store.change(choose(state, place));
-    return [
-      ["action", (action) => this.do(action)], ["fold", (name) => this.fold(name)], ["file", (at) => this.sharing.saveFile(Number(at))],
-      ["point", (one) => store.change({ breakpoints: toggled(state.breakpoints, one) })],
-      ["cell", (at) => see(placeWith("M", Math.floor(at / CELLS), at % CELLS))], ["place", (name) => see(film.placeNamed(name))],
-      ["line-at", (at) => this.toLine(...at.split(" ").map(Number))], ["moment", (moment) => moves.moveTo(Number(moment))],
-      ["processor", (n) => store.change(chooseProcessor(state, Number(n)))], ["branch", (id) => session.goToBranch(Number(id))],
-      ["look", (look) => this.look(look)], ["tab", (tab) => store.change({ tab })], ["exercise", (name) => this.exercises.goTo(name)],
-      ["line", (number, { shiftKey }) => moves.toTimeOf(Number(number), shiftKey ? -1 : 1)],
-      ["meaning", (name) => store.change({ meaning: name })], ["text", (name) => this.editor.setText(name)],
-    ];
   }
 
   fold(name) {
@@ -88,11 +92,23 @@ export class Hands extends Part {
 
   // Opens the source that is seen in the editor.
   openEditor() {
-    const { memory, folded, look } = this.state, unfolded = new Set(folded);
-    unfolded.delete(`${look} editor`);
-    this.update({ folded: unfolded, tab: "editor", isEditing: true });
+    const { memory, folded, look } = this.state;
+    this.update({ folded: new Set([...folded].filter((name) => name !== `${look} editor`)), tab: "editor" });
     this.editor.open(memory.n);
     return setTimeout(() => byId("source-text")?.focus());
+  }
+
+  // In the source text, to where a message is.
+  toLine(line, column) {
+    const field = byId("source-text");
+    const at = field.value.split("\n").slice(0, line - 1).join("\n").length + Math.min(1, line - 1) + column - 1;
+    field.focus();
+    field.setSelectionRange(at, at + 1);
+  }
+
+  drop(event) {
+    event.preventDefault();
+    return this.sharing.takeFiles([...event.dataTransfer.files], Boolean(event.target.closest?.(".pane.editor")));
   }
 
   // ---- the run: to where the pointer is, as long as it is down
@@ -114,8 +130,6 @@ export class Hands extends Part {
     if (target.closest("#cells") && Math.abs(deltaY) >= 1) this.update(scrolled(this.state, deltaY > 0 ? 2 : -2));
   }
 
-  // ---- fields
-
   submit(event) {
     event.preventDefault();
     return this[event.target.dataset.form]();
@@ -129,6 +143,13 @@ export class Hands extends Part {
     if (!(await this.session.type([text])) && !field.value) field.value = text;
   }
 
+  // Up and down bring back what was typed before.
+  recall(event) {
+    event.preventDefault();
+    this.recalled = Math.max(0, Math.min(this.typed.length, this.recalled + ARROWS[event.key]));
+    byId("typed").value = this.typed[this.recalled] || "";
+  }
+
   // Several lines that are pasted are several lines.
   paste(event) {
     const text = event.target.id === "typed" ? event.clipboardData.getData("text") : "";
@@ -140,87 +161,28 @@ export class Hands extends Part {
   change({ target }) { return this.fields[target.id]?.(target.value.trim(), target); }
 
   get fields() {
-    const { state, store, moves } = this;
+    const { state, moves } = this;
     return {
-      "memory-of": (n) => store.change(chooseProcessor(state, Number(n))), "memory-as": (as) => store.change(showAs(state, as)),
+      "memory-of": (n) => this.update(chooseProcessor(state, Number(n))), "memory-as": (as) => this.update(showAs(state, as)),
       "edit-for": (n) => this.editor.open(Number(n)), rate: (rate) => moves.setRate(Number(rate)),
-      zoom: (zoom) => { store.change({ zoom: Number(zoom) }); store.change(viewAt(this.state)); },
-      letters: (_, { checked }) => store.change({ letters: checked }), place: (text) => this.placeNamed(text) && byId("place").blur(),
+      zoom: (zoom) => this.update({ zoom: Number(zoom), ...viewAt({ ...state, zoom: Number(zoom) }) }),
+      letters: (_, { checked }) => this.update({ letters: checked }),
+      place: (text) => this.placeNamed(text) && byId("place").blur(),
       turn: async (text, field) => { if (!(await moves.toTypedTurn(text))) field.blur(); },
     };
   }
 
   // Chooses the place with a name, or none. Returns whether it could.
   placeNamed(text) {
-    const { state, store } = this, place = text ? state.film.placeNamed(text) : null, isRight = Boolean(place) || !text;
-    store.change(isRight ? { ...(place ? choose(state, place) : chooseNone(state)), wrong: {} } : { wrong: { place: "no such place" } });
+    const { state } = this, place = text ? state.film.placeNamed(text) : null, isRight = Boolean(place) || !text;
+    this.update(!isRight ? {} : place ? choose(state, place) : chooseNone(state));
+    this.update({ wrong: isRight ? {} : { place: "no such place" } });
     return isRight;
   }
 
-  input({ target }) {
-    const { id, value } = target;
+  input({ target: { id, value } }) {
     if (id === "source-text") this.editor.edit(value);
     if (id === "panel-text") this.update({ panelText: value });
-  }
-
-  // ---- a number that is set in its place
-
-  // Opens a field over the chosen number, or if this is not seen over the line that has it.
-  openField() {
-    const { chosen, film } = this.state, all = this.seen().filter(({ place }) => place === chosen).map(({ element }) => element);
-    const one = all.find((element) => element.matches("td")) || all[0] || document.querySelector(".chosen"); // a cell is set in memory
-    const box = one.getBoundingClientRect(), width = 16 + 8.6 * (film.text(chosen).length + 8);
-    const left = Math.max(0, Math.min(box.left, innerWidth - width));
-    this.update({ setting: { left, top: Math.max(0, box.top), text: film.text(chosen) } });
-    setTimeout(() => byId("set-to")?.select());
-  }
-
-  async set() {
-    const { film, chosen } = this.state;
-    try {
-      if (await this.session.act([settingLine(film, chosen, byId("set-to").value.trim())])) this.update({ setting: null });
-    } catch (error) {
-      this.say(error.message, true);
-    }
-  }
-
-  focusout({ target }) { if (target.id === "set-to") this.update({ setting: null }); }
-
-  dblclick({ target }) { if (target.closest("[data-cell], [data-place]") && canSet(this.state.chosen)) this.openField(); }
-
-  drop(event) {
-    event.preventDefault();
-    return this.sharing.takeFiles([...event.dataTransfer.files], Boolean(event.target.closest?.(".pane.editor")));
-  }
-
-  // In the source text, to where a message is.
-  toLine(line, column) {
-    const field = byId("source-text"), before = field.value.split("\n").slice(0, line - 1).join("\n");
-    const at = before.length + Math.min(1, line - 1) + column - 1;
-    field.focus();
-    field.setSelectionRange(at, at + 1);
-  }
-
-  // ---- what is seen
-
-  // The numbers that are seen, with their places.
-  seen() {
-    return [...document.querySelectorAll("td[data-cell], .n[data-place]")].filter((one) => one.checkVisibility()).map((element) => {
-      const { cell, place } = element.dataset;
-      return { element, place: cell ? placeWith("M", Math.floor(cell / CELLS), cell % CELLS) : this.state.film.placeNamed(place) };
-    });
-  }
-
-  // The nearest number on the page beside one.
-  nearest(name, right, down) {
-    const all = this.seen().filter(({ place }) => place), here = all.find(({ place }) => place.name === name);
-    const middle = ({ element }) => (({ x, y, width, height }) => [x + width / 2, y + height / 2])(element.getBoundingClientRect());
-    const [x, y] = here ? middle(here) : [0, 0], distance = (one) => {
-      const [left, top] = middle(one), [along, aside] = right ? [(left - x) * right, top - y] : [(top - y) * down, left - x];
-      return along > 2 ? along + 4 * Math.abs(aside) : Infinity;
-    };
-    const near = here ? all.map((one) => [distance(one), one]).filter(([far]) => far < Infinity).sort(([one], [other]) => one - other) : [];
-    return near.length ? near[0][1].place : null;
   }
 
   select(id) { byId(id)?.select(); }
@@ -232,11 +194,51 @@ export class Hands extends Part {
     field.focus();
   }
 
-  // ---- keys
+  // ---- numbers that are seen: one beside another, and one that is set in its place
+
+  // The numbers that are seen, with their places.
+  seen() {
+    return [...document.querySelectorAll("td[data-cell], .n[data-place]")].filter((one) => one.checkVisibility()).map((element) => {
+      const { cell, place } = element.dataset;
+      return { element, place: cell ? placeWith("M", Math.floor(cell / CELLS), cell % CELLS) : this.film.placeNamed(place) };
+    });
+  }
+
+  // The number before or behind another one on the page; or in its table above or below it.
+  beside(chosen, right, down) {
+    const all = this.seen(), at = all.findIndex(({ place }) => place === chosen), cell = all[at]?.element.closest("td");
+    if (right) return at < 0 ? null : all[at + right]?.place;
+    const row = cell?.parentElement[down > 0 ? "nextElementSibling" : "previousElementSibling"], other = row?.cells[cell.cellIndex];
+    return other && all.find(({ element }) => other.contains(element))?.place;
+  }
+
+  // Opens a field over the chosen number, or if this is not seen over the line that has it. A cell is set in memory.
+  openField() {
+    const { chosen, film } = this.state, all = this.seen().filter(({ place }) => place === chosen).map(({ element }) => element);
+    const one = all.find((element) => element.matches("td")) || all[0] || document.querySelector(".chosen");
+    const box = one.getBoundingClientRect(), text = film.text(chosen), width = 16 + 8.6 * (text.length + 8);
+    this.update({ setting: { left: Math.max(0, Math.min(box.left, innerWidth - width)), top: Math.max(0, box.top), text } });
+    setTimeout(() => byId("set-to")?.select());
+  }
+
+  dblclick({ target }) { if (target.closest("[data-cell], [data-place]") && canSet(this.state.chosen)) this.openField(); }
+  focusout({ target }) { if (target.id === "set-to") this.update({ setting: null }); }
+
+  async set() {
+    const { film, chosen } = this.state;
+    try {
+      if (await this.session.act([settingLine(film, chosen, byId("set-to").value.trim())])) this.update({ setting: null });
+    } catch (error) {
+      this.say(error.message, true);
+    }
+  }
 
   keydown(event) {
     const { key, target } = event, isControl = event.ctrlKey || event.metaKey;
-    if (isControl && key.toLowerCase() === "s") { event.preventDefault(); return this.do("save"); }
+    if (isControl && key.toLowerCase() === "s") {
+      event.preventDefault();
+      return this.do("save");
+    }
     if (isControl || event.altKey) return null;
     if (target.matches("input:not([type=checkbox]), textarea, select")) return this.keyInField(event);
     if (target.closest(GROUPS) && ARROWS[key]) return this.rove(event);
@@ -247,13 +249,12 @@ export class Hands extends Part {
 
   keyOfTable(event) {
     const { key, target } = event, action = this.state.keys.actions[key], digits = this.count;
-    if (key.length === 1 && key !== " " && !this.state.letters) return null;
-    if (!action && !/^\d$/.test(key)) return null;
+    if ((key.length === 1 && key !== " " && !this.state.letters) || !(action || /^\d$/.test(key))) return null;
     event.preventDefault();
     if (!action) return this.addDigit(key);
     this.count = "";
     if (digits) this.say("");
-    if (target.id === "lanes" && ARROWS[key]) return this.moves.moveTo(this.state.film.at + (/Left|Down/.test(key) ? -1 : 1));
+    if (target.id === "lanes" && ARROWS[key]) return this.moves.moveTo(this.film.at + (/Left|Down/.test(key) ? -1 : 1));
     return action === "forget" && digits ? null : this.do(action, parseInt(digits || "1", 8), digits);
   }
 
@@ -280,12 +281,5 @@ export class Hands extends Part {
     event.preventDefault();
     if (next.closest(".tools")) this.update({ tool: next.dataset.action });
     next.focus();
-  }
-
-  // Up and down bring back what was typed before.
-  recall(event) {
-    event.preventDefault();
-    this.recalled = Math.max(0, Math.min(this.typed.length, this.recalled + ARROWS[event.key]));
-    byId("typed").value = this.typed[this.recalled] || "";
   }
 }

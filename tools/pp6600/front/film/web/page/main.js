@@ -1,27 +1,26 @@
 // ---- the page from its beginning: the film, the worker, the state, and what draws it
 
-import { openLibrary } from "../engine/library.mjs";
+import { instructionsOf, openLibrary } from "../engine/library.mjs";
 import { octalIn } from "../machine/places.js";
+import { opening } from "../machine/words.js";
 import { page } from "../views/page.js";
 import { Assembling } from "./assembling.js";
 import { choose, viewAt } from "./choice.js";
-import { Client } from "./client.js";
 import { render } from "./dom.js";
 import { Editor } from "./editor.js";
 import { Exercises } from "./exercises.js";
-import { filesOfAddress } from "./files.js";
-import { opening } from "./found.js";
+import { Sharing, filesOf, filesOfAddress, shownOf } from "./files.js";
 import { Hands } from "./hands.js";
-import { addSessions, holdTab, kept, latestOfClosed } from "./kept.js";
+import { addKept, holdTab, kept, latestOfClosed } from "./kept.js";
 import { isSame, roomNow, windowNow } from "./room.js";
 import { Session } from "./session.js";
-import { Sharing, filesOf, shownOf } from "./sharing.js";
 import { Store } from "./store.js";
 import { branchNow, newTree } from "./tree.js";
 
 const FOLDED = ["devices", "branches", "editor", "run"]; // in a window with few columns
 const AFTER = 300; // milliseconds until the address follows
 const root = document.getElementById("app");
+const wordsOfAddress = () => new URLSearchParams(location.hash.slice(1));
 
 function foldedIn({ columns }) {
   const folded = columns > 3 ? ["debug run"] : FOLDED.flatMap((name) => [`debug ${name}`, `class ${name}`]);
@@ -29,18 +28,18 @@ function foldedIn({ columns }) {
 }
 
 // The one state of the page: the session, what is shown of it, what is chosen, the window, and what is typed.
-function stateOf(about) {
-  const size = windowNow(), { exercises = [], keys } = about, isClass = exercises.length > 0;
-  const memory = { n: 0, follows: true, isHeld: false, first: 0, top: 0, as: "" };
-  const editor = { n: 0, text: "", messages: [], rows: [], listing: "", texts: [] };
+function stateOf({ exercises = [], keys }) {
+  const size = windowNow(), isClass = exercises.length > 0;
   return {
-    isOpen: false, film: null, transcript: [], sentLast: null, tree: newTree(), said: { text: "", isWrong: false }, isBusy: false,
-    offer: null, sources: new Map(), sourceOf: 0, line: null, breakpoints: new Set(), memory, central: { first: -1 },
+    isOpen: false, film: null, transcript: [], sentLast: null, tree: newTree(null), said: { text: "", isWrong: false },
+    isBusy: false,
+    offer: null, sourceOf: 0, line: null, breakpoints: new Set(), central: { first: -1 },
+    memory: { n: 0, follows: true, isHeld: false, first: 0, top: 0, as: "" },
     chosen: null, changes: [], origin: null, setting: null, wrong: {},
-    playing: null, rate: 8, span: { from: 0, to: 8 }, zoom: 0, allLanes: false,
+    playing: null, rate: 8, isDown: false, span: { from: 0, to: 8 }, zoom: 0, allLanes: false,
     look: kept("look") || (isClass ? "class" : "debug"), lookBefore: null, ...size, room: {}, tab: isClass ? "exercise" : "source",
     folded: foldedIn(size), tool: "on", help: false, meaning: "", letters: true, keys,
-    editor, drafts: new Map(), exercises, exercise: null, solved: kept("solved") || {}, checked: null, panelText: "",
+    editor: null, exercises, exercise: null, solved: kept("solved") || {}, checked: null, panelText: "",
   };
 }
 
@@ -61,26 +60,6 @@ function drawer(store) {
   };
 }
 
-// What the worker's messages do to the page.
-function hearing(store, parts) {
-  let timer = 0;
-  const busy = (is) => {
-    clearTimeout(timer);
-    if (is) timer = setTimeout(() => store.change({ isBusy: true }), AFTER);
-    else if (store.state.isBusy) store.change({ isBusy: false });
-  };
-  const silent = () => {
-    const text = "the simulator does not answer: wait, or open this page in another browser", box = root.querySelector(".opening");
-    if (box) box.textContent = `${text[0].toUpperCase()}${text.slice(1)}.`;
-    else parts.session.say(text, true);
-  };
-  return {
-    silent, busy, working: () => store.change({}), fault: (text) => parts.session.say(text, true),
-    grown: (moments) => parts.session.grown(moments), isHeld: () => Boolean(parts.hands && parts.hands.isDown),
-    moments: (moments) => { parts.session.grown(moments); store.change(store.state.isOpen ? viewAt(store.state) : {}); },
-  };
-}
-
 // The calls of the simulator for the page itself, which has the assembler.
 async function callsOf(module) {
   try {
@@ -90,58 +69,50 @@ async function callsOf(module) {
   }
 }
 
-async function build() {
+// The parts of the page, with what draws it; and the session with which it opens: that of the address, of a file that was saved, or
+// of the file's own script. Returns the parts, and the reply of the worker.
+async function begin(address) {
   const [film, module, engine] = await Promise.all(["film", "simulator", "engine"].map(firstScript.unpacked));
-  const address = await filesOfAddress(), about = JSON.parse(new TextDecoder().decode(film));
-  const store = new Store(stateOf(about)), parts = {};
+  const about = JSON.parse(new TextDecoder().decode(film)), { keeps, ...known } = about, store = new Store(stateOf(about));
   store.draw = drawer(store);
-  const session = new Session(store, new Client(hearing(store, parts), engine), about, module), editor = new Editor(store, { session });
+  if (!window.Worker) throw new Error("this browser has no workers");
+  const calls = await callsOf(module);
+  if (keeps) addKept(keeps);
+  if (keeps) store.change({ solved: { ...kept("solved"), ...store.state.solved } });
+  const session = new Session(store, engine, { ...known, instructions: instructionsOf(calls) }, module);
+  const editor = new Editor(store, { session, assembling: new Assembling(calls, kept("texts") || []) });
   const exercises = new Exercises(store, { session, editor }), sharing = new Sharing(store, { session, exercises });
-  Object.assign(parts, { session, editor, exercises, sharing });
-  return { about, address, store, parts, module };
-}
-
-// The session with which the page opens: that of the address, of a file that was saved, or of the file's own script.
-async function begin({ about, address, store, parts: { session, exercises, editor }, module }) {
-  const { keeps } = about, saved = keeps && !address.script && branchNow(keeps.tree).session,
-    given = saved || exercises.withExercise({ ...filesOf(about), ...address });
-  const opened = session.open(given, saved ? keeps.tree : newTree(), saved ? { moment: saved.moment, isTrusted: true } : {});
-  const [reply, calls] = await Promise.all([opened, callsOf(module)]); // while the worker performs the script
+  const isSaved = Boolean(keeps) && !address.script, given = exercises.withExercise({ ...filesOf(known), ...address });
+  const reply = await session.open(isSaved ? keeps.tree : newTree(given), { isNew: !isSaved });
   if (reply.isFault) throw new Error(reply.said);
-  editor.assembling = new Assembling(calls, keeps?.texts || kept("texts") || []);
-  if (keeps) {
-    addSessions(keeps.sessions);
-    for (const [name, text] of Object.entries(keeps.drafts)) store.state.drafts.set(name, text);
-    store.change({ solved: { ...keeps.solved, ...store.state.solved } });
-  }
-  store.change({ panelText: given.panel || "", isOpen: true });
+  store.change({ panelText: session.given.panel || "", isOpen: true });
   editor.open(0);
-  return reply;
+  const parts = { session, editor, exercises, sharing }, hands = new Hands(store, parts, root);
+  return { store, ...parts, hands, moves: hands.moves, opens: keeps ? null : about.opens ?? "end", reply };
 }
 
-// Goes where the address leads, or where the film opens.
-async function goToAddress(about, store, moves) {
-  const { state } = store, words = new URLSearchParams(location.hash.slice(1)), moment = octalIn(words.get("moment") || ""),
-    place = words.get("place");
-  const isOther = ["turn", "moment", "place"].some((name) => words.has(name)), isSaved = Boolean(about.keeps);
+// Goes where the address leads; else after a turn, or to where the film opens: at the end, or at what its last line has found.
+async function goToAddress({ store, moves, hands }, opens = null) {
+  const { state } = store, words = wordsOfAddress(), moment = octalIn(words.get("moment") || "");
   if (moment !== null) moves.moveTo(moment);
   else if (words.has("turn")) await moves.toTypedTurn(words.get("turn"));
-  if (place) moves.hands.placeNamed(place);
-  if (isOther || isSaved) return;
-  const { moment: at, name } = opening(state.film, state.sources);
+  if (words.get("place")) hands.placeNamed(words.get("place"));
+  if (opens === null || ["turn", "moment", "place"].some((name) => words.has(name))) return;
+  const { moment: at, name } = opening(state.film);
   state.film.goTo(at);
   store.change({ ...viewAt(state), ...(name ? choose(state, state.film.placeNamed(name)) : {}) });
-  if (about.opens !== null && about.opens !== undefined) await moves.toTypedTurn(about.opens.toString(8));
+  if (opens !== "end") await moves.toTypedTurn(opens.toString(8));
 }
 
-// With each drawing keeps the moment and the place in the address, and fills in what was skipped there, when nothing was asked for a while.
-function followState(store, { session, sharing }, address, moves) {
+// With each drawing keeps the moment and the place in the address, and fills in what was skipped there, when nothing was asked for
+// a while.
+function followState({ store, session, sharing, moves }, address) {
   let timer = 0, before = "";
-  const { draw } = store, words = new URLSearchParams(location.hash.slice(1));
+  const { draw } = store, words = wordsOfAddress();
   const fragment = Object.keys(address).map((kind) => `${kind}=${words.get(kind)}&`).join("");
   store.draw = (state) => {
-    const shown = shownOf(state), { script = "" } = session.given || {};
-    draw({ ...state, hasPictures: sharing.hasPictures(script) });
+    const shown = shownOf(state);
+    draw({ ...state, hasPictures: sharing.hasPictures(session.given.script) });
     if (shown === before) return;
     before = shown;
     clearTimeout(timer);
@@ -152,7 +123,8 @@ function followState(store, { session, sharing }, address, moves) {
   };
 }
 
-async function offered(store, session) {
+// Offers the latest session that this browser has kept, of those that are no longer open.
+async function offer({ store, session }) {
   const record = await latestOfClosed(store.state.exercise), now = record && branchNow(record.tree);
   if (!record || !now.session || now.session.script === session.given.script) return;
   const time = new Date(record.at), day = time.toLocaleDateString(), isToday = day === new Date().toLocaleDateString();
@@ -162,20 +134,18 @@ async function offered(store, session) {
 }
 
 async function open() {
-  const built = await build(), { about, address, store, parts } = built, { session, exercises, editor } = parts, reply = await begin(built);
-  const hands = new Hands(store, parts, root), { moves } = hands;
-  parts.hands = hands;
-  followState(store, parts, address, moves);
-  await goToAddress(about, store, moves);
+  const address = await filesOfAddress(), page = await begin(address);
+  const { store: { state }, session, exercises, opens, reply } = page;
+  followState(page, address);
+  await goToAddress(page, opens);
   if (reply.said) session.say(reply.said, true);
   holdTab();
-  window.addEventListener("hashchange", () => goToAddress({ ...about, keeps: {} }, store, moves));
-  window.addEventListener("pagehide", () => { session.keepNow(); editor.keepNow(); });
-  const [one] = store.state.exercises, { exercise, look } = store.state;
-  if (one && !exercise && look !== "debug") await exercises.goTo(one.name);
-  else await offered(store, session);
-  store.change({});
-  Object.assign(window, { page: { store, moves, hands, ...parts } });
+  window.addEventListener("hashchange", () => goToAddress(page));
+  window.addEventListener("pagehide", () => session.keepNow());
+  if (state.exercises.length && !state.exercise && state.look !== "debug") await exercises.goTo(state.exercises[0].name);
+  else await offer(page);
+  session.update({});
+  Object.assign(window, { page });
   document.body.dataset.open = "yes";
 }
 

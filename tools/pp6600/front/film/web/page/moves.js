@@ -5,7 +5,8 @@ import { countUpTo } from "../machine/film.js";
 import { SKIP } from "../machine/moments.js";
 import { hasOrigin, originLines } from "../machine/origins.js";
 import { lineOfNext } from "../machine/sources.js";
-import { changesAround, choose, chooseNone, chooseProcessor, follow, formOf, placeBeside, showAs, sourceSeen, viewAt } from "./choice.js";
+import { changesAround, choose, chooseNone, chooseProcessor, follow, formOf, placeBeside, showAs, sourceSeen,
+  viewAt } from "./choice.js";
 import { canSet } from "./setting.js";
 import { Part } from "./store.js";
 
@@ -20,8 +21,6 @@ export class Moves extends Part {
     this.update({ said: { text: "", isWrong: false }, wrong: {}, sentLast: null, ...viewAt(this.state) });
   }
 
-  // ---- turns
-
   // On so many times to where find() says; from the end of the film on by turns. So each key counts, also while turns are made.
   step(count, find, turns) {
     const { film, session } = this;
@@ -34,8 +33,7 @@ export class Moves extends Part {
 
   // Back so many times. From turns that were skipped one goes back into them.
   async back(count, find) {
-    const { film } = this;
-    if (film.kinds[film.at] === SKIP) await this.session.unskip();
+    if (this.film.kinds[this.film.at] === SKIP) await this.session.unskip();
     for (let next = find(), left = count; left > 0 && next >= 0; next = find(), left--) this.film.goTo(next);
     this.moveTo(this.film.at);
   }
@@ -46,8 +44,9 @@ export class Moves extends Part {
     if (film.kinds[film.at] === SKIP && !session.client.isBusy) session.unskip();
   }
 
-  nearestTurn(direction, n) {
-    return this.film.nearest(direction, (moment) => this.film.isTurn(moment) && (n === undefined || this.film.processor[moment] === n));
+  nearestTurn(direction, n = null) {
+    const { film } = this;
+    return film.nearest(direction, (moment) => film.isTurn(moment) && (n === null || film.processor[moment] === n));
   }
 
   beforeTurn() {
@@ -57,20 +56,15 @@ export class Moves extends Part {
 
   turnsTo(n, count) { return ((n - this.film.number("SLOT") + PROCESSORS) % PROCESSORS) + 1 + PROCESSORS * (count - 1); }
 
-  // To a turn. Turns that were skipped are recorded for it. Returns what is wrong with the number, or "".
-  async toTurn(text) {
-    const turn = octalIn(text.trim()), { film } = this;
-    if (turn === null) return "not an octal number";
-    const skip = film.turn.includes(turn) ? -1 : film.skipOver(turn, film.turn);
-    if (skip >= 0) await this.session.unskip(film.position[skip] - film.turn[skip] + turn);
-    else this.moveTo(film.momentOfTurn(turn));
-    if (this.film.turn.includes(turn)) return "";
-    return turn < this.film.highestTurn ? `turn ${octal(turn)} was not recorded`
-      : `no turn ${octal(turn)}: the highest is ${octal(this.film.highestTurn)}`;
-  }
-
+  // To a turn. Turns that were skipped are recorded for it. Says beside the field what is wrong with the number, and returns it, or
+  // "".
   async toTypedTurn(text) {
-    const wrong = await this.toTurn(text);
+    const turn = octalIn(text.trim()), { film } = this, skip = film.turn.includes(turn) ? -1 : film.skipOver(turn, film.turn);
+    if (skip >= 0) await this.session.unskip(film.position[skip] - film.turn[skip] + turn);
+    else if (turn !== null) this.moveTo(film.momentOfTurn(turn));
+    const { highestTurn } = this.film, isThere = this.film.turn.includes(turn);
+    const wrong = turn === null ? "not an octal number" : isThere ? "" : turn < highestTurn ? `turn ${octal(turn)} was not recorded`
+      : `no turn ${octal(turn)}: the highest is ${octal(highestTurn)}`;
     this.update({ wrong: { turn: wrong } });
     return wrong;
   }
@@ -81,20 +75,20 @@ export class Moves extends Part {
     const { chosen } = this.state, { previous, next } = changesAround(this.state), target = direction > 0 ? next : previous;
     if (!chosen) return this.say("choose a number first: click it, or type its place after g", true);
     if (target > 0) return this.moveTo(target);
-    return target < 0 || direction > 0 ? this.findChange(direction) : this.say("not changed before this", true);
+    return target < 0 || direction > 0 ? this.findChange(direction < 0) : this.say("not changed before this", true);
   }
 
   // To a change that the film does not have: in turns that were not recorded, or in turns to come.
-  findChange(direction) {
+  findChange(isBack) {
     const { kind, name, numbers } = this.state.chosen;
-    if (kind === "STATE") return this.until(`H ${octal(numbers[0])} changes state`, direction < 0);
-    return SETTABLE.includes(kind) ? this.until(`${name} changes`, direction < 0) : null;
+    if (kind === "STATE") return this.until(`H ${octal(numbers[0])} changes state`, isBack);
+    return SETTABLE.includes(kind) ? this.until(`${name} changes`, isBack) : null;
   }
 
+  // On to where a condition comes to hold, from the newest moment; or back, from the one that is shown.
   until(condition, isBack) {
-    const { film } = this;
-    if (!isBack && film.at < film.last) this.film.goTo(film.last);
-    return this.session.act([`${isBack ? "back " : ""}until ${condition}`]);
+    if (!isBack) this.film.goTo(this.film.last);
+    return this.session.type([`${isBack ? "back " : ""}until ${condition}`]);
   }
 
   // The condition that was looked for last, again.
@@ -108,7 +102,7 @@ export class Moves extends Part {
     const { chosen } = this.state;
     if (this.film.watched().length || !chosen) return this.session.type(["BACK W"]);
     const { last } = changesAround(this.state);
-    return last > 0 ? this.moveTo(last - 1) : this.findChange(-1);
+    return last > 0 ? this.moveTo(last - 1) : this.findChange(true);
   }
 
   watch() {
@@ -118,15 +112,13 @@ export class Moves extends Part {
   }
 
   // On to a breakpoint or to the chosen cell, or back: in the film, else by turns that are made.
-  runTo(isBack) {
-    const { chosen, breakpoints } = this.state, cells = chosen && chosen.kind === "M" ? [chosen.numbers] : [];
+  async runTo(isBack) {
+    const { chosen, breakpoints } = this.state, { film, session } = this;
+    const cells = chosen && chosen.kind === "M" ? [chosen.numbers] : [];
     const points = [...[...breakpoints].map((one) => one.split(" ").map(Number)), ...cells];
     if (!points.length) return this.say("choose a cell, or click the number of a line, to run there", true);
-    return this.runUntil(points.map(([n, address]) => `PP ${octal(n)} performs ${octal(address)}`).join(" or "), isBack);
-  }
-
-  async runUntil(condition, isBack) {
-    const { film, session } = this, isInFilm = isBack || film.at < film.last;
+    const condition = points.map(([n, address]) => `PP ${octal(n)} performs ${octal(address)}`).join(" or ");
+    const isInFilm = isBack || film.at < film.last;
     const { at } = isInFilm ? await session.inTurn(() => session.momentOf(condition, isBack)) : { at: null };
     if (at !== null) return at < 0 || this.moveTo(at);
     return isBack ? this.say("P was not there before this", true) : this.until(condition, false);
@@ -134,7 +126,8 @@ export class Moves extends Part {
 
   // ---- lines of the source, of the script
 
-  // To where the processor of the source begins its next line, or back to where it began one; at the end turns are made until it does.
+  // To where the processor of the source begins its next line, or back to where it began one; at the end turns are made until it
+  // does.
   toLine(direction) {
     const source = sourceSeen(this.state), { film } = this;
     if (!source) return this.say("no source is loaded", true);
@@ -156,11 +149,9 @@ export class Moves extends Part {
   }
 
   toScriptLine(direction) {
-    const ends = this.film.lines.filter(({ acts }) => acts).map(({ moment }) => moment);
-    this.moveTo(direction > 0 ? ends.find((end) => end > this.film.at) ?? this.film.last : ends.findLast((end) => end < this.film.at) ?? 0);
+    const { film } = this, ends = film.lines.filter(({ acts }) => acts).map(({ moment }) => moment);
+    this.moveTo(direction > 0 ? ends.find((end) => end > film.at) ?? film.last : ends.findLast((end) => end < film.at) ?? 0);
   }
-
-  // ---- playing
 
   play(on) {
     const { film } = this, playing = on && film.at < film.last ? { since: performance.now(), from: film.at } : null;
@@ -184,10 +175,8 @@ export class Moves extends Part {
 
   faster(step) { this.setRate(RATES[Math.max(0, Math.min(RATES.length - 1, RATES.indexOf(this.state.rate) + step))]); }
 
-  // ---- what is chosen
-
   beside(right, down) {
-    const place = placeBeside(this.state, right, down) || this.hands.nearest(this.state.chosen.name, right, down);
+    const place = placeBeside(this.state, right, down) || this.hands.beside(this.state.chosen, right, down);
     if (place) this.update(choose(this.state, place));
   }
 
@@ -196,9 +185,9 @@ export class Moves extends Part {
   }
 
   origin() {
-    const { chosen, origin, film, sources } = this.state;
+    const { chosen, origin, film } = this.state;
     if (!hasOrigin(chosen)) return this.say(chosen ? `no origin of ${chosen.name} is known` : "choose a number first", true);
-    return this.update({ origin: origin ? null : originLines(film, sources, chosen) });
+    return this.update({ origin: origin ? null : originLines(film, chosen) });
   }
 
   forget() {

@@ -9,7 +9,8 @@ export function windowNow() {
 
 // The sizes of the parts that are drawn by measure, as they are now.
 export function roomNow() {
-  const unit = parseFloat(getComputedStyle(document.documentElement).fontSize) / 14, part = (selector) => document.querySelector(selector);
+  const unit = parseFloat(getComputedStyle(document.documentElement).fontSize) / 14;
+  const part = (selector) => document.querySelector(selector);
   const cells = part("#cells"), barrel = part('[data-room="barrel"]'), row = cells && cells.querySelector("tbody tr"),
     head = cells && cells.querySelector("thead");
   const rows = row ? Math.floor((cells.clientHeight - 6 - (head ? head.offsetHeight : 0)) / row.offsetHeight) : 16;

@@ -1,71 +1,83 @@
 // ---- the session of the page: its lines, what is only looked at, and the tree of branches
 
-import { LONGEST_ANSWER, UNTIL, ofLines, stepsOf, wordsIn } from "../machine/lines.js";
+import { LONGEST_ANSWER, UNTIL, moveBy, ofLines, scriptOf, stepsOf, wordsIn } from "../machine/lines.js";
+import { octal } from "../machine/places.js";
 import { JUMP, LINE } from "../machine/moments.js";
 import { Film, NOT_RECORDED } from "../machine/film.js";
-import { growSources, sourcesOf } from "../machine/sources.js";
+import { changeFound, foundBy, latestChange, nextText } from "../machine/words.js";
 import { choose, viewAt } from "./choice.js";
+import { Client } from "./client.js";
 import { octalRows } from "./files.js";
-import { changeFound, foundBy, latestChange, nextText } from "./found.js";
-import { keep, keepSession } from "./kept.js";
+import { keepSession } from "./kept.js";
 import { Part } from "./store.js";
 import { branchNow, joinedTrees, withBranch, withSession } from "./tree.js";
 
+const AFTER = 300; // milliseconds until the page says that the worker is busy
 const MOST_WANTED = 0o2000, MOST_BRANCHES = 64; // turns that are recorded where some were skipped; branches that a script begins
 export const NOTE = /^\* (EXERCISE|PANEL) /; // with which a session of an exercise begins
-const textOf = (parts) => ofLines(parts.flatMap((part) => (typeof part === "number" ? stepsOf(part) : [part])));
-export const NO_ROOM = "this browser keeps nothing more: save this file";
 
 export class Session extends Part {
-  // `given` has the files of the run, its options, the exercise if it is one's, and the sources and labels that were loaded.
-  constructor(store, client, about, module) {
-    super(store, { client, about, given: null, opening: null, first: { module, about } });
+  // `engine` is the worker's script, and `module` the simulator.
+  constructor(store, engine, about, module) {
+    super(store, { about, given: null, opening: null, isChanged: false, first: { module, about } });
+    this.client = new Client(this, engine);
   }
 
   // ---- what comes from the worker
 
+  busy(is) {
+    clearTimeout(this.busyTimer);
+    if (is) this.busyTimer = setTimeout(() => this.update({ isBusy: true }), AFTER);
+    else if (this.state.isBusy) this.update({ isBusy: false });
+  }
+
+  working() { this.update({}); }
+  fault(text) { this.say(text, true); }
+
+  moments(delivery) {
+    this.grown(delivery);
+    this.update(this.state.isOpen ? viewAt(this.state) : {});
+  }
+
   grown({ rows, lines }) {
-    const { state } = this, here = state.film && state.film.at;
     if (this.opening) this.beginFilm();
-    const { film, transcript, sources, chosen } = state, first = film.count;
+    const { state } = this, { film, transcript, chosen } = state, first = film.count, firstLine = film.lines.length;
     film.grow({ rows, lines });
-    growSources(film, sources, first);
-    lines.forEach((line, at) => transcript.push({ ...line, line: film.lines.length - lines.length + at }));
+    lines.forEach((line, at) => transcript.push({ ...line, line: firstLine + at }));
     if (this.notesBranches) for (const line of lines) this.noteBranch(line);
-    if (first && film.count === first) film.goTo(here);
     if (chosen) state.changes = [...(first ? state.changes : []), ...film.momentsThatChanged(chosen.places, Math.max(first, 1))];
   }
 
-  // A film without moments takes the place of the one that is shown, with its tree, when the first moments of another session have come.
+  // A film without moments takes the place of the one that is shown, with its tree, when the first moments of another session have
+  // come.
   beginFilm() {
-    const { given, tree } = this.opening, { about } = this, isOfRun = !given.exercise;
-    const sources = { ...(isOfRun ? about.sources : {}), ...given.sources }, labels = { ...(isOfRun ? about.labels : {}), ...given.labels };
-    const film = new Film({ ...about, ...given.options, sources, labels });
+    const { opening: tree, about } = this, given = branchNow(tree).session, own = given.exercise ? {} : about;
+    const known = { sources: { ...own.sources, ...given.sources }, labels: { ...own.labels, ...given.labels } };
+    const film = new Film({ ...about, ...given.options, ...known });
     Object.assign(film, { deck: octalRows(given.deck), panel: octalRows(given.panel).flat() });
-    Object.assign(this, { given, opening: null, notesBranches: !branchNow(tree).session });
-    Object.assign(this.state, { film, tree, sources: sourcesOf(film), exercise: given.exercise || null, transcript: [], checked: null,
-      sentLast: null, origin: null, setting: null, line: null });
+    Object.assign(this, { given, opening: null });
+    const none = { checked: null, sentLast: null, origin: null, setting: null, line: null };
+    Object.assign(this.state, { film, tree, exercise: given.exercise || null, transcript: [], ...none });
   }
 
-  // An action after a BACK begins a branch, in the session: what was taken back stays in the branch before it, with the lines up to there.
+  // An action after a BACK begins a branch, in the session: what was taken back stays in the branch before it, with the lines up to
+  // there.
   noteBranch({ text, acts, first }) {
     const { film, tree } = this.state;
     let end = first - 1; // the newest moment before the BACK
     while (film.kinds[end] === JUMP) end--;
     if (!acts || film.kinds[first] === JUMP || film.resolve(first - 1) === end || tree.all.length >= MOST_BRANCHES) return;
-    const lines = film.lineAt[end] + 1, before = { ...this.given, script: ofLines(this.typedLines().slice(0, lines)), moment: end };
-    this.state.tree = withBranch(withSession(tree, before, lines), text, film.turn[first - 1]);
+    const lines = film.lineAt(end) + 1, before = { ...this.given, script: ofLines(this.typedLines().slice(0, lines)), moment: end };
+    this.state.tree = withBranch(withSession(tree, before, lines), text, null, film.turn[first - 1]);
   }
 
-  // ---- opening
-
-  // Performs a script from the beginning, with the files of a run, and shows its end or a moment. The tree has the session as its present.
-  async open(given, tree, { moment, isTrusted = false } = {}) {
-    const { script, deck = "", panel = "", options = {}, wanted = [] } = given;
-    this.opening = { given, tree };
+  // Performs the script of the present session of a tree from the beginning, and shows its moment or its end. One that is new may
+  // take a while, and begins branches where it goes back.
+  async open(tree, { isNew = false, isTrusted = !isNew } = {}) {
+    const { script, deck = "", panel = "", options = {}, wanted = [], moment } = branchNow(tree).session;
+    Object.assign(this, { opening: tree, notesBranches: isNew });
     const reply = await this.client.ask("open", { given: { script, deck, panel, options }, wanted, isTrusted, ...this.first });
-    const { tree: now } = this.state, isNew = tree.all.length === 1 && !branchNow(tree).session;
-    Object.assign(this, { opening: null, first: {}, notesBranches: true, begun: isNew ? now.all.length : 1 }); // branches, as it was opened
+    Object.assign(this, { opening: null, notesBranches: true, first: {} });
     this.say(reply.said || "", Boolean(reply.isWrong));
     if (!reply.isFault) this.show(moment);
     return reply;
@@ -73,9 +85,8 @@ export class Session extends Part {
 
   // Shows a moment of the film, or its end.
   show(moment = -1) {
-    const { state } = this, { film, chosen } = state;
+    const { state, film } = this, place = state.chosen && film.placeNamed(state.chosen.name);
     film.goTo(moment < 0 ? film.last : moment);
-    const place = chosen && film.placeNamed(chosen.name);
     this.update({ ...viewAt(state), ...(place ? choose(state, place) : {}) });
   }
 
@@ -106,9 +117,10 @@ export class Session extends Part {
   }
 
   async perform(line) {
-    const { film } = this.state;
-    if (film.at === film.last) return this.performHere(line);
-    if ((await this.movesInFilm(line)) || (await this.findsInFilm(line))) return true;
+    const { film } = this, [, back, condition] = UNTIL.exec(line) || [], isAtEnd = film.at === film.last;
+    if (condition !== undefined && !isAtEnd) return this.findsInFilm(line, condition, Boolean(back));
+    if (isAtEnd) return condition === undefined ? this.performHere(line) : this.search(condition, Boolean(back));
+    if (await this.movesInFilm(line)) return true;
     if (/^\s*STEP\b/i.test(line)) return this.performHere(line);
     const { answer, acts, said } = await this.look(`${line}\n`);
     if (acts) return this.performHere(line);
@@ -116,12 +128,87 @@ export class Session extends Part {
     return Boolean(answer) && !/^ERR /.test(answer[0] || "");
   }
 
+  // Performs lines where the page is. Anywhere but at the newest moment they begin a branch, so that nothing is lost.
+  act(lines) { return this.inTurn(() => this.performHere(...lines)); }
+
+  async performHere(...lines) {
+    const { isNew, isWrong, said } = await this.send(lines), { film } = this;
+    const found = isNew && !isWrong ? foundBy(film, film.lines.at(-1)) : null;
+    return this.tell(found ? `${said}${found.text}` : isWrong ? said : "", isWrong, found);
+  }
+
+  async send(lines) {
+    const isInPast = this.film.at !== this.film.last, { state } = this;
+    if (isInPast && !(await this.branch(lines[0]))) return { ...state.said, said: state.said.text };
+    const { film } = this, end = film.last, { said, isWrong = false } = await this.client.ask("act", { lines });
+    if (film.last > end) film.goTo(film.last);
+    return { said, isWrong, isNew: film.last > end };
+  }
+
+  // Says what has come of lines at the newest moment, and chooses the place that was found. Returns whether all is well.
+  tell(text, isWrong, found) {
+    const { state, film } = this;
+    this.update({ said: { text, isWrong }, sentLast: state.transcript.at(-1), ...viewAt(state) });
+    if (found) this.update(choose(state, film.placeNamed(found.name)));
+    this.keepSoon();
+    return !isWrong;
+  }
+
+  // At the newest moment: goes back to where a condition came to hold last, or makes turns up to where it does.
+  async search(condition, isBack) {
+    const from = this.film.position[this.film.at], parts = [...this.film.partsInEffect(), ...(isBack ? [] : [Infinity])];
+    const { found = null, end, said } = await this.find(parts, from, condition, isBack);
+    const vain = isBack ? "not before this" : `not among the next ${octal(end - from)} turns`;
+    if (found === null) this.say(said || vain, true);
+    if (found === null) return false;
+    const linesTo = (left) => (left < 0 ? [moveBy(left)] : stepsOf(left));
+    let reply = { isWrong: false };
+    for (let left = found - from; left && !reply.isWrong && !this.isStopped; left = found - this.film.position[this.film.at]) {
+      reply = await this.send(linesTo(left));
+    }
+    const change = reply.isWrong ? null : changeFound(this.film, condition);
+    const turn = `found: turn ${octal(this.film.turn[this.film.at])}`;
+    return this.tell(reply.isWrong ? reply.said : `${turn}${change ? change.text : ""}`, reply.isWrong, change);
+  }
+
+  // After how many actions a condition comes to hold the first time after some, or the last time before; and up to where one has
+  // looked.
+  find(parts, from, text, isBack) {
+    return this.client.ask("find", { given: this.files(), parts, from, text, isBack, labels: this.film.labels });
+  }
+
+  // The moment of the film at which a condition comes to hold next, or came to hold last, of what is in effect; null if there is
+  // none. Turns that were skipped are recorded for it, and then shown.
+  async momentOf(text, isBack) {
+    const { film } = this, { position, kinds, count, breaks } = film;
+    for (let from = film.at; from < count;) {
+      const jump = isBack ? count : breaks.find((moment) => moment > from && kinds[moment] === JUMP) ?? count;
+      const { found, said } = await this.find(film.partsInEffect(isBack ? from : jump - 1), position[from], text, isBack);
+      if (said) return { at: null, said };
+      const at = found === null ? null : film.nearest(isBack ? -1 : 1, (moment) => position[moment] === found, from);
+      if (at > 0 || (at === NOT_RECORDED && (await this.recordAt(found)))) return { at };
+      from = jump;
+    }
+    return { at: null };
+  }
+
   // What lines answer at the moment that is shown, in a session of their own; some of the parts of the script may be enough.
-  look(text, parts = this.film.partsInEffect(this.film.at)) { return this.client.ask("look", { given: this.files(), parts, text }); }
+  look(text, parts = this.film.partsInEffect()) { return this.client.ask("look", { given: this.files(), parts, text }); }
+
+  // A search in the past looks among the moments that the film has, and only moves what is shown.
+  async findsInFilm(line, condition, isBack) {
+    const { film } = this, { at, said } = await this.momentOf(condition, isBack);
+    if (at === NOT_RECORDED) return true;
+    const vain = isBack ? "not before this" : "not in the film after this: at its end a search makes turns";
+    if (at === null) return this.addLook(line, [said || vain]);
+    film.goTo(at);
+    const change = changeFound(film, condition);
+    return this.addLook(line, [`shown: the film has it${change ? change.text : ""}`], change && change.name);
+  }
 
   // A BACK, FORWARD or STEP in the past, if the film has where it leads, only moves what is shown.
   movesInFilm(line) {
-    const [command, word = "1"] = wordsIn(line), { film } = this.state, way = { BACK: -1, FORWARD: 1, STEP: 1 }[command];
+    const [command, word = "1"] = wordsIn(line), { film } = this, way = { BACK: -1, FORWARD: 1, STEP: 1 }[command];
     if (command === "BACK" && word === "W") return this.movesToChange(line);
     if (!way || !/^[0-7]+$/.test(word)) return false;
     const count = parseInt(word, 8), goal = film.position[film.at] + way * count, isStep = command === "STEP";
@@ -134,39 +221,11 @@ export class Session extends Part {
 
   // A BACK W too, to before the latest change of a watched number.
   movesToChange(line) {
-    const { film, sources } = this.state, found = latestChange(film, film.watched(), film.at);
-    if (!found || film.changeBefore(film.momentsThatChanged(film.placeNamed(found.name).places), film.at) !== found.moment) return false;
+    const { film } = this, found = latestChange(film, film.watched(), film.at);
+    const changes = found && film.momentsThatChanged(film.placeNamed(found.name).places);
+    if (!found || film.changeBefore(changes, film.at) !== found.moment) return false;
     film.goTo(found.moment - 1);
-    return this.addLook(line, [`shown: the film has it${nextText(film, sources, found)}`], found.name);
-  }
-
-  // A search in the past looks among the moments that the film has, and only moves what is shown.
-  async findsInFilm(line) {
-    const [, back, text] = UNTIL.exec(line) || [], { film, sources } = this.state, isBack = Boolean(back);
-    if (text === undefined) return false;
-    const { at, said } = await this.momentOf(text, isBack);
-    if (at === NOT_RECORDED) return true;
-    const vain = isBack ? "not before this" : "not in the film after this: at its end a search makes turns";
-    if (at === null) return this.addLook(line, [said || vain]);
-    film.goTo(at);
-    const change = changeFound(film, sources, text);
-    return this.addLook(line, [`shown: the film has it${change ? change.text : ""}`], change && change.name);
-  }
-
-  // The moment of the film at which a condition comes to hold next, or came to hold last, of what is in effect; null if there is none.
-  // Turns that were skipped are recorded for it, and then shown.
-  async momentOf(text, isBack) {
-    const { film } = this.state, { position, kinds, count, breaks, labels } = film;
-    for (let from = film.at; from < count;) {
-      const jump = isBack ? count : breaks.find((moment) => moment > from && kinds[moment] === JUMP) ?? count;
-      const parts = film.partsInEffect(isBack ? from : jump - 1);
-      const { found, said } = await this.client.ask("find", { given: this.files(), parts, from: position[from], text, isBack, labels });
-      if (said) return { at: null, said };
-      const at = found === null ? null : film.nearest(isBack ? -1 : 1, (moment) => position[moment] === found, from);
-      if (at > 0 || (at === NOT_RECORDED && (await this.recordAt(found)))) return { at };
-      from = jump;
-    }
-    return { at: null };
+    return this.addLook(line, [`shown: the film has it${nextText(film, found)}`], found.name);
   }
 
   // Notes a line that only looked, and chooses the place with a name.
@@ -177,27 +236,15 @@ export class Session extends Part {
     return true;
   }
 
-  // Performs lines where the page is. Anywhere but at the newest moment they begin a branch, so that nothing is lost.
-  act(lines) { return this.inTurn(() => this.performHere(...lines)); }
+  // Records turns that were skipped, the last ones up to so many actions, and shows the last of these.
+  unskip(position = this.film.position[this.film.at]) { return this.inTurn(() => this.recordAt(position)); }
 
-  async performHere(...lines) {
-    const { film: before } = this.state;
-    if (before.at !== before.last && !(await this.branch(lines[0]))) return false;
-    const { film } = this.state, end = film.last, { labels } = film;
-    const reply = await this.client.ask("act", { lines, position: film.position[film.at], labels });
-    const { state } = this, isNew = film.last > end, [, , condition] = UNTIL.exec(lines.at(-1)) || [];
-    if (isNew) film.goTo(film.last);
-    const found = !isNew || reply.isWrong ? null : this.found(condition), said = `${reply.said}${found ? found.text : ""}`;
-    const isSaid = reply.isWrong || found || condition !== undefined;
-    this.update({ said: { text: isSaid ? said : "", isWrong: Boolean(reply.isWrong) }, sentLast: state.transcript.at(-1), ...viewAt(state),
-      ...(found ? choose(state, film.placeNamed(found.name)) : {}) });
-    this.keepSoon();
-    return !reply.isWrong;
-  }
-
-  found(condition) {
-    const { film, sources } = this.state;
-    return condition === undefined ? foundBy(film, sources, film.lines.at(-1)) : changeFound(film, sources, condition);
+  async recordAt(position) {
+    const range = [Math.max(0, position - MOST_WANTED), position];
+    const wanted = [...(this.given.wanted || []), range].sort((one, other) => one[0] - other[0]);
+    const reply = await this.open(withSession(this.tree(), { ...this.now(), wanted }));
+    if (!reply.isFault) this.show(this.film.position.indexOf(position));
+    return !reply.isFault;
   }
 
   // ---- the lines of the session
@@ -206,80 +253,66 @@ export class Session extends Part {
 
   // The lines as they were typed, with the turns that they made.
   typedLines() {
-    return this.state.film.lines.map(({ text, answer }) => (answer[1] === "stopped" ? `STEP ${answer[0].split(" ")[1]}` : text));
+    return this.film.lines.map(({ text, answer }) => (answer[1] === "stopped" ? `STEP ${answer[0].split(" ")[1]}` : text));
   }
 
   // Those that give the session in the program, which goes back less.
   scriptToSave() {
-    const lines = this.typedLines(), { film } = this.state, at = film.lines.findLastIndex(({ answer }) => answer[1] === "replayed");
-    return at < 0 ? ofLines(lines) : textOf(film.partsInEffect(film.lines[at].moment)) + ofLines(lines.slice(at + 1));
+    const lines = this.typedLines(), { film } = this, at = film.lines.findLastIndex(({ answer }) => answer[1] === "replayed");
+    return at < 0 ? ofLines(lines) : scriptOf(film.partsInEffect(film.lines[at].moment)) + ofLines(lines.slice(at + 1));
   }
 
-  now() { return { ...this.given, script: ofLines(this.typedLines()), moment: this.state.film.at }; }
+  now() { return { ...this.given, script: ofLines(this.typedLines()), moment: this.film.at }; }
 
-  // ---- branches
+  tree() { return withSession(this.state.tree, this.now(), this.film.lines.length); }
 
-  tree() { return withSession(this.state.tree, this.now(), this.state.film.lines.length); }
-
-  async branch(name) {
-    const { film } = this.state, tree = this.tree(), from = film.turn[film.at],
-      notes = this.given.script.split("\n").filter((line) => NOTE.test(line));
-    return this.begin({ ...this.given, script: ofLines(notes) + textOf(film.partsInEffect(film.at)) }, withBranch(tree, name, from), true);
+  // Begins a branch at the moment that is shown, with what is in effect there.
+  branch(name) {
+    const { film } = this, notes = this.given.script.split("\n").filter((line) => NOTE.test(line));
+    const given = { ...this.given, script: ofLines(notes) + scriptOf(film.partsInEffect()) };
+    return this.begin(withBranch(this.tree(), name, given, film.turn[film.at]), true);
   }
 
   // Begins another session beside those of the tree.
-  beginBeside(name, given) { return this.inTurn(() => this.begin(given, withBranch(this.tree(), name))); }
+  beginBeside(name, given) { return this.inTurn(() => this.begin(withBranch(this.tree(), name, { ...given, wanted: [] }))); }
 
-  async begin(given, tree, isTrusted = false) {
-    const reply = await this.open(given, tree, { isTrusted });
+  async begin(tree, isTrusted = false) {
+    const reply = await this.open(withSession(tree, { ...branchNow(tree).session, moment: undefined }), { isNew: true, isTrusted });
     this.keepSoon();
     return !reply.isFault && !reply.isWrong;
   }
 
   goToBranch(id) {
     return this.inTurn(async () => {
-      const tree = this.tree(), { session } = tree.all.find((one) => one.id === id);
-      if (id === tree.now) return;
-      await this.open(session, { ...tree, now: id }, { moment: session.moment, isTrusted: true });
+      if (id !== this.state.tree.now) await this.open({ ...this.tree(), now: id });
+      this.keepSoon();
     });
   }
 
   // To the session in whose past this one began; it stays in the tree.
-  leaveBranch() {
-    const { all, now } = this.state.tree, { parent } = all.find(({ id }) => id === now);
-    return this.goToBranch(parent ?? 0);
-  }
-
-  // Records turns that were skipped, the last ones up to so many actions, and shows the last of these.
-  unskip(position = this.film.position[this.film.at]) { return this.inTurn(() => this.recordAt(position)); }
-
-  async recordAt(position) {
-    const wanted = [...(this.given.wanted || []), [Math.max(0, position - MOST_WANTED), position]].sort((one, other) => one[0] - other[0]);
-    const reply = await this.open({ ...this.now(), wanted }, this.tree(), { isTrusted: true });
-    if (!reply.isFault) this.show(this.film.position.indexOf(position));
-    return !reply.isFault;
-  }
-
-  // ---- what is kept
-
-  // Keeps the session, unless it is as it was opened: then one in which more was done would no longer be the latest.
-  keepNow() {
-    clearTimeout(this.timer);
-    const { exercise, exercises, solved, film } = this.state;
-    if (!film || !this.given) return;
-    const tree = this.tree(), isAsOpened = tree.all.length === this.begun && branchNow(tree).session.script === this.given.script;
-    this.state.tree = tree;
-    const isKept = (isAsOpened || keepSession(exercise, { tree })) && (!exercises.length || keep("solved", solved));
-    if (!isKept) this.say(NO_ROOM, true);
-  }
+  leaveBranch() { return this.goToBranch(branchNow(this.state.tree).parent ?? 0); }
 
   // Goes on with a session that was kept, beside what has been typed here.
   restore({ tree }) {
     return this.inTurn(async () => {
-      const { session } = branchNow(tree), isTyped = this.state.tree.all.length > this.begun || this.now().script !== this.given.script;
-      const all = isTyped ? joinedTrees(this.tree(), tree) : tree;
-      const reply = await this.open(session, all, { moment: session.moment, isTrusted: true });
+      const reply = await this.open(this.isChanged ? joinedTrees(this.tree(), tree) : tree);
       if (!reply.isFault) this.update({ offer: null });
     });
+  }
+
+  // ---- what is kept
+
+  keepSoon() {
+    this.isChanged = true;
+    super.keepSoon();
+  }
+
+  // Keeps the session, unless it is as it was opened: then one in which more was done would no longer be the latest.
+  keepNow() {
+    clearTimeout(this.timer);
+    const { state } = this;
+    if (!this.given || !this.isChanged) return;
+    state.tree = this.tree();
+    this.keepOr(keepSession(state.tree, state.exercise));
   }
 }

@@ -1,6 +1,7 @@
 // ---- a number that is set in its place: a text becomes the line that sets it
 
 import { CELLS, SETTABLE, addressIn, four, placeWith } from "../machine/places.js";
+import { FORM } from "../machine/turns.js";
 
 export const canSet = (place) => place !== null && SETTABLE.includes(place.kind) && place.name !== "H 14";
 
@@ -11,23 +12,21 @@ export function settingLine(film, { kind, name, numbers }, text) {
   return `SET ${name} ${state}${words}`;
 }
 
-// The words of one instruction at a cell: in the form that the page has, as FNC 12 0001 or UJN TO 0105; or with m first, as FNC 1,12.
-export function wordsOf(film, text, n, address) {
-  const { names, two_words: twoWords, relative_jumps: jumps } = film.about;
-  const [name, ...all] = text.replace(/^(\w+) +[0-7]+ +TO /, "$1 TO ").split(/[\s,]+/), code = names.indexOf(name);
+// The words of one instruction at a cell: in the form that the page has, as FNC 12 0001 or UJN TO 0105; or with m first, as FNC
+// 1,12.
+export function wordsOf({ about, labels }, text, n, address) {
+  const [name, ...all] = text.replace(/^(\w+) +[0-7]+ +TO /, "$1 TO ").split(/[\s,]+/);
+  const code = about.instructions.findIndex((one) => one.name === name), { words: most, form } = about.instructions[code] || {};
   if (code < 0) throw new Error(`${name} is no instruction, such as LDN 5, IAM 12 60 or UJN TO 105`);
-  const most = twoWords.includes(code) ? 2 : 1;
-  const numbers = all.filter((word) => word !== "TO").map((word) => addressIn(word, film.labels[n]));
+  const numbers = all.filter((word) => word !== "TO").map((word) => addressIn(word, labels[n]));
   if (numbers.includes(null) || numbers.length > most) throw new Error(`${name} takes ${most} octal numbers or labels`);
   if (text.includes(",")) numbers.reverse();
-  if (jumps.includes(code) && (all[0] === "TO" || !/^[0-7]{1,2}$/.test(all[0]))) numbers[0] = distance(address, numbers[0]);
-  const [d = 0, m = 0] = most === 2 && numbers.length === 1 ? oneNumber(code, numbers[0]) : numbers;
+  if (form === FORM.TARGET && (all[0] === "TO" || !/^[0-7]{1,2}$/.test(all[0]))) numbers[0] = distance(address, numbers[0]);
+  const halves = form === FORM.CONSTANT ? [numbers[0] >> 12, numbers[0] & 0o7777] : [0, ...numbers];
+  const [d = 0, m = 0] = most === 2 && numbers.length === 1 ? halves : numbers;
   if (d > 0o77 || m > 0o7777) throw new Error("d is 0 to 77, and m 0 to 7777");
   return [(code << 6) | d, m].slice(0, most);
 }
-
-// The d and m of an instruction with two words and one number: of those with a constant of 18 bits this has both.
-const oneNumber = (code, number) => (code >= 0o20 && code < 0o24 ? [number >> 12, number & 0o7777] : [0, number]);
 
 // The d of a relative jump.
 function distance(from, to) {

@@ -1,6 +1,7 @@
 // ---- the state of the page, and its one way to the screen: every change of an event leads to one drawing
 
 const AFTER = 300; // milliseconds
+const NO_ROOM = "this browser keeps nothing more: save this file";
 
 // A part of the page: what it does changes the state.
 export class Part {
@@ -10,6 +11,7 @@ export class Part {
   get film() { return this.store.state.film; }
   update(patch) { this.store.change(patch); }
   say(text, isWrong = false) { this.store.change({ said: { text, isWrong } }); }
+  keepOr(isKept) { if (!isKept) this.say(NO_ROOM, true); }
 
   // Keeps in the browser what has changed, when nothing more has changed for a while.
   keepSoon() {
@@ -26,11 +28,13 @@ export class Store {
     Object.assign(this.state, patch);
     if (this.isWaiting) return;
     this.isWaiting = true;
-    queueMicrotask(() => this.flush());
+    queueMicrotask(() => {
+      this.isWaiting = false;
+      this.flush();
+    });
   }
 
   flush() {
-    this.isWaiting = false;
     this.drawings++;
     this.draw(this.state);
   }

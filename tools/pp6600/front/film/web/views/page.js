@@ -3,23 +3,23 @@
 import { h } from "../page/dom.js";
 import { bar, morePane } from "./bar.js";
 import { barrelPane } from "./barrel.js";
-import { branchesPane } from "./branches.js";
-import { consolePane } from "./console.js";
+import { branchesPane, consolePane } from "./console.js";
 import { devicesPane, picturesPane } from "./devices.js";
 import { editorPane } from "./editor.js";
 import { exercisePane, projectedTask } from "./exercise.js";
 import { centralPane, channelsPane, processorsPane } from "./machine.js";
-import { memoryPane } from "./memory.js";
+import { memoryPane, originPane } from "./memory.js";
 import { now } from "./now.js";
-import { originPane } from "./origin.js";
 import { marksOf } from "./parts.js";
 import { help, runPane, settingField } from "./run.js";
 import { sourcePane } from "./source.js";
 import { timeline } from "./timeline.js";
 
 const PANES = {
-  source: sourcePane, memory: memoryPane, origin: originPane, barrel: barrelPane, processors: processorsPane, channels: channelsPane,
-  central: centralPane, devices: devicesPane, pictures: picturesPane, console: consolePane, branches: branchesPane, editor: editorPane,
+  source: sourcePane, memory: memoryPane, origin: originPane, barrel: barrelPane, processors: processorsPane,
+  channels: channelsPane,
+  central: centralPane, devices: devicesPane, pictures: picturesPane, console: consolePane, branches: branchesPane,
+  editor: editorPane,
   exercise: exercisePane, run: runPane, more: morePane,
 };
 
@@ -41,10 +41,11 @@ const TABS = { debug: ["source", "memory", "processors", "console", "barrel", "d
   class: ["exercise", "editor", "memory", "processors", "console", "barrel", "devices", "branches", "more"] };
 const TAB_NAMES = { processors: "machine", exercise: "exercises" };
 // What a tab of a phone has beside its pane.
-const BESIDE = { processors: ["channels", "central"], source: ["processors"], memory: ["origin"], more: ["run"], barrel: ["pictures"] };
+const BESIDE = { processors: ["channels", "central"], source: ["processors"], memory: ["origin"], more: ["run"],
+  barrel: ["pictures"] };
 
-const columnsOf = ({ look, columns, sources }) =>
-  (look === "projector" ? PROJECTED[sources.size ? "source" : "none"] : COLUMNS[look][columns]);
+const columnsOf = ({ look, columns, film }) =>
+  (look === "projector" ? PROJECTED[film.sources.size ? "source" : "none"] : COLUMNS[look][columns]);
 
 function onPhone({ look, tab }, part) {
   const tabs = TABS[look] || TABS.debug, seen = tabs.includes(tab) ? tab : tabs[0];
@@ -55,9 +56,11 @@ function onPhone({ look, tab }, part) {
 }
 
 export function page(state) {
-  const { look, isPhone, columns } = state, marks = marksOf(state), part = (name) => PANES[name](state, marks), task = projectedTask(state);
+  const { look, isPhone, columns } = state, marks = marksOf(state), part = (name) => PANES[name](state, marks);
+  const task = projectedTask(state);
+  const column = (names) => h("div.column", names.map(part));
   return h("div", { class: `app ${look} ${isPhone ? "phone" : `of${columns}`}${task ? " tasked" : ""}` },
     h("header", bar(state), now(state, marks)), timeline(state), task,
-    isPhone ? onPhone(state, part) : h("main.columns", columnsOf(state).map((names) => h("div.column", names.split(" ").map(part)))),
+    isPhone ? onPhone(state, part) : h("main.columns", columnsOf(state).map((names) => column(names.split(" ")))),
     state.setting && state.chosen ? settingField(state) : null, state.help ? help(state) : null);
 }

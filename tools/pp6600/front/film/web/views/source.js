@@ -6,9 +6,10 @@ import { countUpTo } from "../machine/film.js";
 import { isLoaded, lineOfMoment, lineOfNext, markOf } from "../machine/sources.js";
 import { meaningOf } from "../machine/words.js";
 import { sourceSeen } from "../page/choice.js";
-import { numberAt, pane } from "./parts.js";
+import { gutter, numberAt, pane } from "./parts.js";
 
 const FIELDS = /^(.{0,9}\S*\s*)(\S*\s*)(\S*\s*)(.*)$/; // location, operation, variable, comments
+const NO_MARK = { text: "", address: null }, NOT_YET = { text: "not yet", address: null };
 const kept = keeper();
 
 // The operation of a line, which is behind the label in column 1 or 2.
@@ -18,14 +19,9 @@ const operationIn = (line) => (/^ ?[^*\s]?\S*\s+(\S+)/.exec(line) || [])[1];
 function textOfLine(text) {
   if (/^\s*\*/.test(text)) return h("em", text);
   const [, label, operation, operand, comment] = FIELDS.exec(text.padEnd(1));
-  const struck = (part) => {
-    const word = part.trim(), at = part.indexOf(word);
-    return word ? [part.slice(0, at), h("s", word), part.slice(at + word.length)] : part;
-  };
+  const struck = (part) => part.split(/(\s+)/).map((word) => (word.trim() ? h("s", word) : word));
   return [h("span.label", struck(label)), h("b", struck(operation)), struck(operand), comment ? h("em", comment) : null];
 }
-
-const NO_MARK = { text: "", address: null }, NOT_YET = { text: "not yet", address: null };
 
 function markOfLine(film, source, line) {
   if (!line.words.length) return NO_MARK;
@@ -34,42 +30,38 @@ function markOfLine(film, source, line) {
 
 // The row of a line. Its description is kept as long as it stays the same, if no number is in it.
 function row(state, source, line, mark, { next, done, marks }) {
-  const { n } = source, { number, address } = line, isHere = number === next.number,
-    isPoint = address !== undefined && state.breakpoints.has(`${n} ${address}`);
-  const note = isHere ? next.note : "";
-  const describe = () => rowOf(state, source, line, { mark, isPoint, isHere, note, isDone: number === done, marks });
+  const { number, address, times } = line, isHere = number === next.number, isDone = number === done;
+  const describe = () => rowOf(state, source, line, { mark, isHere, isDone, note: isHere ? next.note : "", marks });
   if (mark.address !== null || isHere) return describe();
-  return kept(line, [mark.text, number === done, isPoint, n, line.times.length > 0].join(), describe);
+  return kept(line, [mark.text, isDone, state.breakpoints.has(`${source.n} ${address}`), times.length > 0].join(), describe);
 }
 
-function rowOf({ film }, { n }, { number, text, address, words, times }, { mark, isPoint, isHere, note, isDone, marks }) {
-  const isLost = mark.text === "now", place = mark.address === null ? null : placeWith("M", n, mark.address);
-  const point = address === undefined ? {} : { "data-point": `${n} ${address}`, title: `a breakpoint of PP ${two(n)} at ${four(address)}` };
-  const title = [meaningOf(film.about, operationIn(text)), times.length ? "click: to its next time; with Shift to the one before" : ""]
-    .filter(Boolean).join("\n");
-  return h("tr", { class: classes({ here: isHere, done: isDone, lost: isLost, unloaded: mark.text === "not yet" }),
-    seen: isHere ? `${film.at} ${n}` : undefined },
-    h("td", { class: classes({ gutter: true, point: isPoint }), "aria-label": isPoint ? "breakpoint" : null, ...point }, isHere ? "▶" : "",
-      h("i", number)),
-    h("td", address === undefined ? {} : { class: "address", "data-place": `M ${two(n)} ${four(address)}` },
-      address === undefined ? "" : four(address)),
-    h("td.text", { "data-line": words.length ? number : null, title }, h("span", textOfLine(text))),
-    h("td.nowis", place ? [mark.text, " ", numberAt(film, marks, place)] : mark.text || note));
+function rowOf(state, { n }, { number, text, address, words, times }, { mark, isHere, isDone, note, marks }) {
+  const { film } = state, hasAddress = address !== undefined, wrong = mark.address !== null && placeWith("M", n, mark.address);
+  const title = [meaningOf(film.about, operationIn(text)),
+    times.length ? "click: to its next time; with Shift to the one before" : ""];
+  const is = { here: isHere, done: isDone, lost: mark.text === "now", unloaded: mark.text === "not yet" };
+  return h("tr", { class: classes(is), seen: isHere ? `${film.at} ${n}` : undefined },
+    gutter(state, n, address, isHere ? "▶" : "", number),
+    hasAddress ? h("td.address", { "data-place": `M ${two(n)} ${four(address)}` }, four(address)) : h("td"),
+    h("td.text", { "data-line": words.length ? number : null, title: title.filter(Boolean).join("\n") },
+      h("span", textOfLine(text))),
+    h("td.nowis", wrong ? [mark.text, " ", numberAt(film, marks, wrong)] : mark.text || note));
 }
 
 // How often the line that was clicked was performed, and which time is shown.
 function timesOf({ film, line }, source) {
   const { times = [] } = (line && source.lines[line - 1]) || {};
+  const button = (action, title, text) => h("button", { "data-action": action, title }, text);
   return times.length ? [h("span", `line ${line}: time ${octal(countUpTo(times, film.at))} of ${octal(times.length)}`),
-    h("button", { "data-action": "time-before", title: "the time before (Shift click)" }, "◂"),
-      h("button", { "data-action": "next-time", title: "the next time (click)" }, "▸")] : [];
+    button("time-before", "the time before (Shift click)", "◂"), button("next-time", "the next time (click)", "▸")] : [];
 }
 
 export function sourcePane(state, marks) {
   const { film } = state, source = sourceSeen(state), edit = h("button", { "data-action": "edit", title: "in the editor" }, "edit");
-  if (!source) return pane(state, "source", "Source", edit, h("p.empty", "No source is loaded. Write one in the editor, and load it."));
-  const isOwn = film.isTurn(film.at) && film.processor[film.at] === source.n,
-    did = isOwn ? lineOfMoment(film, state.sources, film.at) : { number: 0, note: "" };
+  if (!source) return pane(state, "source", "Source", edit,
+    h("p.empty", "No source is loaded. Write one in the editor, and load it."));
+  const did = marks.actor === source.n ? lineOfMoment(film, film.at) : { number: 0, note: "" };
   const about = { next: lineOfNext(film, source), done: did.note ? 0 : did.number, marks };
   const all = source.lines.map((line) => markOfLine(film, source, line)), lost = all.filter(({ text }) => text === "now").length;
   return pane(state, "source", `Source of PP ${two(source.n)}`,
