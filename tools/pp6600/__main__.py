@@ -3,6 +3,7 @@
 import importlib
 import os
 import sys
+from typing import Any, Callable, NoReturn
 
 from .failure import Failure
 from .shell.ending import run
@@ -14,14 +15,15 @@ MODULES = {**{name: f"convert.{name}" for name in ("assemble", "deck", "disassem
            "state": "front.commands.state_screen", "symbols": "convert.symbol_list"}
 
 
-def main_of(name):
+def main_of(name: str) -> Callable[[], Any]:
     """Returns the function that runs a tool."""
     if name not in MODULES:
         raise Failure(f"{name or 'nothing'} is no tool; the tools are {', '.join(sorted(MODULES))}")
-    return importlib.import_module(f".{MODULES[name]}", __package__).main
+    main: Callable[[], Any] = importlib.import_module(f".{MODULES[name]}", __package__).main
+    return main
 
 
-def launch():
+def launch() -> NoReturn:
     """Runs the tool by whose name the program was called; in an installation it may be pp6600-until."""
     name = os.path.basename(sys.argv[0])
     run(lambda: main_of(name.replace("pp6600-", "", 1))())

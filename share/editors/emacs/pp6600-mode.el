@@ -24,10 +24,11 @@
      "UJN" "ZJN")
     'font-lock-keyword-face)
    (pp6600-mode--operations
-    '("=" "ABS" "ADK" "BASE" "BSS" "BSSZ" "COMMENT" "CON" "CTEXT" "DATA" "DECMIC" "DIS"
-     "EJECT" "END" "ENDX" "ENTRY" "EQU" "ERR" "ERRMI" "ERRNG" "ERRNZ" "ERRPL" "ERRZR" "IDENT"
-     "LDK" "LIST" "LIT" "LOC" "MAX" "MICCNT" "MICRO" "MIN" "NIL" "NOLABEL" "NOREF" "OCTMIC"
-     "ORG" "PERIPH" "QUAL" "SET" "SPACE" "SST" "TITLE" "TTL" "USE" "VFD" "XREF")
+    '("=" "ABS" "ADK" "BASE" "BSS" "BSSZ" "CODE" "COL" "COMMENT" "CON" "CTEXT" "DATA"
+     "DECMIC" "DIS" "EJECT" "END" "ENDX" "ENTRY" "EQU" "ERR" "ERRMI" "ERRNG" "ERRNZ" "ERRPL"
+     "ERRZR" "IDENT" "LCC" "LDK" "LIST" "LIT" "LOC" "MAX" "MICCNT" "MICRO" "MIN" "NIL"
+     "NOLABEL" "NOREF" "OCTMIC" "ORG" "PERIPH" "POS" "QUAL" "SEG" "SET" "SPACE" "SST" "TITLE"
+     "TTL" "USE" "VFD" "XREF")
     'font-lock-builtin-face)
    (pp6600-mode--operations
     '("DUP" "ECHO" "ELSE" "ENDD" "ENDIF" "ENDM" "IF" "IFC" "IFCP" "IFEQ" "IFGE" "IFGT"
@@ -35,8 +36,8 @@
      "STOPDUP" "SUBR")
     'font-lock-preprocessor-face)
    (pp6600-mode--operations
-    '("CCF" "CFM" "COL" "EXT" "IAPM" "MAN" "MXN" "OAPM" "OPDEF" "ORGC" "POS" "PPOP"
-     "PPU" "SCF" "SEG" "SEGMENT" "SFM" "STEXT" "STOPDUP")
+    '("CCF" "CFM" "EXT" "IAPM" "MAN" "MXN" "OAPM" "OPDEF" "ORGC" "PPOP" "PPU" "SCF"
+     "SEGMENT" "SFM" "STEXT")
     'font-lock-warning-face)
    '("\\_<[0-9]+[BDObdo]?\\_>" 0 font-lock-constant-face)
    (list (concat pp6600-mode--before "[^ \t\n]+[ \t]+[^ \t\n]+[ \t]+\\(.+\\)") 1 'font-lock-comment-face t)))

@@ -1,1 +1,1 @@
-"""Tools that need no simulator: they turn words, cards, tapes, sources and symbols into each other."""
+"""Tools that turn words, cards, tapes, sources and symbols into each other; `save` and `show` perform a script first."""

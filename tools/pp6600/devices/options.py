@@ -1,7 +1,6 @@
 """The option --device: a device of one's own on a channel, by its name, or by its file and its class."""
 
 import importlib
-import inspect
 import pkgutil
 import sys
 import types
@@ -18,8 +17,6 @@ from ..run.tape import Position
 from ..shell.options import Parser, simulator, up_to
 from ..shell.script import Refusals, Script, performed
 from ..shell.text_files import bytes_of, lines_of, script_lines
-from .controller import Controller
-from .converter import Converter
 
 FORM = "NAME[:WORD,..]@CHANNEL"
 NAMES = sorted({module.name for module in pkgutil.iter_modules(devices.__path__)} - {"controller", "converter", "options", "pictures", "tape_file"})
@@ -33,6 +30,8 @@ def add_devices(parser: Parser) -> None:
 
 def devices_of(asked: Namespace) -> List[Device]:
     """Returns the devices that a command line names. Equipments on one channel are behind one controller."""
+    from .controller import Controller  # few command lines name a device
+    from .converter import Converter
     on_channels: Dict[int, List[Device]] = {}
     for device in map(device_of, asked.device):
         on_channels.setdefault(device.channel, []).append(device)
@@ -105,6 +104,7 @@ def made(named: str, channel: int) -> Device:
 
 def named_words(kind: Type[Device], words: str) -> Dict[str, str]:
     """Returns the words NAME=VALUE, whose NAME is one of the constructor's."""
+    import inspect
     known = inspect.signature(kind).parameters
     return {name: value for name, is_named, value in (word.partition("=") for word in words.split(",")) if is_named and name in known}
 

@@ -95,8 +95,8 @@ class Engine(Protocol):
         """Returns the newest action that can be undone and wrote one of some places: how many are newer, and where each number that it
         wrote comes from; None if there is none. If it is no turn, its processor is 10."""
 
-    def looks(self, most: int, places: Sequence[int]) -> Tuple[List[List[int]], bool]:
-        """Makes turns as `records` does. Returns the numbers at some places (1 to 16) after each, and whether a watched one changed."""
+    def numbers_after(self, most: int, places: Sequence[int]) -> Tuple[List[int], bool]:
+        """Makes turns as `records` does. Returns the numbers at some places (1 to 16) after each, in turn, and whether a watched one changed."""
 
     def until(self, condition: Sequence[Form], most: int) -> Tuple[int, bool]:
         """Makes turns, at most so many, up to the first in which a condition comes to hold, whatever is watched. Returns how many they are,

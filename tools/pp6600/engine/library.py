@@ -8,15 +8,14 @@ import functools
 import os
 from array import array
 from ctypes import byref, c_size_t, c_uint16, c_uint32, c_uint64
-from typing import Any, Dict, Iterator, List, NamedTuple, Optional, Sequence, Tuple
+from typing import Any, Iterator, List, NamedTuple, Optional, Sequence, Tuple
 
 from ..failure import Failure
 from .choice import HOME, LIBRARIES, machine_here
 from .interface import Counts, Form, Records, Rejection
 from .numbers_of_calls import checked, counted
+from .options import options_of
 from .origins import LINK_BYTES, Origins, origins_of
-from .plain.lines import Rejected
-from .plain.program import FILE_BYTES, USAGE, pieces, read_options, read_words
 
 DONE, ROOM, WATCHED, CLOSED, OPEN, NO_MEMORY, REFUSED, LIMIT, NOT_FOUND = range(9)
 MOST_OLDS = 76  # the most places that an action overwrites
@@ -146,11 +145,6 @@ def room_for(kind: Any, count: int) -> Any:
         raise Failure(f"there is no memory for {count} numbers") from None
 
 
-def calls_of(library: Any) -> Sequence[str]:
-    """Returns the names of the calls on a session that a library has."""
-    return (*CALLS, *(name for name in LATER_CALLS if hasattr(library, f"pp6600_{name}")))
-
-
 class LibrarySession:
     """A session: a machine with its undo history. It is used in a `with` block, or closed.
 
@@ -162,10 +156,17 @@ class LibrarySession:
                  panel: bytes = b"", path: Optional[str] = None) -> None:
         self._handle = Handle()
         library, self._at = load(path), byref(self._handle)
-        self.calls = {name: functools.partial(getattr(library, f"pp6600_{name}"), self._at) for name in calls_of(library)}
+        self.calls = {name: functools.partial(getattr(library, f"pp6600_{name}"), self._at) for name in (*CALLS, *LATER_CALLS)
+                      if hasattr(library, f"pp6600_{name}")}
         self.text: Any = ctypes.create_string_buffer(ANSWER_ROOM)  # kept from call to call, with what is said of an answer
         self.answered = c_size_t(), c_size_t(), c_uint32(), c_uint32()
         self.counted = tuple(map(byref, self.answered))
+        self.room = -1, -1  # for how many turns and pairs there is room in a recording
+        self.rooms: Any = None
+        self.places: Tuple[int, ...] = ()  # the places of the latest looks, for how many turns there is room, and what is passed
+        self.most = -1
+        self.passed: Sequence[Any] = ()
+        self.size, self.answering = c_size_t(), (byref(self.text), c_size_t.from_param(ANSWER_ROOM), *self.counted)
         self.searched: Tuple[Form, ...] = ()  # the latest condition, and as C has it
         self.forms: Any = (FormOfC * 0)(), c_size_t()
         text, count, status = ctypes.create_string_buffer(TEXT_ROOM), c_size_t(), c_uint32()
@@ -224,8 +225,8 @@ class LibrarySession:
 
     def perform(self, typed: bytes) -> None:
         """Performs lines of actions. Fails if one is rejected."""
-        status = self._call("answer", typed, c_size_t(len(typed)), self.text, c_size_t(ANSWER_ROOM), *self.counted)
-        if status != DONE or self.answered[3].value:
+        self.size.value = len(typed)
+        if self._call("answer", typed, self.size, *self.answering) != DONE or self.answered[3].value:
             raise Failure(f"the simulator refuses {typed.decode('latin-1')}")
 
     def numbers(self, first: int, count: int) -> List[int]:
@@ -264,8 +265,10 @@ class LibrarySession:
         """Makes a call that records actions, with room for so many pairs for each. Returns its status; of each action the processor and the
         number of places, in turn; and what they overwrote."""
         at_most, = checked(call, most)
-        pairs = pairs_of_turn * counted(most) + MOST_OLDS
-        made, olds, turns, used = room_for(c_uint32, 2 * most), room_for(c_uint64, 2 * pairs), c_size_t(), c_size_t()
+        pairs, turns, used = pairs_of_turn * counted(most) + MOST_OLDS, c_size_t(), c_size_t()
+        if self.room != (most, pairs):  # it is kept for the next call
+            self.room, self.rooms = (most, pairs), (room_for(c_uint32, 2 * most), room_for(c_uint64, 2 * pairs))
+        made, olds = self.rooms
         status = self._call(call, at_most, made, c_size_t(most), olds, c_size_t(pairs), byref(turns), byref(used))
         of_turns = array("I", memoryview(made).cast("B")[:8 * turns.value].tobytes())
         return status, of_turns, Records(of_turns[1::2], memoryview(olds).cast("B")[:16 * used.value].tobytes(), status == WATCHED)
@@ -300,14 +303,26 @@ class LibrarySession:
 
     def looks(self, most: int, places: Sequence[int]) -> Tuple[List[List[int]], bool]:
         """Performs turns as `turns` does. Returns the numbers at the places after each, and whether the last changed a watched number."""
+        numbers, is_watched = self.numbers_after(most, places)
+        return [numbers[at:at + len(places)] for at in range(0, len(numbers), len(places))], is_watched
+
+    def numbers_after(self, most: int, places: Sequence[int]) -> Tuple[List[int], bool]:
+        """As `looks`, but the numbers are one after the other. What is passed for the same places is converted once."""
         at_most, = checked("looks", most)
-        width, chosen = len(places), [one for place in places for one in checked("looks", place)]
-        into, turns = room_for(c_uint64, most * width), c_size_t()
-        status = self._call("looks", at_most, (c_uint32 * width)(*chosen), c_size_t(width), into, c_size_t(most * width), byref(turns))
+        if most > self.most or self.places != tuple(places):
+            self._make_room(most, tuple(places))
+        status = self._call("looks", at_most, *self.passed)
         if status == REFUSED:
             raise Failure("looks are at 1 to 16 places that the machine has")
-        numbers = memoryview(into).cast("B").cast("Q")[:turns.value * width].tolist()
-        return [numbers[at:at + width] for at in range(0, len(numbers), width)], status == WATCHED
+        return self.into[:self.answered[0].value * len(places)].tolist(), status == WATCHED
+
+    def _make_room(self, most: int, places: Tuple[int, ...]) -> None:
+        """Makes room for the numbers at places after so many turns."""
+        chosen = [number.value for place in places for number in checked("looks", place)]
+        width, room = len(places), most * len(places)
+        into = room_for(c_uint64, room)
+        self.places, self.most, self.into = places, most, memoryview(into).cast("B").cast("Q")
+        self.passed = byref((c_uint32 * width)(*chosen)), c_size_t.from_param(width), byref(into), c_size_t.from_param(room), self.counted[0]
 
     def until(self, condition: Sequence[Form], most: int) -> Tuple[int, bool]:
         """Performs turns, up to the first in which a condition comes to hold. Returns how many, and whether it does in the last one."""
@@ -341,24 +356,6 @@ class LibrarySession:
 def session_of(path: str, words: Sequence[str]) -> LibrarySession:
     """Begins a session with the options of the program."""
     try:
-        given = read_words(words)
-        options: Dict[str, Any] = {**read_options(given)}
-        options.update((name, bytes_of(given[f"--{name}"], name.upper())) for name in ("deck", "panel") if f"--{name}" in given)
-    except Rejected as rejected:
-        status, text = rejected.args or (0, USAGE)  # if help is asked for
-        raise Rejection(f"pp6600: {text}", status) from None
-    try:
-        return LibrarySession(**options, path=path)
+        return LibrarySession(**options_of(words), path=path)
     except Unloadable as failure:
         raise Failure(f"{path} is not the library of the simulator: {failure.__cause__}") from failure
-
-
-def bytes_of(path: str, name: str) -> bytes:
-    """Returns the bytes of a file, up to some beyond the most that the program reads. No bytes would mean no file, so an empty file is an
-    empty line."""
-    data = b""
-    for piece in pieces(path, name):
-        data += piece
-        if len(data) > FILE_BYTES:
-            break
-    return data or b"\n"

@@ -110,10 +110,9 @@ class PlainEngine:
             self.forward(newer + 1)
         return newer, made
 
-    def looks(self, most: int, places: Sequence[int]) -> Tuple[List[List[int]], bool]:
+    def numbers_after(self, most: int, places: Sequence[int]) -> Tuple[List[int], bool]:
         own, numbers = [own_place(place) for place in places], self.machine.numbers
-        found = [[numbers[place] for place in own] for _ in self._made(most)]
-        return found, self.is_watched
+        return [numbers[place] for _ in self._made(most) for place in own], self.is_watched
 
     def until(self, condition: Sequence[Form], most: int) -> Tuple[int, bool]:
         alternatives = alternatives_of(condition)

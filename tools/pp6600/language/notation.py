@@ -5,20 +5,20 @@ from typing import Dict, List, NamedTuple, Optional, Sequence
 
 import re
 
-from ..run.turn import NAMES, TWO_WORDS
+from ..run.turn import CONSTANTS as CONSTANTS, NAMES, TWO_WORDS
 
 MNEMONICS: Sequence[str] = NAMES
 CODES: Dict[str, int] = {name: code for code, name in reversed(list(enumerate(NAMES)))}  # of PSN, which is three, the first
-CONSTANTS = range(0o20, 0o24)  # with an operand of 18 bits
-MAKERS = ("CON", "DATA", "VFD", "DIS", "BSSZ")
+MAKERS = ("CON", "DATA", "VFD", "POS", "DIS", "BSSZ")
 LONG_FORMS = ("LDK", "ADK")
 DIRECTIVES = (*MAKERS, *LONG_FORMS, *"""EQU = SET MAX MIN ORG LOC USE BSS END ABS SST ENTRY TITLE TTL SPACE EJECT LIST NOREF XREF
-    COMMENT CTEXT ENDX NOLABEL NIL ERR ERRNZ ERRZR ERRPL ERRMI ERRNG IDENT BASE PERIPH QUAL MICRO DECMIC OCTMIC MICCNT LIT""".split())
+    COMMENT CTEXT ENDX NOLABEL NIL ERR ERRNZ ERRZR ERRPL ERRMI ERRNG IDENT BASE PERIPH QUAL MICRO DECMIC OCTMIC MICCNT LIT
+    SEG LCC CODE COL""".split())
 OF_LINES = ("XTEXT", "HERE", "OPSYN", "PURGMAC")
 BLOCKS = "IF IFC IFEQ IFNE IFGT IFGE IFLT IFLE IFPL IFMI IFPP IFCP SKIP DUP ECHO MACRO MACROE RMT".split()
 INSIDE = ("ENDIF", "ELSE", "ENDD", "ENDM", "LOCAL", "IRP", "STOPDUP")  # what is in its place only in such lines
 SUBR = "SUBR"  # a macro whose label is the second word of its jump
-REFUSED = "OPDEF PPOP EXT COL POS STOPDUP SEG SEGMENT ORGC STEXT PPU MXN MAN SCF CCF SFM CFM IAPM OAPM".split()
+REFUSED = "OPDEF PPOP EXT SEGMENT ORGC STEXT PPU MXN MAN SCF CCF SFM CFM IAPM OAPM".split()
 BASES = {"OCTAL": 8, "DECIMAL": 10, "MIXED": 8}
 MICROS = ("DATE", "JDATE", "TIME", "MODLEVEL", "PCOMMENT")  # that COMPASS defines by the clock or its call
 TAB = 8

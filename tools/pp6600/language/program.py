@@ -15,6 +15,7 @@ from .performing import Given, performed, used_in
 LOCAL = re.compile("Z[.][0-7]{4,}")  # a name that a macro has for itself
 OF_ANOTHER_PROGRAM = re.compile("=[XSY][A-Z][A-Z0-9.$=]*")
 ADDRESS = (1 << WORD_BITS) - 1
+MACROS = ("MACRO", "MACROE")
 
 
 class FilledCell(NamedTuple):
@@ -190,7 +191,7 @@ def with_macros(rows: Sequence[Row]) -> List[Row]:
         name, after = one.row.statement.operation, rows[at + 1] if at + 1 < len(rows) else None
         if not one.is_performed:
             continue
-        if name in ("MACRO", "MACROE"):
+        if name in MACROS:
             bodies[one.row.statement.label or first_name(one.row.statement.operand)] = list(body_after(rows, at))
         elif name in bodies and after and after.row.is_made and after.first >= free:
             made = firsts[bisect.bisect_left(firsts, after.first):]
@@ -201,13 +202,17 @@ def with_macros(rows: Sequence[Row]) -> List[Row]:
 
 
 def body_after(rows: Sequence[Row], at: int) -> Iterator[Tuple[int, str]]:
-    """Yields the numbers and the operations of the lines of the macro that begins at a row; empty lines are none."""
+    """Yields the numbers and the operations of the lines of the macro that begins at a row; empty lines are none. The LOCAL, IRP and ELSE of a
+    macro within are lines as others."""
+    depth = 0
     for one in rows[at + 1:]:
         statement = one.row.statement
-        if statement.operation == "ENDM" or one.is_performed:
+        depth += (statement.operation in MACROS) - (statement.operation == "ENDM")
+        if depth < 0 or one.is_performed:
             return
         if one.row.text.strip():
-            yield one.row.number, statement.label if statement.label in ("LOCAL", "IRP") else statement.operation
+            operation = statement.label if statement.label in ("LOCAL", "IRP") else statement.operation
+            yield one.row.number, f"{operation} within" if depth else operation
 
 
 def numbers_of(body: Sequence[Tuple[int, str]], operations: Sequence[str]) -> List[int]:

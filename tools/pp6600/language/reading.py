@@ -7,7 +7,8 @@ from typing import Dict, List, NamedTuple, Optional, Sequence, Tuple
 from ..run.forms import CELLS
 from ..run.names import EQUATES, octal_number
 from .listed_words import Listed, fields_of, told_by
-from .notation import BASES, CODES, LITERAL, LITERALS, MICROS, MNEMONICS, NOMINAL, SUBR, SYMBOL, TAB, WORD_BITS, size_of, statement_of
+from .notation import (
+    BASES, CODES, LITERAL, LITERALS, MICROS, MNEMONICS, NOMINAL, SUBR, SYMBOL, TAB, WORD_BITS, parts_of as operands_of, size_of, statement_of)
 from .performing import number_of
 from .printed import (
     ADDRESS, SHORT, WITH_WORDS, WORD, Columns, Parts, Token, guessed, is_note, is_operation, operation_columns, parts_of, with_fields)
@@ -18,7 +19,8 @@ WITH_PARAMETERS = ("MACRO", "MACROE", "OPDEF", "LOCAL", "ECHO", "IRP")  # for wh
 DUPLICATED = re.compile(r"\bDUPLICATED? LINES?\b", re.I)
 LABELLED = ("BSS", "ORG", "LOC", "END", "USE", "BSSZ")  # of the operations without words those whose label is an address
 NAMES_OF_BASES = {8: "OCTAL", 10: "DECIMAL"}
-BITS = re.compile("(?:^|,)([0-9]{1,2})/")  # of the fields of a VFD
+BITS = re.compile("([0-9]{1,2})/")  # of a field of a VFD
+OF_BITS = ("VFD", "POS")
 FULL = 4  # digits of an address before which zeros are printed
 Pairs = Tuple[Tuple[str, int], ...]  # of names and numbers
 WITH_ZEROS = re.compile(f">?0[0-7]{{{FULL - 1}}}[bB]?")
@@ -89,7 +91,7 @@ class PrintedReading:
         self.used = [NOMINAL]
         self.end = 0  # the highest address of the nominal block, after which come the literals
         self.start: Optional[int] = None  # that END names
-        self.bits = 0  # of the last word that a VFD has filled
+        self.bits: Optional[int] = 0  # of the last word that a VFD has filled; None: names say how many
         self.is_other = False  # the program: a second one of the source, which is not loaded
         self.micros = set(MICROS)
         self.literals: List[Tuple[Message, int, Tuple[int, ...]]] = []  # the address of each that a line names, its words, and what is to be said
@@ -172,9 +174,9 @@ class PrintedReading:
 
     def is_whole(self, parts: Parts) -> bool:
         """Returns whether a statement begins and ends its words: a VFD may go on in the last word of another one."""
-        before, is_vfd = 0 if parts.label else self.bits, parts.operation == "VFD"
-        self.bits = (before + sum(map(int, BITS.findall(parts.expression)))) % WORD_BITS if is_vfd else 0
-        return not is_vfd or not before and not self.bits
+        before, has_bits = 0 if parts.label else self.bits, parts.operation in OF_BITS
+        self.bits = bits_after(before, parts) if has_bits else 0
+        return not has_bits or before == self.bits == 0
 
     def word(self, token: Token) -> Optional[int]:
         if WORD.fullmatch(token.text):
@@ -187,7 +189,7 @@ class PrintedReading:
         """Checks that an instruction has its words, and its code."""
         name, count = parts.operation, len(parts.words)
         if name not in CODES:
-            if not count and name != "VFD":  # which may go on in a word that is listed
+            if not count and name not in OF_BITS:  # which may go on in a word that is listed
                 self.doubt(parts.address, f"the line has an address, and {name} has no word")
             return
         size = size_of(CODES[name])
@@ -432,6 +434,12 @@ class PrintedReading:
             found = [cells[at] for at in range(address, address + len(made)) if at in cells]
             if found != [*made] and None not in found:
                 self.doubts.append(message._replace(text=f"{message.text}, and there is {digits_of(found) or 'nothing'}"))
+
+
+def bits_after(before: Optional[int], parts: Parts) -> Optional[int]:
+    """Returns how many bits of a word are filled after a VFD, by those that were filled before; None if names say it."""
+    sizes = [BITS.match(part) for part in operands_of(parts.expression)] if parts.operation == "VFD" else [None]
+    return None if before is None or None in sizes else (before + sum(int(size[1]) for size in sizes if size)) % WORD_BITS
 
 
 def digits_of(words: Sequence[Optional[int]]) -> str:

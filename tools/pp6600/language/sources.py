@@ -55,11 +55,6 @@ class Word(NamedTuple):
         has_two = self.at == 0 and len(self.row.words) == 2 and self.row.words[0] >> 6 in TWO_WORDS
         return self.row.words[1] if has_two else None
 
-    @property
-    def second(self) -> Optional[str]:
-        """Its digits, for a film's page."""
-        return None if self.m is None else f"{self.m:04o}"
-
 
 class CellLine(NamedTuple):
     """The line that a cell is of, or was of before it was overwritten. The second word is that of the machine, if it is not the

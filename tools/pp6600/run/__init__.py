@@ -1,5 +1,3 @@
-"""What every tool stands on: a run, one way to go to a place in it, to look at the machine there, and to search.
+"""A run, and all that is asked about it: one way to go to a position of it, to look at the machine there, and to search.
 
-`forms` reads answers, `tape` has the actions of a run, `simulator` goes to a position of it, `state` is the whole machine there, `turn`
-says what a turn did, `probe` looks at numbers over many turns at once, and `seek` searches. A front end asks these and shows what they
-return."""
+docs/ARCHITECTURE.md says what each module is for. A front end asks a session, and shows what it returns."""

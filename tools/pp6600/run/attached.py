@@ -11,18 +11,16 @@ from typing import Any, Dict, List, Sequence, Tuple
 
 from ..engine import interface as flat
 from ..failure import Failure
-from .console import LONGEST_LINE
+from .console import COUNTED, LONGEST_LINE
 from .device import Channel, Device, DeviceFailure, Value, is_value, looked
 from .forms import CHANNELS, MOST_TURNS, Place, is_refusal
 from .new_turns import NewTurns, value_told
 from .past import Past, name_of
 from .plain_script import PlainScript
-from .session import REPLAYED, Session
+from .session import Session
 from .tape import STEP, Position, UnitCounts, Units
 
-COUNTED = re.compile(r"[ \t]*(STEP|BACK|FORWARD)(?:[ \t]+0*([1-7][0-7]{0,6}))?[ \t\r]*", re.I)
 BACK_W = re.compile(r"[ \t]*BACK[ \t]+W[ \t\r]*", re.I)
-TOO_FEW_KEPT, TOO_FEW_AHEAD = "ERR 07 TOO FEW KEPT", "ERR 16 TOO FEW AHEAD"
 
 
 def names_of(devices: Sequence[Device]) -> Dict[int, str]:
@@ -119,18 +117,15 @@ class Attached(Session):
             self.plain.lines.append(line)
         return answer
 
-    def act_by_move(self, line: str) -> List[str]:
-        """Performs a line by `act`, in which BACK and FORWARD have no limit anyway. Says also whether `sent` has begun anew."""
-        replays = self.replays
-        answer = self.act(line)
-        return [*answer, REPLAYED] if self.replays > replays else answer
+    def go_over(self, word: str, count: int) -> List[str]:
+        return self.act(f"{word} {count:o}")
 
     def _perform_line(self, line: str) -> List[str]:
         asked = COUNTED.fullmatch(line) if len(line) <= LONGEST_LINE else None
         count = int(asked[2] or "1", 8) if asked else 0
         if asked and count <= MOST_TURNS:
             word = asked[1].upper()
-            return self._step(count) if word == "STEP" else self._go_over(word, count)
+            return self._step(count) if word == "STEP" else super().go_over(word, count)
         answer = self.ask(line)
         if BACK_W.fullmatch(line):
             return self._back_to_unit(answer)
@@ -161,11 +156,6 @@ class Attached(Session):
 
     # ---- back and forward
 
-    def _arrive(self, word: str, count: int, position: Position) -> List[str]:
-        """Goes to a position. Returns the answer."""
-        self.goto(position)
-        return [f"{word} {count:o} SLOT {self.next_slot:02o}"]
-
     def _recall(self) -> None:
         """Sees that the values at hand are those at the position."""
         here = self.position
@@ -193,15 +183,6 @@ class Attached(Session):
         state, register = (self.engine.numbers(first + number, 1)[0] for first in (flat.STATES, flat.REGISTERS))
         return state, register
 
-    def _go_over(self, word: str, count: int) -> List[str]:
-        """Goes back or forward over so many units. Returns the answer."""
-        unit = self.unit + (count if word == "FORWARD" else -count)
-        if unit < 0:
-            return [TOO_FEW_KEPT]
-        if unit > self.tape.units(self.tape.end):
-            return [TOO_FEW_AHEAD]
-        return self._arrive(word, count, self.tape.after_units(Units(unit)))
-
     def _back_to_unit(self, answer: List[str]) -> List[str]:
         """Goes back to before a whole unit, after the simulator has answered BACK W."""
         if not answer[0].startswith("BACK "):
@@ -209,7 +190,8 @@ class Attached(Session):
         here = self.unit
         self.history.moved(-int(answer[0].split()[1], 8))
         units = self.tape.whole_units(self.position)
-        return self._arrive("BACK", here - units, self.tape.after_units(units))
+        self.goto(self.tape.after_units(units))
+        return [f"BACK {here - units:o} SLOT {self.next_slot:02o}"]
 
     # ---- new actions
 

@@ -14,6 +14,7 @@ from .forms import CELLS, CLOCK, PROCESSORS, Place, Registers, fields, is_refusa
 from .turn import Cell, Processor
 
 LONGEST_LINE = 255
+COUNTED = re.compile(r"[ \t]*(STEP|BACK|FORWARD)(?:[ \t]+0*([1-7][0-7]{0,6}))?[ \t\r]*", re.I)
 Self = TypeVar("Self", bound="Console")
 NO_ANSWER = re.compile("[ \t]*([*][\t -~]*)?")  # a note, or a line without words
 

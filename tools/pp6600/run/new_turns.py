@@ -16,6 +16,8 @@ from .past import Past
 from .tape import Action, Position, Tape
 
 MOST_AT_ONCE = 4096  # turns
+FEW_TURNS = 32  # turns: to look at the channels after each takes less time than a search
+MOST_PLACES = 16  # of a look
 Channels = Sequence[Channel]
 
 
@@ -32,6 +34,7 @@ class NewTurns:
         self.new: List[Tuple[List[int], List[Value]]] = [([], []) for _ in pasts]  # those that came, with their positions
         self.gap, self.changed = 1, self.turn  # turns between the last two changes of a channel, and the turn of the last one
         self.channels = [past.device.channel for past in pasts]
+        self.places = [place for channel in self.channels for place in (flat.STATES + channel, flat.REGISTERS + channel)]
         self.states = [value.seen[0] for value in self.values]  # of the channels, as the devices left them
         self._see_dues()
 
@@ -43,14 +46,16 @@ class NewTurns:
 
     def make(self, most: int, watched: Sequence[Place]) -> Optional[str]:
         """Makes so many turns, or up to a HIT. Returns the HIT."""
-        end, hit = self.turn + most, None
+        end, hit, is_regular = self.turn + most, None, False
         is_new = self._now() != [value.seen for value in self.values]  # after a SET or a DEADSTART there is something to see
         while self.turn < end and hit is None:
-            is_regular = len(self.pasts) == 1 and self.changed == self.turn and self.due is None and not (is_new or watched)
-            now = self._regular_words(end) if is_regular else self._turns(1 if is_new else min(self._expected(), end - self.turn), watched)
+            if is_regular and self.changed == self.turn and self.due is None and not watched:
+                self._regular_words(end)
+            now = self._turns(1 if is_new else min(self._expected(), end - self.turn), watched) if self.turn < end else None
             hit = self._hit(watched) if watched else None
             if now:
-                self.gap, self.changed = min(self.turn - self.changed, self.room), self.turn
+                gap, self.gap = self.gap, min(self.turn - self.changed, self.room)
+                is_regular, self.changed = len(self.pasts) == 1 and gap == self.gap, self.turn
             if now or is_new or self.due is not None and self.due <= self.turn:
                 now = now or self._now()
                 self._look(now)
@@ -61,33 +66,44 @@ class NewTurns:
     def _turns(self, most: int, watched: Sequence[Place]) -> Optional[Channels]:
         """Makes turns up to the first that changes the state of a channel, or a watched number, at most so many. Returns the channels if
         one changed a state. An instruction that changes a channel changes its state."""
-        leaves = [[is_another(channel, state)] for channel, state in zip(self.channels, self.states)]
-        count, is_found = self.engine.until(joined([*leaves, *([Form(CHANGES, place.number, 1)] for place in watched)]), most)
-        self.turn += count
-        now = self._now() if is_found else ()
+        if most <= FEW_TURNS and 0 < len(self.places) <= MOST_PLACES:
+            return self._few_turns(most)
+        leaves = [[Form(OUTSIDE, flat.STATES + channel, state, state)] for channel, state in zip(self.channels, self.states)]
+        self.turn += self.engine.until(joined([*leaves, *([Form(CHANGES, place.number, 1)] for place in watched)]), most)[0]
+        now = self._now()
         return now if any(state != old for (state, _), old in zip(now, self.states)) else None
 
-    def _regular_words(self, end: int) -> Optional[Channels]:
-        """Makes turns and the replies of the one device, as long as a reply comes after as many turns as the one before. Returns its
-        channel if its state changed otherwise."""
-        past, gap, value, turn, engine, channel = self.pasts[0], self.gap, self.values[0], self.turn, self.engine, self.channels[0]
-        device, (state,) = past.device, self.states
+    def _few_turns(self, most: int) -> Optional[Channels]:
+        """Makes turns as `_turns` does, with a look at the channels after each."""
+        numbers, devices = self.engine.numbers_after(most, self.places)[0], len(self.states)
+        states, width = numbers[::2], 2 * devices
+        made = count = len(numbers) // width
+        same = self.states * (made - 1)
+        if states[:-devices] != same:
+            count = next(at for at, state in enumerate(states) if state != same[at]) // devices + 1
+            self.engine.back(made - count)
+        self.turn += count
+        now = numbers[(count - 1) * width:count * width]
+        return list(zip(now[::2], now[1::2])) if now[::2] != self.states else None
+
+    def _regular_words(self, end: int) -> None:
+        """Makes turns and the replies of the one device, as long as a reply comes after as many turns as the one before."""
+        past, gap, value, turn, engine, (state,) = self.pasts[0], self.gap, self.values[0], self.turn, self.engine, self.states
         values: List[Value] = []
         replies: List[Action] = []
-        typed, now = b"", None
+        typed = b""
         try:
-            while turn < end:
-                self._perform(typed)
-                count, is_found = engine.until((is_another(channel, state),), min(gap, end - turn))
-                typed, turn = b"", turn + count
-                if not is_found:
+            while turn + gap <= end:
+                if typed:
+                    engine.perform(typed)
+                typed, turn, numbers = b"", turn + gap, engine.numbers_after(gap, self.places)[0]
+                now = numbers[-2], numbers[-1]
+                new, reply = looked(past.device, value, now, turn) if numbers[:-2:2] == [state] * (gap - 1) else (value, None)
+                if reply is None or new.due is not None:  # these turns are made once more
+                    engine.back(gap)
+                    turn -= gap
                     break
-                numbers = engine.numbers(flat.STATES + channel, CHANNELS + 1)
-                now = [(numbers[0], numbers[CHANNELS])]
-                new, reply = looked(device, value, now[0], turn) if count == gap else (value, None)
-                if reply is None or new.due is not None:
-                    break  # the device is asked once more
-                value, now = new, None
+                value = new
                 action, typed = past.action(reply)
                 values.append(value)
                 replies.append(action)
@@ -97,7 +113,6 @@ class NewTurns:
             self._perform(typed)
             self.states[0] = state
             self._note_words(gap, replies, values)
-        return now
 
     def _note_words(self, gap: int, replies: Sequence[Action], values: Sequence[Value]) -> None:
         """Notes replies that came after so many turns each."""
@@ -191,11 +206,6 @@ class NewTurns:
 
     def _digits(self, places: Sequence[Place]) -> List[str]:
         return [f"{self.engine.numbers(place.number, 1)[0]:0{place.digits}o}" for place in places]
-
-
-def is_another(channel: int, state: int) -> Form:
-    """Returns the test whether a channel has another state."""
-    return Form(OUTSIDE, flat.STATES + channel, state, state)
 
 
 def value_told(past: Past, value: Value, what: object, now: Channel, turn: int) -> Tuple[Value, Optional[Reply]]:

@@ -24,6 +24,7 @@ from .turn import Processor
 FIRST_SPAN = 0o10000  # of turns at the end that are searched first
 WIDER = 8  # times as many in each span before
 PARTS = 64  # of a run that are searched one by one
+MOST_AT_ONCE = 0o200000  # turns between two calls of `progress`
 
 Progress = Callable[[int], object]
 Found = Tuple[Position, int]  # the position before a turn, and its number from 1
@@ -31,9 +32,8 @@ Forms = Sequence[Form]
 
 
 def first_turn(run: Session, condition: Forms, most: int) -> bool:
-    """Makes turns of a run, at most so many and as many as it keeps, up to the first in which a condition comes to hold. Returns whether it
-    does."""
-    made, is_found = run.engine.until(condition, min(most, run.history.room))
+    """Makes turns of a run, at most so many, up to the first in which a condition comes to hold. Returns whether it does."""
+    made, is_found = run.engine.until(condition, min(most, MOST_AT_ONCE))
     run.history.performed(made)
     return is_found
 
@@ -98,6 +98,7 @@ class TurnFinder:
 
     def next(self, run: Session, most: int) -> bool:
         first, is_found = run.position, False
+        most = most if len(self.conditions) == 1 else min(most, run.history.room)  # as many as it goes back
         for condition in self.conditions:
             run.goto(first)
             if first_turn(run, condition, most):
@@ -259,7 +260,7 @@ class Search:
         run = self.run
         finder.begin(run)
         while run.position < end:
-            is_found, here, turn = finder.next(run, min(end - run.position, run.history.room)), run.position, run.turn
+            is_found, here, turn = finder.next(run, min(end - run.position, MOST_AT_ONCE)), run.position, run.turn
             if is_found and turn > first:
                 yield Position(here - 1), turn
                 run.goto(here)

@@ -18,6 +18,7 @@ from .forms import MOST_TURNS, refused
 from .tape import STEP, History, Position, Tape, UnitCounts, Units, lines_of, room_of
 
 MOVE = re.compile(r"[ \t]*(BACK|FORWARD)(?:[ \t]+([0-7]{1,10}))?[ \t\r]*", re.I)
+TOO_FEW_KEPT, TOO_FEW_AHEAD = "ERR 07 TOO FEW KEPT", "ERR 16 TOO FEW AHEAD"
 REPLAYED = "replayed"  # the second line of an answer to a BACK
 AT_ONCE = 4096  # lines of a tape that are performed at once
 
@@ -94,16 +95,21 @@ class Session(Console):
         return []
 
     def act_by_move(self, line: str) -> List[str]:
-        """As `act`, but BACK goes back over all actions in effect, and FORWARD on over all that are ahead."""
-        asked = MOVE.fullmatch(line)
-        count, counts = int(asked[2] or "1", 8) if asked else 0, self.counts
-        if asked and asked[1].upper() == "BACK" and counts.kept < count <= counts.position:
-            self._go_anew(self.tape.after_units(Units(counts.position - count)))
-            return [f"BACK {count:o} SLOT {self.next_slot:02o}", REPLAYED]
-        if asked and asked[1].upper() == "FORWARD" and counts.ahead < count <= counts.to_redo:
-            self.goto(self.tape.after_units(Units(counts.position + count)))
-            return [f"FORWARD {count:o} SLOT {self.next_slot:02o}"]
-        return self.act(line)
+        """As `act`, but BACK goes back over all actions in effect, and FORWARD on over all that are ahead. The answer says also whether
+        `sent` has begun anew."""
+        replays, asked, counts = self.replays, MOVE.fullmatch(line), self.counts
+        word, count = (asked[1].upper(), int(asked[2] or "1", 8)) if asked else ("", 0)
+        near, far = (counts.kept, counts.position) if word == "BACK" else (counts.ahead, counts.to_redo)
+        answer = self.go_over(word, count) if near < count <= far else self.act(line)
+        return [*answer, REPLAYED] if self.replays > replays else answer
+
+    def go_over(self, word: str, count: int) -> List[str]:
+        """Goes BACK or FORWARD over so many units. Returns the answer."""
+        unit = self.tape.units(self.position) + (count if word == "FORWARD" else -count)
+        if not 0 <= unit <= self.tape.units(self.tape.end):
+            return [TOO_FEW_KEPT if unit < 0 else TOO_FEW_AHEAD]
+        self.goto(self.tape.after_units(Units(unit)))
+        return [f"{word} {count:o} SLOT {self.next_slot:02o}"]
 
     def lines_to(self, turn: int) -> Iterator[str]:
         """Yields the lines that go back or on to where so many turns are in effect, after the settings that follow the last of them. Each

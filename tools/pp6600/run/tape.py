@@ -373,7 +373,7 @@ class History:
         self.performed(times)
 
     def take(self, line: str, answer: Sequence[str]) -> bool:
-        """UnitCounts a line of the user by the lines of its answer. Returns whether it changed the machine, the history or the list."""
+        """Counts a line of the user by the lines of its answer. Returns whether it changed the machine, the history or the list."""
         kind, *rest = answer[0].split() if answer else ["NOTE"]
         if kind == "OK":
             self.added(line)

@@ -1,4 +1,4 @@
-"""What is read from the instruction table: names and words are those of the second simulator, which the tests compare with the library's.
+"""What is read from the instruction table, with which the tests compare it.
 
 `Processor` is a processor before a turn: which instruction it will perform, whether that waits as the channels are, and where its operand
 is. No number is computed here but addresses: each is read from the simulator. What a turn wrote, and from what, the engines say.
@@ -9,16 +9,18 @@ from __future__ import annotations
 from typing import Callable, Dict, List, NamedTuple, Optional, Sequence, Tuple
 
 from ..engine import interface as flat
-from ..engine.plain.instructions import CODES, TWO_WORDS as TWO_WORDS
 from .forms import CELLS, CLOCK, PROCESSORS, Place, Registers
 
 Cell = Callable[[int], int]  # the number in a cell of a processor, by its address
 
-NAMES = [name[3:] for name, _, _ in CODES]
+NAMES = """PSN LJM RJM UJN ZJN NJN PJN MJN  SHN LMN LPN SCN LDN LCN ADN SBN  LDC ADC LPC LMC PSN PSN EXN RPN
+    LDD ADD SBD LMD STD RAD AOD SOD  LDI ADI SBI LMI STI RAI AOI SOI  LDM ADM SBM LMM STM RAM AOM SOM
+    CRD CRM CWD CWM AJM IJM FJM EJM  IAN IAM OAN OAM ACN DCN FAN FNC""".split()
 # The states of channel d in which an instruction completes, or a later turn of a block goes on or ends; all others never wait.
 COMPLETES = {0o70: "F", 0o72: "E", 0o74: "I", 0o75: "EFX", 0o76: "I", 0o77: "I"}
 BLOCK_GOES_ON = {0o71: "IF", 0o73: "IE"}
-BLOCKS = (0o61, 0o63, *BLOCK_GOES_ON)
+BLOCKS_OF_CENTRAL = (0o61, 0o63)
+BLOCKS = (*BLOCKS_OF_CENTRAL, *BLOCK_GOES_ON)
 STATES_WORDS = {"F": "full", "IF": "full", "E": "empty", "IE": "empty", "I": "inactive", "EFX": "active"}
 WAITS_FOR = {code: STATES_WORDS[states] for code, states in {**COMPLETES, **BLOCK_GOES_ON}.items()}
 RELATIVE_JUMPS = range(0o03, 0o10)
@@ -27,6 +29,8 @@ CONDITIONAL_JUMPS = (*RELATIVE_JUMPS, *CHANNEL_JUMPS)
 CHANNEL_CODES = range(0o64, 0o100)
 # Whose operand's address is in cell d; and m, to which cell d is added if d is not 0. Of all others it is d.
 INDIRECT, INDEXED = range(0o40, 0o50), (0o01, 0o02, *range(0o50, 0o60))
+CONSTANTS = range(0o20, 0o24)  # with an operand of 18 bits
+TWO_WORDS = frozenset((*INDEXED, *CONSTANTS, *BLOCKS, *CHANNEL_JUMPS, 0o77))
 # The state of a channel that is not there: to a block it is inactive, and no other instruction completes on it.
 NOT_THERE, NOT_THERE_IN_BLOCK = "-", "I"
 

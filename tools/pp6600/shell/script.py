@@ -1,12 +1,13 @@
 """A script that is performed: its lines with their answers, those that were refused, and the tape of what is in effect at its end."""
 
+import re
 import sys
 from typing import Callable, Iterable, List, Optional, Sequence, Tuple
 
 from ..failure import naming_line
-from ..run.console import Console
+from ..run.console import COUNTED, LONGEST_LINE, Console
 from ..run.device import Device, DeviceFailure
-from ..run.forms import is_refusal
+from ..run.forms import MOST_TURNS, is_refusal
 from ..run.reasons import reason
 from ..run.session import Session
 from ..run.tape import History, Tape, counted, room_of
@@ -14,6 +15,7 @@ from .ending import complain, flush, shown_text, write
 from .text_files import shown
 
 MOST_SHOWN = 60  # characters of a line that was refused
+BY_TURNS = re.compile(r"[ \t]*(?:BACK|FORWARD|WATCH)", re.I)  # lines after which it counts what turns did
 Took = Callable[[str, List[str], Optional[Tuple[int, int]]], object]
 
 
@@ -93,6 +95,14 @@ class Script:
         return self.refusals.status()
 
 
+class WithoutTurns(Console):
+    """A simulator that makes no turns: for a script of which nothing counts but which lines are refused and what is in effect at its end."""
+
+    def ask(self, line: str) -> List[str]:
+        asked = COUNTED.fullmatch(line) if len(line) <= LONGEST_LINE else None
+        return [f"TURNS {asked[2] or '1'}"] if asked and int(asked[2] or "1", 8) <= MOST_TURNS else super().ask(line)
+
+
 class ScriptWithDevices(Script):
     """The same with devices of one's own: what is in effect has their replies."""
 
@@ -111,7 +121,8 @@ def performed(words: Sequence[str], lines: Iterable[str], devices: Sequence[Devi
     """Performs a script in a simulator of its own, with devices if there are any."""
     if devices:
         return ScriptWithDevices(words, lines, devices)
-    console = Console(words)
+    lines = list(lines)
+    console = (Console if any(map(BY_TURNS.match, lines)) else WithoutTurns)(words)
     script = Script(console, lines)
     console.end()
     return script

@@ -8,9 +8,9 @@ syntax match pp6600Gap /\s\+/ contained nextgroup=pp6600Instruction,pp6600Direct
 syntax match pp6600Label / \?[^ \t*]\S*/ contained nextgroup=pp6600Gap
 syntax match pp6600Other /\S\+/ contained nextgroup=pp6600Far,pp6600Blanks
 syntax match pp6600Instruction /\%(ACN\|ADC\|ADD\|ADI\|ADM\|ADN\|AJM\|AOD\|AOI\|AOM\|CRD\|CRM\|CWD\|CWM\|DCN\|EJM\|EXN\|FAN\|FJM\|FNC\|IAM\|IAN\|IJM\|LCN\|LDC\|LDD\|LDI\|LDM\|LDN\|LJM\|LMC\|LMD\|LMI\|LMM\|LMN\|LPC\|LPN\|MJN\|NJN\|OAM\|OAN\|PJN\|PSN\|RAD\|RAI\|RAM\|RJM\|RPN\|SBD\|SBI\|SBM\|SBN\|SCN\|SHN\|SOD\|SOI\|SOM\|STD\|STI\|STM\|UJN\|ZJN\)\ze\%(\s\|$\)/ contained nextgroup=pp6600Far,pp6600Blanks
-syntax match pp6600Directive /\%(=\|ABS\|ADK\|BASE\|BSS\|BSSZ\|COMMENT\|CON\|CTEXT\|DATA\|DECMIC\|DIS\|EJECT\|END\|ENDX\|ENTRY\|EQU\|ERR\|ERRMI\|ERRNG\|ERRNZ\|ERRPL\|ERRZR\|IDENT\|LDK\|LIST\|LIT\|LOC\|MAX\|MICCNT\|MICRO\|MIN\|NIL\|NOLABEL\|NOREF\|OCTMIC\|ORG\|PERIPH\|QUAL\|SET\|SPACE\|SST\|TITLE\|TTL\|USE\|VFD\|XREF\)\ze\%(\s\|$\)/ contained nextgroup=pp6600Far,pp6600Blanks
+syntax match pp6600Directive /\%(=\|ABS\|ADK\|BASE\|BSS\|BSSZ\|CODE\|COL\|COMMENT\|CON\|CTEXT\|DATA\|DECMIC\|DIS\|EJECT\|END\|ENDX\|ENTRY\|EQU\|ERR\|ERRMI\|ERRNG\|ERRNZ\|ERRPL\|ERRZR\|IDENT\|LCC\|LDK\|LIST\|LIT\|LOC\|MAX\|MICCNT\|MICRO\|MIN\|NIL\|NOLABEL\|NOREF\|OCTMIC\|ORG\|PERIPH\|POS\|QUAL\|SEG\|SET\|SPACE\|SST\|TITLE\|TTL\|USE\|VFD\|XREF\)\ze\%(\s\|$\)/ contained nextgroup=pp6600Far,pp6600Blanks
 syntax match pp6600Macro /\%(DUP\|ECHO\|ELSE\|ENDD\|ENDIF\|ENDM\|IF\|IFC\|IFCP\|IFEQ\|IFGE\|IFGT\|IFLE\|IFLT\|IFMI\|IFNE\|IFPL\|IFPP\|IRP\|LOCAL\|MACRO\|MACROE\|RMT\|SKIP\|STOPDUP\|SUBR\)\ze\%(\s\|$\)/ contained nextgroup=pp6600Far,pp6600Blanks
-syntax match pp6600Refused /\%(CCF\|CFM\|COL\|EXT\|IAPM\|MAN\|MXN\|OAPM\|OPDEF\|ORGC\|POS\|PPOP\|PPU\|SCF\|SEG\|SEGMENT\|SFM\|STEXT\|STOPDUP\)\ze\%(\s\|$\)/ contained nextgroup=pp6600Far,pp6600Blanks
+syntax match pp6600Refused /\%(CCF\|CFM\|EXT\|IAPM\|MAN\|MXN\|OAPM\|OPDEF\|ORGC\|PPOP\|PPU\|SCF\|SEGMENT\|SFM\|STEXT\)\ze\%(\s\|$\)/ contained nextgroup=pp6600Far,pp6600Blanks
 syntax match pp6600Blanks /\s\+/ contained nextgroup=pp6600Operand
 syntax match pp6600Operand /\S\+/ contained contains=pp6600Number nextgroup=pp6600Comment
 syntax match pp6600Number /\<\d\+[BDO]\?\>/ contained

@@ -2,6 +2,6 @@
 
 Written from docs/MACHINE.md and docs/CONSOLE.md alone, in their terms, and without the tools' own table of instructions: the tests
 compare it with the proved program and with the tools. `places` numbers the places of the machine, `instructions` has the steps of a
-processor, `devices` those of the reader and the printer, `machine` the actions and their undo records, `console` the lines, and
+processor, `devices` those of the reader and the printer, `machine` the actions and their undo records, `lines` the console, and
 `program` the words, the files and the statuses.
 """

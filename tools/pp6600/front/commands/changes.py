@@ -2,17 +2,20 @@
 
 from collections import ChainMap
 from itertools import takewhile
+from typing import Any, Dict, Iterator, List, Mapping, Tuple
 
 from ...devices.options import add_devices, replayed
 from ...engine.interface import PAPER, PAPER_LENGTH
 from ...language.display_code import SYMBOLS
 from ...language.symbol_options import add_symbols, symbols_of
 from ...run.conditions import changes, column_of, first_place
+from ...run.forms import Place
 from ...run.names import AllSymbols
-from ...run.recording import next_turn
+from ...run.recording import Numbers, next_turn
 from ...run.search import Search, TurnFinder
+from ...run.session import Session
 from ...run.state import differences
-from ...run.tape import STEP, WATCH_WORDS, SourceLine
+from ...run.tape import STEP, WATCH_WORDS, Position, SourceLine
 from ...run.turn import places_of_setting
 from ...shell.command_line import arguments, count, words_after, write_lines
 
@@ -27,7 +30,7 @@ and the clock, the frame (XP), reader and printer, and the central words from A 
 it shows the state and the register in one; of the paper the number of symbols and the last line."""
 
 
-def place_changes(run, place, symbols=AllSymbols()):
+def place_changes(run: Session, place: Place, symbols: Any = AllSymbols()) -> Iterator[str]:
     """Yields the line of each change of a place."""
     column = column_of(place)
     for word in WATCH_WORDS:
@@ -48,12 +51,12 @@ def place_changes(run, place, symbols=AllSymbols()):
     run.close()
 
 
-def source_of(line, place):
+def source_of(line: str, place: Place) -> str:
     """Returns the place in a source from which a setting took the number at a place, after two blanks; nothing without a source."""
     return f"  {line.origin[places_of_setting(line)[place]]}" if isinstance(line, SourceLine) else ""
 
 
-def last_turns(run, count, symbols=AllSymbols()):
+def last_turns(run: Session, count: int, symbols: Any = AllSymbols()) -> Iterator[str]:
     """Yields a line with what it changed for each of the last turns, and the line of each action between them."""
     position = run.tape.at_turn(max(run.tape.turns - count, 0))
     for action in run.tape.actions(position):
@@ -62,11 +65,11 @@ def last_turns(run, count, symbols=AllSymbols()):
             yield from (turn_line(run, symbols) for _ in range(action.times))
         else:
             yield action.line
-        position += action.times
+        position = Position(position + action.times)
     run.end()
 
 
-def turn_line(run, symbols):
+def turn_line(run: Session, symbols: Any) -> str:
     """Makes the next turn. Returns a line with what it changed."""
     slot = run.next_slot
     processor, (was, now) = run.processor(slot), next_turn(run)
@@ -74,18 +77,18 @@ def turn_line(run, symbols):
     return f"TURN {run.turn:o} PP {slot:02o}: {changes}{symbols.line_at_p(slot, processor)}"
 
 
-def shown(was, now):
+def shown(was: Dict[int, int], now: Numbers) -> List[Tuple[str, ...]]:
     """Returns what a turn changed as one reads it: the places, with the numbers before and after; after the printer the last line of its
     paper."""
     before = ChainMap(was, now)
-    found = differences([place for place, number in was.items() if number != now[place]], before, now)
+    found: List[Tuple[str, ...]] = [*differences([place for place, number in was.items() if number != now[place]], before, now)]
     if before[PAPER_LENGTH] != now[PAPER_LENGTH]:
         at = next((at for at, (place, *_) in enumerate(found) if place.startswith("C ")), len(found))
         found.insert(at, ("PAPER", *(last_line(numbers[PAPER_LENGTH], now) for numbers in (before, now))))
     return found
 
 
-def last_line(length, numbers):
+def last_line(length: int, numbers: Mapping[int, int]) -> str:
     """Returns the last line of a paper of so many symbols, as a DUMP LP has it."""
     if not length:
         return "EMPTY"
@@ -94,7 +97,7 @@ def last_line(length, numbers):
     return "|" * is_whole + "/" * (not is_whole) + "".join(SYMBOLS[symbol] for symbol in symbols)[::-1]
 
 
-def main():
+def main() -> int:
     parser = arguments(DESCRIPTION, "[OPTION ..] (PLACE | --turns COUNT) [SCRIPT]")
     parser.add_argument("--turns", metavar="COUNT", type=count, help="show what each of the last turns changed, octal")
     parser.add_argument("words", nargs="*", metavar="PLACE [SCRIPT]", help="without a script, standard input is it")
@@ -103,7 +106,7 @@ def main():
     place, rest = (None, asked.words) if asked.turns else first_place(asked.words, symbols)
     (path,) = words_after(rest, 1, "give --turns, one script" if asked.turns else "give one place, one script")
     run, script = replayed(asked, symbols, path)
-    if asked.turns:
+    if place is None:
         write_lines(last_turns(run, asked.turns, symbols))
     else:
         write_lines(place_changes(run, place, symbols), "NO CHANGE")

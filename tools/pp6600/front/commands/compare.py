@@ -1,5 +1,8 @@
 """Two runs: the first turn after which the machines differ."""
 
+from argparse import Namespace
+from typing import Any, Iterator, List, Optional, Sequence, Set, Tuple, Union
+
 from ...engine.interface import P
 from ...language.symbol_options import add_files, add_symbols, symbols_from, symbols_of
 from ...language.versions import Versions, address_name
@@ -7,7 +10,7 @@ from ...run.forms import PROCESSORS
 from ...run.names import AllSymbols
 from ...run.search import halve
 from ...run.session import Session
-from ...run.state import central_differences, central_of, state_of
+from ...run.state import Difference, central_differences, central_of, state_of
 from ...run.tape import STEP
 from ...shell.command_line import Failure, arguments, processor, script_lines, simulator, words_after, write
 from ...shell.script import performed
@@ -27,26 +30,26 @@ MOST_SHOWN = 0o20  # of the places that differ
 class Side:
     """One of the two runs."""
 
-    def __init__(self, words, lines, symbols=AllSymbols()):
+    def __init__(self, words: Sequence[str], lines: Sequence[str], symbols: Any = AllSymbols()) -> None:
         self.symbols = symbols
         script = performed(words, symbols.loading(lines))
         self.run, self.status = Session.of_tape(words, script.tape), script.status
         self.turns = self.run.tape.turns
 
-    def at(self, turn, has_settings=True):
+    def at(self, turn: int, has_settings: bool = True) -> Session:
         """Goes to after a turn, with the settings before the next one or without them. Returns the run."""
         tape = self.run.tape
         self.run.goto(tape.after_turn(turn) if has_settings else tape.at_turn(turn))
         return self.run
 
-    def maker(self, turn):
+    def maker(self, turn: int) -> str:
         """Returns in words what the run did in a turn."""
         run = self.at(turn - 1)
         slot, maker = run.next_slot, run.processor(run.next_slot)
         address = self.symbols.beside(slot, maker.p)
         return f"TURN {turn:o} PP {slot:02o} P {address} {maker.text}{self.symbols.line_at_p(slot, maker)}"
 
-    def path(self, number):
+    def path(self, number: int) -> Iterator[Tuple[int, Union[int, str]]]:
         """Yields the turns of a processor, each with the address to which it led, by its label if it has labels."""
         run, tape, names = self.run, self.run.tape, self.symbols.of.get(number)
         for start, end, action in zip(tape.starts, tape.starts[1:], tape.runs):
@@ -55,23 +58,23 @@ class Side:
             run.goto(start)
             while run.position < end:
                 first, own = run.turn + 1, (number - run.next_slot) % PROCESSORS
-                rows, _ = run.engine.looks(min(end - run.position, run.history.room), [P + number])
-                run.history.performed(len(rows))
-                for at in range(own, len(rows), PROCESSORS):
-                    yield first + at, names and address_name(names, *rows[at]) or rows[at][0]
+                addresses, _ = run.engine.numbers_after(min(end - run.position, run.history.room), [P + number])
+                run.history.performed(len(addresses))
+                for at in range(own, len(addresses), PROCESSORS):
+                    yield first + at, names and address_name(names, addresses[at]) or addresses[at]
 
 
 class Comparison:
     """Two runs, the programs of which they have two versions, and the places that are compared no more."""
 
-    def __init__(self, sides, numbers=()):
+    def __init__(self, sides: Sequence[Side], numbers: Sequence[int] = ()) -> None:
         """The processors with these numbers have labels in each run."""
         self.sides = sides
         self.versions = [Versions(number, [side.symbols.of[number] for side in sides]) for number in numbers]
         self.turns = min(side.turns for side in sides)
-        self.known = set()
+        self.known: Set[str] = set()
 
-    def after(self, turn, has_settings=True):
+    def after(self, turn: int, has_settings: bool = True) -> List[Difference]:
         """Returns the differences after a turn, but those at known places."""
         runs = [side.at(turn, has_settings) for side in self.sides]
         states = [state_of(run) for run in runs]
@@ -81,7 +84,7 @@ class Comparison:
         found += central_differences(*map(central_of, runs))
         return [difference for difference in found if difference[0] not in self.known]
 
-    def first(self):
+    def first(self) -> Optional[int]:
         """Returns the first turn after which they differ, or None. They are the same at the beginning."""
         same = 0
         for number in range(1, SAMPLES + 1):
@@ -92,13 +95,13 @@ class Comparison:
         return None
 
 
-def parting(sides, number):
+def parting(sides: Sequence[Side], number: int) -> Optional[List[int]]:
     """Returns the turn of each side in which the ways of a processor part; None if they do not, as far as both go."""
     pairs = zip(*(side.path(number) for side in sides))
     return next(([turn for turn, _ in pair] for pair in pairs if len({address for _, address in pair}) > 1), None)
 
 
-def compare_paths(sides):
+def compare_paths(sides: Sequence[Side]) -> Iterator[str]:
     """Yields for each processor whose ways part the turns in which they do, the first one first."""
     found = {number: turns for number in range(PROCESSORS) if (turns := parting(sides, number))}
     for number, turns in sorted(found.items(), key=lambda one: (one[1], one[0])):
@@ -106,14 +109,14 @@ def compare_paths(sides):
         yield from (side.maker(turn) for side, turn in zip(sides, turns))
 
 
-def lines_of(found):
+def lines_of(found: Sequence[Difference]) -> Iterator[str]:
     for place, one, other in found[:MOST_SHOWN]:
         yield f"{place} {one} / {other}"
     if len(found) > MOST_SHOWN:
         yield f"AND {len(found) - MOST_SHOWN:o} MORE"
 
 
-def compare(comparison):
+def compare(comparison: 'Comparison') -> Iterator[str]:
     """Yields the lines that say how two runs differ."""
     found = comparison.after(0)
     if found:
@@ -132,7 +135,7 @@ def compare(comparison):
         yield "THE RUNS HAVE " + " AND ".join(f"{side.turns:o}" for side in comparison.sides) + " TURNS"
 
 
-def other_words(asked):
+def other_words(asked: Namespace) -> List[str]:
     """Returns the words of the second simulator."""
     for name in ("deck", "panel"):
         other = getattr(asked, f"other_{name}")
@@ -140,19 +143,19 @@ def other_words(asked):
     return simulator(asked)
 
 
-def of_its_own(asked):
+def of_its_own(asked: Namespace) -> Set[int]:
     """Returns the processors of which the second run has symbols or a source of its own."""
     return {processor(number) for number, _ in (*asked.other_symbols, *asked.other_source)}
 
 
-def other_symbols(asked):
+def other_symbols(asked: Namespace) -> AllSymbols:
     """Returns the symbols and sources of the second run: its own, and for the other processors those of the first one."""
     own = of_its_own(asked)
     listings, sources = ([one for one in pairs if processor(one[0]) not in own] for pairs in (asked.symbols, asked.source))
     return symbols_from([*listings, *asked.other_symbols], [*sources, *asked.other_source], asked.text)
 
 
-def main():
+def main() -> int:
     parser = arguments(DESCRIPTION, "[OPTION ..] [SCRIPT [SCRIPT]]")
     parser.add_argument("--other-deck", metavar="F", help="the deck of the second run")
     parser.add_argument("--other-panel", metavar="F", help="the panel of the second run")

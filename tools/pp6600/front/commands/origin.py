@@ -2,14 +2,16 @@
 
 import sys
 import time
+from typing import Any, List, Optional, Sequence, Tuple
 
 from ...devices.options import add_devices, devices_of
 from ...language.origin_text import MOST_STEPS, origin_rows
 from ...language.symbol_options import add_symbols, symbols_of
 from ...run.conditions import first_place
+from ...run.forms import Place
 from ...run.names import AllSymbols
 from ...run.session import Session
-from ...run.tape import numbered
+from ...run.tape import Position, Tape, numbered
 from ...shell.command_line import Failure, arguments, count, octal, script_lines, simulator, words_after, write_lines
 from ...shell.script import performed
 
@@ -25,22 +27,22 @@ PATIENCE = 1  # seconds without progress on the screen
 class Progress:
     """Shows at a terminal on standard error how far back the search is."""
 
-    def __init__(self, tape):
+    def __init__(self, tape: Tape) -> None:
         self.tape, self.began, self.is_shown = tape, time.monotonic(), False
 
-    def show(self, position):
+    def show(self, position: Position) -> None:
         if sys.stderr is not None and sys.stderr.isatty() and time.monotonic() > self.began + PATIENCE:
             self.is_shown = True
             sys.stderr.write(f"\rat turn {self.tape.turn(position):o} of {self.tape.turns:o}\x1b[K")
             sys.stderr.flush()
 
-    def end(self):
+    def end(self) -> None:
         if self.is_shown:
             sys.stderr.write("\r\x1b[K")
             sys.stderr.flush()
 
 
-def place_of(words, symbols):
+def place_of(words: List[str], symbols: Any) -> Tuple[Place, List[str]]:
     """Returns the place that words begin with, and the words after it."""
     place, rest = first_place(words, symbols, ("XP", "LP"))
     if not place.exists:
@@ -48,8 +50,8 @@ def place_of(words, symbols):
     return place, rest
 
 
-def origin_lines(words, tape, place, turn=None, most_steps=MOST_STEPS, with_addresses=False, symbols=AllSymbols(),
-                 with_reasons=False):
+def origin_lines(words: Sequence[str], tape: Tape, place: Place, turn: Optional[int] = None, most_steps: Optional[int] = MOST_STEPS,
+                 with_addresses: bool = False, symbols: Any = AllSymbols(), with_reasons: bool = False) -> List[str]:
     """Returns the lines of the origin of the number at a place after so many turns of a tape, or at its end. The words are the program
     and its options."""
     run = Session.of_tape(words, tape)
@@ -62,7 +64,7 @@ def origin_lines(words, tape, place, turn=None, most_steps=MOST_STEPS, with_addr
     return [line for _, line in rows]
 
 
-def main():
+def main() -> int:
     parser = arguments(DESCRIPTION, "[OPTION ..] PLACE [SCRIPT]")
     parser.add_argument("--turn", "--at", metavar="N", type=octal,
                         help="as it is after turn N, octal, with the settings before the next one")

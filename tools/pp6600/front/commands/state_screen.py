@@ -1,8 +1,12 @@
 """The whole machine on a screen of 80 columns and 24 lines (decimal)."""
 
+from argparse import Namespace
+from typing import Any, List, Sequence, Tuple
+
 from ...devices.options import add_devices, devices_of, timeline
 from ...language.calls import calls, sentence
 from ...language.symbol_options import add_symbols, symbols_of
+from ...run.console import Console
 from ...run.forms import PROCESSORS
 from ...run.session import Session
 from ...run.tape import counted
@@ -20,7 +24,7 @@ WIDTH = 11  # of two words, or a label
 LEFT = 68  # columns, to the left of the channels
 
 
-def processor_line(console, number, states, symbols):
+def processor_line(console: Console, number: int, states: Sequence[str], symbols: Any) -> str:
     """Returns the line of a processor; a > marks the one whose turn comes next."""
     processor = console.processor(number)
     mark = ">" if console.slot() == number else " "
@@ -30,20 +34,20 @@ def processor_line(console, number, states, symbols):
     return f"{mark}PP {number:02o} {fields}  AT {at:{WIDTH}.{WIDTH}} {processor.name}{waits}"
 
 
-def watch_lines(dumped):
+def watch_lines(dumped: Sequence[str]) -> List[str]:
     """Returns the lines of the watches, four a line."""
     watches = [line.removeprefix("W ") for line in dumped]
     rows = [", ".join(watches[at:at + 4]) for at in range(0, len(watches), 4)]
     return [f"{'WATCHES' if number == 0 else '':7} {row}" for number, row in enumerate(rows)]
 
 
-def source_line(console, number, symbols):
+def source_line(console: Console, number: int, symbols: Any) -> str:
     """Returns the line of the source at P of a processor; nothing without a source."""
     line = symbols.line_at_p(number, console.processor(number))
     return f" PP {number:02o}{line}"[:LEFT - 1] if line else ""
 
 
-def call_lines(run, symbols):
+def call_lines(run: Session, symbols: Any) -> List[str]:
     """Returns a line for each subroutine of a source that its processor is in, the innermost first."""
     again = Session.of_tape(run.words, run.history.in_effect())
     lines = [f" PP {number:02o}  {sentence(again, number, call, symbols)}"
@@ -52,7 +56,7 @@ def call_lines(run, symbols):
     return lines
 
 
-def screen(run, symbols):
+def screen(run: Session, symbols: Any) -> List[str]:
     right = run.channels()
     left = [processor_line(run, number, states_of(right), symbols) for number in range(PROCESSORS)]
     left += [f" TURN {run.turn:o}", *filter(None, (source_line(run, number, symbols) for number in symbols.of))]
@@ -62,7 +66,7 @@ def screen(run, symbols):
     return lines + watch_lines(run.demand("DUMP W")) + left[len(right):] + (call_lines(run, symbols) if symbols.sources() else [])
 
 
-def performed(asked, symbols):
+def performed(asked: Namespace, symbols: Any) -> Tuple[Session, Refusals]:
     """Returns a run that has performed a script, or its actions up to a turn, and the refused lines."""
     run, refusals = timeline(simulator(asked), devices_of(asked)), Refusals()
     for number, line in counted(symbols.loading(script_lines(asked.script))):
@@ -73,7 +77,7 @@ def performed(asked, symbols):
     return run, refusals
 
 
-def main():
+def main() -> int:
     asked = arguments(DESCRIPTION).parse(add_turn, add_symbols, add_devices, add_script)
     symbols = symbols_of(asked)
     run, refusals = performed(asked, symbols)

@@ -1,7 +1,10 @@
 """A script, then lines of the keyboard."""
 
+from typing import Any, Optional, Tuple
+
 from ...devices.options import add_devices, devices_of, timeline
 from ...language.symbol_options import add_sources, symbols_of
+from ...run.session import Session
 from ...shell.command_line import Failure, arguments, script_lines, simulator, words_after
 from ...shell.keyboard import converse, edit_lines
 from ...shell.script import show_lines
@@ -17,16 +20,16 @@ refused, else 1."""
 class Transcript:
     """The file in which a session is saved, line by line, so that nothing is lost; or none."""
 
-    def __init__(self, path):
+    def __init__(self, path: Optional[str]) -> None:
         self.path = path
         try:
-            self.file = path and open(path, "xb", buffering=0)
+            self.file: Any = path and open(path, "xb", buffering=0)
         except FileExistsError:
             raise Failure(f"{path} exists; give the name of a new file") from None
         except OSError as error:
             raise Failure(f"can't write {path}: {error.strerror}") from error
 
-    def add_since(self, run, place):
+    def add_since(self, run: Session, place: Tuple[int, int]) -> None:
         """Adds what a run was sent since a place; or all if its script has begun anew, after a replay."""
         replays, sent = place
         if self.path and run.replays > replays:
@@ -35,7 +38,7 @@ class Transcript:
             sent = 0
         self.add(*run.sent[sent:])
 
-    def add(self, *lines):
+    def add(self, *lines: str) -> None:
         if not self.path:
             return
         try:
@@ -44,7 +47,7 @@ class Transcript:
             raise Failure(f"can't write {self.path}: {error.strerror}") from error
 
 
-def main():
+def main() -> int:
     parser = arguments(DESCRIPTION, "[OPTION ..] [SCRIPT]")
     parser.add_argument("--save", metavar="FILE", help="write the session into a new file, as a script")
     parser.add_argument("script", metavar="SCRIPT", nargs="*", help="without it, only what is typed")

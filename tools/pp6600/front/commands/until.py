@@ -1,12 +1,16 @@
 """The turns at which a condition comes to hold."""
 
+from argparse import Namespace
 from itertools import islice
+from typing import Any, Iterable, List, Optional, Tuple
 
 from ...devices.options import add_devices, replayed
 from ...language.symbol_options import add_symbols, symbols_of
-from ...run import conditions
+from ...run.conditions import Condition, first_of
 from ...run.names import AllSymbols
+from ...run.search import FoundTurn
 from ...run.searches import last_moments, search_for
+from ...run.session import Session
 from ...shell.command_line import Failure, arguments, count, words_after, write
 
 DESCRIPTION = """Shows the first turn at whose end a condition holds and at whose beginning it did not. A condition is PLACE = 105,
@@ -19,10 +23,10 @@ before and after. A processor waits if its latest turn was a wait. If there is n
 1."""
 
 
-def condition_and_script(words, symbols=AllSymbols()):
+def condition_and_script(words: List[str], symbols: Any = AllSymbols()) -> Tuple[Condition, Optional[str]]:
     """Returns the condition and the script of a command line. The condition may be one word or several."""
     tokens = [(token, at) for at, word in enumerate(words) for token in word.split() or [word]]
-    condition, rest = conditions.first_of([token for token, _ in tokens], symbols)
+    condition, rest = first_of([token for token, _ in tokens], symbols)
     if rest:
         at = tokens[-len(rest)][1]
         if len(rest) < len(tokens) and tokens[-len(rest) - 1][1] == at:
@@ -31,7 +35,7 @@ def condition_and_script(words, symbols=AllSymbols()):
     return condition, words_after(words if rest else [], 1, "give one condition, one script")[0]
 
 
-def turns_found(asked, condition, run):
+def turns_found(asked: Namespace, condition: Condition, run: Session) -> Iterable[FoundTurn]:
     first = asked.first - 1 if asked.first else 0
     most = run.tape.turns if asked.all else asked.count or 1
     if asked.last:
@@ -39,7 +43,7 @@ def turns_found(asked, condition, run):
     return islice(search_for(run, condition).moments(first), most)
 
 
-def main():
+def main() -> int:
     parser = arguments(DESCRIPTION, "[OPTION ..] CONDITION [SCRIPT]")
     parser.add_argument("--from", metavar="N", type=count, dest="first", help="search from turn N on, octal")
     parser.add_argument("--last", action="store_true", help="search backwards from the end")

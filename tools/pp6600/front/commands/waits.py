@@ -2,7 +2,7 @@
 
 import sys
 from contextlib import closing
-from typing import NamedTuple
+from typing import Any, Iterator, List, NamedTuple, Optional, Sequence, Set, Tuple
 
 from ...devices.options import add_devices, replayed
 from ...engine import interface as flat
@@ -12,12 +12,12 @@ from ...language.symbol_options import add_symbols, symbols_of
 from ...run.conditions import Column, Condition, changes
 from ...run.forms import CELLS, CLOCK, MOST_TURNS, MOST_WATCHES, PROCESSORS, REGISTERS, Place
 from ...run.names import AllSymbols
-from ...run.search import Search, TurnFinder, last_found
+from ...run.search import FoundTurn, Search, TurnFinder, last_found
 from ...run.searches import last_moments
 from ...run.session import Session
-from ...run.state import central_of, state_of
-from ...run.tape import STEP
-from ...run.turn import CHANNEL_JUMPS, places_of_setting
+from ...run.state import State, central_of, state_of
+from ...run.tape import STEP, Position, Tape
+from ...run.turn import CHANNEL_JUMPS, Processor, places_of_setting
 from ...run.written import made_turn
 from ...shell.command_line import add_script, add_turn, arguments, write_lines
 
@@ -41,17 +41,17 @@ class Waiting(NamedTuple):
     """A processor that waits at the end of a run."""
 
     number: int
-    processor: object  # before the turn that it would have
+    processor: Processor  # before the turn that it would have
     line: str  # what is written first of it
     source: str  # the line of its source, after two blanks, if it has one
 
-    def in_place_since(self, run):
+    def in_place_since(self, run: Session) -> int:
         """Returns the number of turns after which its registers and its instruction stay those of the end."""
         places = {*(Place(name, (self.number,)) for name in REGISTERS), Place("M", (self.number, self.processor.p))}
         found = last_found(Search(run, [TurnFinder([[Form(CHANGES, place.number, 1)] for place in places])]), 1)
         return max(found[0][1] if found else 0, last_set(run, places))
 
-    def first_turn(self, run):
+    def first_turn(self, run: Session) -> str:
         """Returns since which turn it waits: its first one in its place, or the turn that it will have."""
         tape, since = run.tape, self.in_place_since(run)
         for position, line in tape.stops(since, [self.number]):
@@ -60,23 +60,23 @@ class Waiting(NamedTuple):
         return f"FROM TURN {tape.turns + 1 + (self.number - tape.slot(tape.end)) % PROCESSORS:o}"
 
 
-def last_set(run, places):
+def last_set(run: Session, places: Set[Place]) -> int:
     """Returns the number of turns before the last setting that changed the number at one of some places; 0 if there is none."""
     tape = run.tape
     for end, turns, action in zip(reversed(tape.starts), reversed(tape.turns_before), reversed(tape.runs)):
         if action.line != STEP and not places.isdisjoint(places_of_setting(action.line)):
-            was, now = (numbers_at(run, position, places) for position in (end - action.times, end))
+            was, now = (numbers_at(run, position, places) for position in (Position(end - action.times), end))
             if was != now:
                 return turns
     return 0
 
 
-def numbers_at(run, position, places):
+def numbers_at(run: Session, position: Position, places: Set[Place]) -> List[Sequence[int]]:
     run.goto(position)
     return [run.engine.numbers(place.number, 1) for place in places]
 
 
-def drop_moved(run, turns, numbers):
+def drop_moved(run: Session, turns: int, numbers: Set[int]) -> None:
     """Makes so many turns, and drops the processors that move from the watched ones, up to the last of them."""
     while turns and numbers:
         made, *hits = run.demand(f"STEP {min(turns, MOST_TURNS):o}")
@@ -86,7 +86,7 @@ def drop_moved(run, turns, numbers):
             run.demand(f"UNWATCH P {number:o}")
 
 
-def waiting_for_ever(words, tape, numbers):
+def waiting_for_ever(words: Sequence[str], tape: Tape, numbers: Sequence[int]) -> Set[int]:
     """Returns those of at most eight waiting processors that will never go on: the machine comes back to a state where it was,
     and meanwhile they have not moved. Then it does so again and again."""
     with closing(Session.of_tape(words, tape)) as run:
@@ -104,7 +104,7 @@ def waiting_for_ever(words, tape, numbers):
 
 # ---- who changed a channel last
 
-def last_change(run, channel, symbols):
+def last_change(run: Session, channel: int, symbols: Any) -> Tuple[int, str]:
     """Returns the turn of the last change of a channel, or the one before a setting, and who made it."""
     found, setting = last_moments(run, Condition([[changes(Column(Place("H", (channel,))), True)]]), 1), last_setting(run.tape, channel)
     turn = found[0].turn if found else 0
@@ -113,7 +113,7 @@ def last_change(run, channel, symbols):
     return turn, maker(run, channel, found[0], symbols)
 
 
-def last_setting(tape, channel):
+def last_setting(tape: Tape, channel: int) -> Tuple[int, str]:
     """Returns after which turn the last SET of a channel or DEADSTART was, and its name; that of nobody if there is none."""
     for turns, action in zip(reversed(tape.turns_before), reversed(tape.runs)):
         words = action.line.upper().split()
@@ -122,7 +122,7 @@ def last_setting(tape, channel):
     return 0, "NOBODY"
 
 
-def maker(run, channel, found, symbols):
+def maker(run: Session, channel: int, found: FoundTurn, symbols: Any) -> str:
     """Returns who changed a channel in a turn: its processor, or else a device."""
     made = found.made
     run.goto(made.position)
@@ -134,13 +134,13 @@ def maker(run, channel, found, symbols):
 
 # ---- the lines
 
-def goes_round_at_itself(processor, states):
+def goes_round_at_itself(processor: Processor, states: Sequence[str]) -> bool:
     """Returns whether an instruction tests a channel and jumps to itself, as EJM *,5 does while channel 05 is not full."""
     return not processor.phase and processor.code in JUMPS_IN and processor.words[1] == processor.p and \
         processor.state(states) in JUMPS_IN[processor.code]
 
 
-def at_end(run, symbols):
+def at_end(run: Session, symbols: Any) -> Tuple[List[Waiting], State]:
     """Returns the processors that wait at the end, with the line of each."""
     run.goto(run.tape.end)
     state, found = state_of(run), []
@@ -155,22 +155,22 @@ def at_end(run, symbols):
     return found, state
 
 
-def source_line(state, number, address, symbols):
+def source_line(state: State, number: int, address: Optional[int], symbols: Any) -> str:
     """Returns the line of the source whose instruction is at an address of a processor, after two blanks; nothing if there is none."""
     cell = state.memories[number].number
-    return "" if address is None else symbols.line(number, address, [cell(address), cell(address + 1)])
+    return "" if address is None else str(symbols.line(number, address, [cell(address), cell(address + 1)]))
 
 
-def channel_line(state, number):
+def channel_line(state: State, number: int) -> str:
     """Returns a channel as DUMP H has it, or that there is none."""
     return " ".join(["H", *state.channels[number]]) if number < len(state.channels) else f"H {number:02o} NONE"
 
 
-def waits(run, symbols=AllSymbols()):
+def waits(run: Session, symbols: Any = AllSymbols()) -> Iterator[str]:
     """Yields a line for each processor that waits, and one for its channel."""
     found, state = at_end(run, symbols)
     numbers = [one.number for one in found if one.processor.channel not in run.device_channels]  # a device may end its wait
-    for_ever = set().union(*(waiting_for_ever(run.words, run.tape, numbers[at:at + MOST_WATCHES])
+    for_ever = set[int]().union(*(waiting_for_ever(run.words, run.tape, numbers[at:at + MOST_WATCHES])
                              for at in range(0, len(numbers), MOST_WATCHES)))
     channels = sorted({one.processor.channel for one in found if one.processor.channel < CLOCK})
     changes = {channel: last_change(run, channel, symbols) for channel in channels}
@@ -181,7 +181,7 @@ def waits(run, symbols=AllSymbols()):
             yield f"  {channel_line(state, one.processor.channel)} SINCE TURN {turn:o}, BY {who}"
 
 
-def main():
+def main() -> int:
     asked = arguments(DESCRIPTION).parse(add_turn, add_symbols, add_devices, add_script)
     symbols = symbols_of(asked)
     run, script = replayed(asked, symbols, asked.script, asked.turn)

@@ -1,8 +1,10 @@
 """The breakpoints that an editor has set."""
 
+from __future__ import annotations
+
 import re
 from itertools import chain
-from typing import TYPE_CHECKING, Dict, FrozenSet, NamedTuple, Optional, Tuple
+from typing import TYPE_CHECKING, Any, Dict, FrozenSet, List, NamedTuple, Optional, Tuple
 
 from ...failure import Failure
 from ...run.forms import CELLS, PROCESSORS, Place
@@ -22,11 +24,11 @@ class ProcessorCell(NamedTuple):
     address: int
 
     @property
-    def reference(self):
+    def reference(self) -> str:
         return f"0x{self.number << 16 | self.address * 2:06x}"
 
     @classmethod
-    def of(cls, reference, offset=0):
+    def of(cls, reference: str, offset: int = 0) -> ProcessorCell:
         """Returns the cell of a reference and a distance in bytes."""
         try:
             at = int(reference, 0) + offset
@@ -38,18 +40,18 @@ class ProcessorCell(NamedTuple):
         return cls(number, byte // 2)
 
     @property
-    def bits(self):
+    def bits(self) -> int:
         return CELLS * self.number + self.address
 
 
-def checked(place):
+def checked(place: Place) -> Place:
     """Returns a place, if there is one of these numbers."""
     if not place.exists:
         raise Failure(f"{place.short} is out of range")
     return place
 
 
-def places_of(text):
+def places_of(text: str) -> List[Place]:
     """Returns the places of a text: one, or a range of cells as M 0 100 103."""
     place, rest = Place.first_of(text.split())
     if place.kind != "M" or not rest:
@@ -70,11 +72,11 @@ class Point(NamedTuple):
     cells: Dict[ProcessorCell, Optional[FrozenSet[int]]] = {}
     places: Tuple[Place, ...] = ()
     terms: Terms = Terms()
-    file: Optional["SourceFile"] = None  # the source, and the line there
+    file: Optional[SourceFile] = None  # the source, and the line there
     line: int = 0
 
     @property
-    def key(self):
+    def key(self) -> Tuple[Any, ...]:
         """What its hits depend on."""
         return tuple(sorted((cell, lines and tuple(sorted(lines))) for cell, lines in self.cells.items())), self.places, self.terms.text
 
@@ -82,19 +84,19 @@ class Point(NamedTuple):
 class Breakpoints:
     """All that are set, by a key: the processor of a listing, the path of a source, or the reason of those on addresses and places."""
 
-    def __init__(self):
-        self.of = {}
+    def __init__(self) -> None:
+        self.of: Dict[Any, List[Point]] = {}
 
     @property
-    def all(self):
+    def all(self) -> List[Point]:
         """All, those on lines first."""
         return sorted(chain.from_iterable(self.of.values()), key=lambda point: point.reason != LINE)
 
     @property
-    def in_a_step(self):
+    def in_a_step(self) -> List[Point]:
         """Those that count in a step: data breakpoints, and log points, which end nothing."""
         return [point for point in self.all if point.places or point.terms.log]
 
-    def places(self):
+    def places(self) -> List[Place]:
         """Returns the places of all data breakpoints, each once."""
         return list(dict.fromkeys(place for point in self.all for place in point.places))

@@ -14,7 +14,7 @@ editor starts it; docs/PANEL.md says how VS Code, Emacs, Kate and Neovim are set
 each is a listing of its cells, which follows the machine."""
 
 
-def main():
+def main() -> None:
     parser = Parser(DESCRIPTION)
     parser.add_argument("--log", metavar="FILE", help="add each message to this file: > before those of the editor, < before the answers")
     asked = parser.parse()

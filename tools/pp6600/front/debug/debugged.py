@@ -4,85 +4,100 @@ The session performs the lines of the user, and turns, and nothing else: it is w
 forward without a limit. A scout is another simulator on the same tape, at a position of its own. It stays between searches, so each goes
 on from where the last one ended."""
 
-import itertools
+from typing import TYPE_CHECKING, Any, Callable, Dict, List, Sequence
 
 from ...run.attached import Attached
+from ...run.device import Device
 from ...run.forms import PROCESSORS
 from ...run.session import REPLAYED, Session, without_history
 from ...run.state import state_of
-from ...run.tape import STEP
+from ...run.tape import STEP, Position, Tape
+from .terms import Tally
+
+if TYPE_CHECKING:
+    Base = Session
+else:
+    Base = object
 
 MADE_AT_ONCE = 0o2000  # turns that a session with devices makes
 
 
-def is_turn(tape, position):
+def is_turn(tape: Tape, position: int) -> bool:
     """Returns whether the action after a position is a turn."""
-    return next(tape.actions(position)).line == STEP
+    return next(tape.actions(Position(position))).line == STEP
 
 
-class Debugged:
+class Debugged(Base):
     """What a session that is debugged has beside its run: its scouts, the hits of its breakpoints, and its state as it was when it was last
     looked at."""
 
-    def __init__(self, *words):
-        self.scouts, self.tallies = {}, {}  # by their names, and by what hits depend on
+    may_search: bool  # whether it may itself search ahead
+    add_turns: Callable[[int], None]  # adds turns to the end of the tape, at most so many
+
+    def __init__(self, *words: Any) -> None:
+        self.scouts: Dict[str, Session] = {}  # by their names
+        self.tallies: Dict[Any, Tally] = {}  # by what hits depend on
         super().__init__(*words)
 
-    def scout(self, name="looks"):
+    def scout(self, name: str = "looks") -> Session:
         if name not in self.scouts:
             self.scouts[name] = Session(without_history(self.words), self.tape, is_search=True)
         return self.scouts[name]
 
-    def close(self):
+    def close(self) -> None:
         for scout in self.scouts.values():
             scout.close()
         super().close()
 
-    def look(self):
+    def look(self) -> None:
         """Reads the state."""
-        self.state = state_of(self)
+        self.state: Any = state_of(self)
 
-    def typed(self, line):
+    def typed(self, line: str) -> List[str]:
         """Performs a line that was typed. BACK and FORWARD go over all actions, and not only those that the simulator keeps."""
         self.withdraw(self.position)
         answer = self.act_by_move(line)
         return answer[:1] if answer[1:] == [REPLAYED] else answer
 
-    def settled(self, position):
+    def settled(self, position: int) -> Position:
         """Returns the first position from a position on that the user can be at: after the replies to an action."""
-        return self.tape.after_units(self.tape.units(position))
+        return self.tape.after_units(self.tape.units(Position(position)))
 
-    def before(self, position):
+    def before(self, position: int) -> Position:
         """Returns the last position up to a position that the user can be at."""
-        return self.tape.after_units(self.tape.whole_units(position))
+        return self.tape.after_units(self.tape.whole_units(Position(position)))
 
-    def withdraw(self, position):
+    def withdraw(self, position: int) -> None:
         """Sees that no scout is beyond a position, nor goes there by FORWARD, for the tape may be cut there."""
         for tally in self.tallies.values():
             tally.cut(position)
         for scout in self.scouts.values():
-            scout.goto(min(scout.position, position))
+            scout.goto(Position(min(scout.position, position)))
             scout.history.ahead = min(scout.history.ahead, position - scout.position)
 
-    def next_turn(self, number):
+    def next_turn(self, number: int) -> Position:
         """Returns the position before the next turn of a processor. After the tape come turns."""
-        for at in itertools.count(self.position):
+        at = self.position
+        while True:
             if at == self.tape.end:
                 self.add_turns(PROCESSORS)
             if self.tape.slot(at) == number and is_turn(self.tape, at):
                 return at
+            at = Position(at + 1)
 
-    def part(self, position, most):
+    def part(self, position: int, most: int) -> Position:
         """Returns the end of the next turns, at most so many, or of another action. After the tape come turns, which are added to it."""
         if position == self.tape.end:
             self.add_turns(most)
-        return min(self.tape.starts[self.tape.run_after(position) + 1], position + most)
+        return min(self.tape.starts[self.tape.run_after(Position(position)) + 1], Position(position + most))
 
 
 class MachineWithoutDevices(Debugged, Session):
     """A session without devices."""
 
-    def add_turns(self, most):
+    may_search = True
+
+    def add_turns(self, most: int) -> None:
         """Adds turns to the tape, so many; they are made by who goes there."""
         self.tape.append(STEP, most)
 
@@ -90,10 +105,12 @@ class MachineWithoutDevices(Debugged, Session):
 class MachineWithDevices(Debugged, Attached):
     """A session with devices, which makes each new turn itself. The scouts perform what is on the tape, and know no device."""
 
-    def __init__(self, words, devices):
+    may_search = False
+
+    def __init__(self, words: Any, devices: Sequence[Device]) -> None:
         super().__init__(without_history(words), devices)
 
-    def add_turns(self, most):
+    def add_turns(self, most: int) -> None:
         """Makes new turns at the end of the tape, at most so many."""
         with self.at(self.tape.end):
             self.act(f"STEP {min(most, MADE_AT_ONCE):o}")

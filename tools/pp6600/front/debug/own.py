@@ -1,26 +1,30 @@
 """The user's own sources in an editor: which line a processor is at, which cells a line has, and whether a file has been changed."""
 
+from __future__ import annotations
+
 import os
-from typing import NamedTuple
+from typing import Any, Dict, FrozenSet, List, NamedTuple, Optional, Sequence, Set
 
 from ...failure import Failure
 from ...run.forms import CELLS
+from ...run.turn import Processor
 from .breakpoints import ProcessorCell
 
 
 class OwnLine(NamedTuple):
     """A line of a source, and the addresses at which its words may be."""
 
-    file: "SourceFile"
+    file: SourceFile
     number: int
-    addresses: frozenset
+    addresses: FrozenSet[int]
 
 
 class SourceLines:
     """The lines of a source: the rows with words before which a stop at a line is, and the addresses at which its words may be."""
 
-    def __init__(self, source):
-        self.source, self.rows, self.addresses = source, rows_of_lines(source.program.rows), {}
+    def __init__(self, source: Any) -> None:
+        self.source, self.rows = source, rows_of_lines(source.program.rows)
+        self.addresses: Dict[int, Set[int]] = {}
         for row in source.program.rows:
             cells = ((first + at) % CELLS for at in range(len(row.words)) for first in (row.location, row.origin))
             self.addresses.setdefault(row.number, set()).update(cells)
@@ -29,13 +33,13 @@ class SourceLines:
 class SourceFile:
     """A file with the source of some processors, as it was at the launch."""
 
-    def __init__(self, path):
+    def __init__(self, path: str) -> None:
         self.path = os.path.abspath(path)
         self.source = {"name": os.path.basename(path), "path": self.path}
-        self.of = {}  # the lines by processors
+        self.of: Dict[int, SourceLines] = {}  # the lines by processors
         self.lines, self.is_told = self.read(), False  # that it has changed
 
-    def read(self):
+    def read(self) -> Optional[List[str]]:
         """Returns its lines as they are now; None if it can't be read."""
         from ...language.sources import source_lines  # few editors have sources
         try:
@@ -43,20 +47,20 @@ class SourceFile:
         except Failure:
             return None
 
-    def cells(self, line):
+    def cells(self, line: int) -> Dict[ProcessorCell, FrozenSet[int]]:
         """Returns the cells at which a line begins, each time that it makes words, with the numbers of the lines that they are of."""
-        found = {}
+        found: Dict[ProcessorCell, Set[int]] = {}
         for number, lines in self.of.items():
             for row in lines.rows.get(line, ()):
                 for address in {row.location % CELLS, row.origin}:
                     found.setdefault(ProcessorCell(number, address), set()).add(row.number)
         return {cell: frozenset(lines) for cell, lines in found.items()}
 
-    def next_line(self, line):
+    def next_line(self, line: int) -> Optional[int]:
         """Returns the first line from this one on that makes words; None if there is none."""
         return min((one for lines in self.of.values() for one in lines.rows if one >= line), default=None)
 
-    def has_changed(self):
+    def has_changed(self) -> bool:
         """Returns whether the file is another one than at the launch; once."""
         was, self.is_told = self.is_told, self.is_told or self.read() != self.lines
         return self.is_told and not was
@@ -65,23 +69,24 @@ class SourceFile:
 class OwnSources:
     """The sources of all processors."""
 
-    def __init__(self, symbols):
+    def __init__(self, symbols: Any) -> None:
         """The symbols are those of all processors, as `pp6600.language.listing` has them."""
-        self.symbols, self.of, self.file_of = symbols, dict(symbols.sources()), {}
+        self.symbols, self.of = symbols, dict(symbols.sources())
+        self.file_of: Dict[int, SourceFile] = {}
         for number, source in self.of.items():
             self.file_of[number] = self.file(source.path) or SourceFile(source.path)
             self.file_of[number].of[number] = SourceLines(source)
 
     @property
-    def files(self):
+    def files(self) -> List[SourceFile]:
         return list(dict.fromkeys(self.file_of.values()))
 
-    def file(self, path):
+    def file(self, path: Optional[str]) -> Optional[SourceFile]:
         """Returns the file with this path; None if it is no source."""
         real = os.path.realpath(path) if isinstance(path, str) else None
         return next((file for file in self.files if os.path.realpath(file.path) == real), None)
 
-    def line(self, number, address, words):
+    def line(self, number: int, address: int, words: Sequence[int]) -> Optional[OwnLine]:
         """Returns the line of which the instruction in a cell of a processor is, with its words; None if it is of no line."""
         found = self.of[number].line_of(address, *words) if number in self.of else None
         if not found or not found.is_there:
@@ -89,15 +94,16 @@ class OwnSources:
         file = self.file_of[number]
         return OwnLine(file, found.number, frozenset(file.of[number].addresses[found.number]))
 
-    def line_at_p(self, number, processor):
+    def line_at_p(self, number: int, processor: Processor) -> Optional[OwnLine]:
         """Returns the line at P of a processor; None in a block transfer, in which P is no instruction's."""
         return None if processor.phase else self.line(number, processor.p, processor.words)
 
 
-def rows_of_lines(rows):
+def rows_of_lines(rows: Sequence[Any]) -> Dict[int, List[Any]]:
     """Returns the rows of a listing with words by the lines of the file at which a stop is before them: of each line the first one each
     time that it is assembled, of a macro's call the first one that the call makes, and of a line of a macro that of each call."""
-    found, due = {}, set()
+    found: Dict[int, List[Any]] = {}
+    due: Set[int] = set()
     for row in rows:
         lines = (row.number, *row.macros)
         due = due.intersection(lines) | {lines[-1]}

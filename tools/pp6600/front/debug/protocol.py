@@ -6,6 +6,7 @@ import queue
 import re
 import sys
 import threading
+from typing import Any, BinaryIO, Dict, Mapping, Optional, TextIO
 
 from ...failure import Failure
 from ...shell.ending import shown_text
@@ -19,10 +20,11 @@ LENGTH = re.compile(rb"^[ \t]*content-length[ \t]*:[ \t]*([0-9]{1,8})[ \t\r]*$",
 class Wire:
     """The client at the other end. A thread reads its requests, so that they can be taken between the parts of a run."""
 
-    def __init__(self, log=None):
+    def __init__(self, log: Optional[str] = None) -> None:
         self.seq = 0
         self.log, self.lock = opened(log) if log else None, threading.Lock()  # both threads write it
-        self.requests, self.is_gone = queue.Queue(), False  # the client
+        self.requests: queue.Queue[Any] = queue.Queue()
+        self.is_gone = False  # the client
         if sys.stdin is None:
             raise Failure("standard input is closed or a folder, so no editor can speak")
         self.input = os.fdopen(os.dup(sys.stdin.fileno()), "rb")  # not sys.stdin: a thread that reads that at the end would abort Python
@@ -30,7 +32,7 @@ class Wire:
         sys.stdout = sys.stderr  # nothing else may come between the messages
         threading.Thread(target=self.listen, daemon=True).start()
 
-    def listen(self):
+    def listen(self) -> None:
         """Puts each request into the queue, then None or the failure that ended the input."""
         try:
             for request in iter(lambda: self.read(self.input), None):
@@ -45,7 +47,7 @@ class Wire:
         except Failure as failure:
             self.requests.put(failure)
 
-    def read(self, stream):
+    def read(self, stream: BinaryIO) -> Optional[Dict[str, Any]]:
         """Returns the next request, or None at the end of the input."""
         header = b""
         while (line := stream.readline(LONGEST_HEADER)).strip():
@@ -68,7 +70,7 @@ class Wire:
         self.note(">", message)
         return message
 
-    def write(self, **message):
+    def write(self, **message: Any) -> None:
         self.seq += 1
         message = {"seq": self.seq, **message}
         data = json.dumps(message).encode("ascii")
@@ -82,20 +84,20 @@ class Wire:
             raise Failure(f"can't write to standard output: {error.strerror}") from None
         self.note("<", message)
 
-    def event(self, name, **body):
+    def event(self, name: str, **body: Any) -> None:
         self.write(type="event", event=name, **({"body": body} if body else {}))
 
-    def say(self, text, category="console"):
+    def say(self, text: str, category: str = "console") -> None:
         """Shows a line to the user."""
         self.event("output", category=category, output=f"{shown_text(text)}\n")
 
-    def note(self, mark, message):
+    def note(self, mark: str, message: Mapping[str, Any]) -> None:
         if self.log:
             with self.lock:
                 print(mark, json.dumps(message), file=self.log, flush=True)
 
 
-def opened(path):
+def opened(path: str) -> TextIO:
     try:
         return open(path, "a", encoding="ascii")
     except OSError as error:

@@ -10,14 +10,14 @@ A condition is judged where the processor has come to the breakpoint, and of a d
 that a processor waits, is judged after the latest turn."""
 
 from itertools import chain, groupby
-from typing import FrozenSet, NamedTuple, Optional, Tuple
+from typing import Any, FrozenSet, Iterable, Iterator, List, NamedTuple, Optional, Tuple
 
 from ...engine import interface as flat
 from ...engine.interface import CHANGES, Form
-from ...run.conditions import Waits, is_written
+from ...run.conditions import AnyTest, Test, is_written
 from ...run.forms import CELLS, PROCESSORS, Place
-from ...run.search import TurnFinder, arrivals, holds_in_latest, is_met, ranges_of, waits
-from .breakpoints import ProcessorCell
+from ...run.search import Forms, TurnFinder, arrivals, holds_in_latest, is_met, ranges_of, waits
+from .breakpoints import Point, ProcessorCell
 from .debugged import is_turn
 from .terms import Terms
 
@@ -28,8 +28,8 @@ class Aim(NamedTuple):
     processor: int
     addresses: FrozenSet[int] = frozenset()
     entry: Optional[int] = None
-
-    number, terms = 0, Terms()  # as a breakpoint has them
+    number: int = 0  # as a breakpoint has it, and its terms
+    terms: Terms = Terms()
 
 
 class Stop(NamedTuple):
@@ -37,68 +37,71 @@ class Stop(NamedTuple):
 
     position: int
     number: int
-    address: Optional[int] = None  # of the breakpoint
-    place: Optional[Place] = None
+    address: Any = None  # of the breakpoint, or the place that changes
+    place: Any = None
     was: int = 0
     now: int = 0
-    met: Tuple = ()  # the breakpoints, or the aim, that it is for
+    met: Tuple[Any, ...] = ()  # the breakpoints, or the aim, that it is for
     is_next: bool = False
 
     @property
-    def text(self):
+    def text(self) -> str:
         was, now = (f"{number:0{self.place.digits}o}" for number in (self.was, self.now))
         return f"{self.place.text} is {was}, and will be {now}" if self.is_next else f"{self.place.text} was {was} and is {now}"
 
 
 class StopSearch:
-    """A search for the stops at breakpoints, and at the aim of a step."""
+    """A search for the stops at breakpoints, and at the aim of a step. A run forward to changes of places alone goes no farther than to the
+    stop, so the machine itself searches there."""
 
-    def __init__(self, machine, points, aim=None, scout="looks"):
-        self.machine, self.name, self.scout, self.tape = machine, scout, machine.scout(scout), machine.tape
-        self.points = [*points, *([aim] if aim else [])]
+    def __init__(self, machine: Any, points: Iterable[Point], aim: Optional[Aim] = None, scout: str = "looks",
+                 is_forward: bool = False) -> None:
+        self.machine, self.tape = machine, machine.tape
+        self.points: List[Any] = [*points, *([aim] if aim else [])]
         self.places = list(dict.fromkeys(place for point in points for place in point.places))
         self.numbers = [place.number for place in self.places]
         self.addresses = {aim.processor: set(aim.addresses)} if aim else {}  # of the breakpoints, by processor
         for number, address in chain.from_iterable(point.cells for point in points):
             self.addresses.setdefault(number, set()).add(address)
+        self.scout = machine if is_forward and machine.may_search and not self.addresses else machine.scout(scout)
         # By processor the cell of an address that is one too.
         self.entries = {aim.processor: flat.CELLS + CELLS * aim.processor + aim.entry} if aim and aim.entry is not None else {}
-        self.fixed = [[Form(CHANGES, place, size)] for place, size in ranges_of(self.numbers)]
+        self.fixed: List[Forms] = [[Form(CHANGES, place, size)] for place, size in ranges_of(self.numbers)]
         for number, addresses in self.addresses.items():
             self.fixed += arrivals(number, addresses)
 
-    def stops(self, first, last):
+    def stops(self, first: int, last: int) -> Iterator[List[Stop]]:
         """Yields the stops after a position, up to a later one, in their order, those of one position together. Turns alone are between,
         or one other action."""
         if self.fixed or self.entries:
             by = self.by_turns if is_turn(self.tape, first) else self.by_setting
             yield from filter(None, map(self.judged, by(first, last)))
 
-    def at(self, position):
+    def at(self, position: int) -> List[Stop]:
         """Returns the stop of the processor whose turn is next at a position, if it has come to a breakpoint."""
         return self.judged(self.came(self.tape.slot(position), position))
 
-    def by_turns(self, first, last):
+    def by_turns(self, first: int, last: int) -> Iterator[List[Stop]]:
         scout = self.scout
         found = [stop for number in self.addresses for stop in self.came(number, first) if stop.position > first]
         scout.goto(first)
         while scout.position < last:
-            is_found = self.finder().next(scout, min(last - scout.position, scout.history.room))
+            is_found = self.finder().next(scout, last - scout.position)
             here = scout.position
             found = sorted([*found, *(self.after_turn(here) if is_found else ())], key=lambda stop: (stop.position, not stop.place))
             for _, some in groupby([stop for stop in found if stop.position <= here], lambda stop: stop.position):
-                yield some
+                yield list(some)
             found = [stop for stop in found if stop.position > here]
             scout.goto(here)
 
-    def finder(self):
+    def finder(self) -> TurnFinder:
         """Returns what finds the next turn after which there may be a stop. Where an entry leads may change, and is seen anew."""
-        entries = [[is_written(cell)] for cell in self.entries.values()]
+        entries: List[Forms] = [[is_written(cell)] for cell in self.entries.values()]
         for number, cell in self.entries.items():
             entries += arrivals(number, {self.number(cell)})
         return TurnFinder([*self.fixed, *entries])
 
-    def after_turn(self, position):
+    def after_turn(self, position: int) -> List[Stop]:
         """Returns the stops that the turn before a position makes: after the change of a place, and before the processor's next turn."""
         number = self.tape.slot(position - 1)
         self.scout.goto(position - 1)
@@ -107,12 +110,12 @@ class StopSearch:
         came = [Stop(position + PROCESSORS - 1, number, address) for address in self.arrived(number, was)]
         return [*self.changed(position, before, map(self.number, self.numbers)), *came]
 
-    def by_setting(self, position, _):
+    def by_setting(self, position: int, _: int) -> Iterator[List[Stop]]:
         (was, *before), (now, *after) = self.seen(position), self.seen(position + 1)
         came = self.came(now[0], position + 1) if was != now else ()
         yield [*self.changed(position + 1, before, after), *came]
 
-    def seen(self, position):
+    def seen(self, position: int) -> List[Any]:
         """Returns the processor whose turn is next at a position with its P and phase, and the numbers at the places."""
         self.scout.goto(position)
         slot = self.tape.slot(position)
@@ -120,15 +123,15 @@ class StopSearch:
 
     # ---- where processors come to
 
-    def number(self, place):
+    def number(self, place: int) -> int:
         """Returns the number at a place, as it is for the scout."""
-        return self.scout.number_of(place)
+        return int(self.scout.number_of(place))
 
-    def where(self, number):
+    def where(self, number: int) -> Tuple[int, int]:
         """Returns P and phase of a processor, as they are for the scout."""
         return self.number(flat.P + number), self.number(flat.PHASE + number)
 
-    def came(self, number, position):
+    def came(self, number: int, position: int) -> Iterator[Stop]:
         """Yields the stop before the next turn of a processor, if it came to a breakpoint by its latest turn before a position."""
         at = self.tape.latest_turn(number, position)
         if number not in self.addresses:
@@ -141,7 +144,7 @@ class StopSearch:
         for address in self.arrived(number, was):
             yield Stop(position + (number - self.tape.slot(position)) % PROCESSORS, number, address)
 
-    def arrived(self, number, was):
+    def arrived(self, number: int, was: Optional[Tuple[int, int]]) -> Iterator[int]:
         """Yields the address of a breakpoint at which a processor is, if it was elsewhere."""
         p, phase = self.where(number)
         if (p, phase) != was and not phase and number in self.addresses:
@@ -150,23 +153,23 @@ class StopSearch:
 
     # ---- what changes
 
-    def changed(self, position, before, after):
+    def changed(self, position: int, before: Iterable[int], after: Iterable[int]) -> List[Stop]:
         """Returns the stops at a position after the changes of all places that had other numbers before."""
         return [self.change(position, *one) for one in zip(self.places, before, after) if one[1] != one[2]]
 
-    def change(self, position, place, was, now):
+    def change(self, position: int, place: Place, was: int, now: int) -> Stop:
         """Returns the stop at a position after the change of a place."""
         return Stop(position, self.tape.slot(position - 1), None, place, was, now)
 
     # ---- which breakpoints they are for
 
-    def judged(self, stops):
+    def judged(self, stops: Iterable[Stop]) -> List[Stop]:
         """Returns those of some stops that are for a breakpoint or the aim."""
         met = [stop._replace(met=tuple(point for point in self.points if self.is_on(point, stop) and self.holds(point, stop.position)))
                for stop in stops]
         return [stop for stop in met if stop.met]
 
-    def is_on(self, point, stop):
+    def is_on(self, point: Any, stop: Stop) -> bool:
         """Returns whether a stop is at a place or a cell of a breakpoint or aim; of a line of a source the cell must have its word."""
         if isinstance(point, Aim):
             self.scout.goto(stop.position)
@@ -175,22 +178,22 @@ class StopSearch:
         cell = ProcessorCell(stop.number, stop.address)
         if stop.place or cell not in point.cells:
             return stop.place in point.places
-        lines = point.cells[cell]
-        if lines is None:
+        lines, file = point.cells[cell], point.file
+        if lines is None or file is None:
             return True
         self.scout.goto(stop.position)
         read = self.scout.cell_of(stop.number)
-        found = point.file.of[stop.number].source.line_of(stop.address, read(stop.address), read(stop.address + 1))
+        found = file.of[stop.number].source.line_of(stop.address, read(stop.address), read(stop.address + 1))
         return found is not None and found.number in lines
 
-    def holds(self, point, position):
+    def holds(self, point: Any, position: int) -> bool:
         """Returns whether the condition of a breakpoint holds at a position."""
         condition = point.terms.condition
         return condition is None or any(all(self.test_holds(test, position) for test in one.tests) for one in condition.alternatives)
 
-    def test_holds(self, test, position):
+    def test_holds(self, test: AnyTest, position: int) -> bool:
         self.scout.goto(position)
-        if isinstance(test, Waits):
+        if not isinstance(test, Test):  # a breakpoint has none of wrong returns
             return waits(self.scout, test.number)
-        is_after_turn = position and is_turn(self.tape, position - 1)
+        is_after_turn = position > 0 and is_turn(self.tape, position - 1)
         return any(is_met(self.scout, [form]) or is_after_turn and holds_in_latest(self.scout, [form]) for form in test.forms)

@@ -3,25 +3,30 @@
 A hit is each time that a processor comes to the breakpoint, or that the place of a data breakpoint changes, and the condition holds.
 Hits are counted from the beginning of the run, wherever the search for them began. So a hit has the same number forward and back."""
 
+from __future__ import annotations
+
 import operator
 import re
 from array import array
 from bisect import bisect_right
 from itertools import chain
-from typing import Callable, NamedTuple, Optional
+from typing import Any, Callable, Dict, Iterable, List, Mapping, NamedTuple, Optional, Sequence
 
 from ...failure import Failure
 from ...run.conditions import Column, Condition, first_place, parsed
-from ...run.forms import octal
+from ...run.forms import Place, octal
+from ...run.session import Session
+from ...run.tape import Position
 
-SIGNS = {"=": operator.eq, "==": operator.eq, ">": operator.gt, ">=": operator.ge, "<": operator.lt, "<=": operator.le,
-         "%": lambda count, number: count % number == 0}
+SIGNS: Dict[str, Callable[[int, int], Any]] = {
+    "=": operator.eq, "==": operator.eq, ">": operator.gt, ">=": operator.ge, "<": operator.lt, "<=": operator.le,
+    "%": lambda count, number: count % number == 0}
 COUNT = re.compile(r"\s*(==?|>=?|<=?|%)?\s*([0-9]+)\s*")
 EXPRESSION = re.compile(r"\{([^{}]*)\}")
 REGISTERS = ("A", "P", "Q")
 
 
-def hits_of(text):
+def hits_of(text: str) -> Callable[[int], bool]:
     """Returns a function that says of a hit, by its number, whether it counts."""
     found = COUNT.fullmatch(text)
     if not found:
@@ -29,21 +34,21 @@ def hits_of(text):
     sign, number = found[1] or "=", octal(found[2])
     if not number and sign == "%":
         raise Failure("no number is a multiple of 0")
-    return lambda count: SIGNS[sign](count, number)
+    return lambda count: bool(SIGNS[sign](count, number))
 
 
 class Log:
     """The text of a log point. What is in braces is a place, as in a condition; without a number it is the processor's own."""
 
-    def __init__(self, text, numbers, symbols):
+    def __init__(self, text: str, numbers: Iterable[int], symbols: Any) -> None:
         """The numbers are those of the processors that may come there."""
         self.text = text
         expressions = EXPRESSION.findall(text)
         self.places = {number: [place_of(one, number, symbols) for one in expressions] for number in numbers}
 
-    def said(self, number, position, scout):
+    def said(self, number: int, position: int, scout: Session) -> str:
         """Returns the text at a processor, with the values of its places at a position."""
-        scout.goto(position)
+        scout.goto(Position(position))
         left = (Column(place).shown(scout)[0][1] for place in self.places[number])
         return EXPRESSION.sub(lambda _: next(left), self.text)
 
@@ -57,7 +62,7 @@ class Terms(NamedTuple):
     text: str = ""  # of the condition
 
     @classmethod
-    def of(cls, asked, numbers, symbols):
+    def of(cls, asked: Mapping[str, Any], numbers: Iterable[int], symbols: Any) -> Terms:
         """Returns the terms that an editor has asked for, of a breakpoint that some processors may come to."""
         condition, hits, log = (str(asked.get(name) or "").strip() for name in ("condition", "hitCondition", "logMessage"))
         tests = parsed(condition, symbols) if condition else None
@@ -65,19 +70,19 @@ class Terms(NamedTuple):
             raise Failure("returns wrongly is about a whole run, so it is for until, and for no breakpoint")
         return cls(tests, hits_of(hits) if hits else None, Log(log, numbers, symbols) if log else None, condition)
 
-    def places(self):
+    def places(self) -> List[Place]:
         """Returns all places that they are about."""
         logged = self.log.places.values() if self.log else ()
         return [*(column.place for column in (self.condition.columns if self.condition else ())), *chain.from_iterable(logged)]
 
 
-def of_processor(words, number):
+def of_processor(words: Sequence[str], number: int) -> List[str]:
     """Returns the words of a place, with the number of a processor that is left out: A is its A, and M 106 its cell."""
     kind = words[0].upper() if words else ""
-    return [kind, f"{number:o}", *words[1:]] if len(words) == (1 if kind in REGISTERS else 2 if kind == "M" else 0) else words
+    return [kind, f"{number:o}", *words[1:]] if len(words) == (1 if kind in REGISTERS else 2 if kind == "M" else 0) else [*words]
 
 
-def place_of(text, number, symbols):
+def place_of(text: str, number: int, symbols: Any) -> Place:
     """Returns the place that an expression names."""
     place, rest = first_place(of_processor(text.split(), number), symbols)
     if rest or not place.exists:
@@ -88,19 +93,19 @@ def place_of(text, number, symbols):
 class Tally:
     """The positions of the hits of a breakpoint up to one."""
 
-    def __init__(self):
+    def __init__(self) -> None:
         self.known = -1  # the last position up to which they are all there
-        self.positions = array("q")
+        self.positions: Any = array("q")
 
-    def add(self, position):
+    def add(self, position: int) -> None:
         if not self.positions or position > self.positions[-1]:
             self.positions.append(position)
 
-    def number(self, position):
+    def number(self, position: int) -> int:
         """Returns how many hits there are up to a position."""
         return bisect_right(self.positions, position)
 
-    def cut(self, position):
+    def cut(self, position: int) -> None:
         """Forgets what is after a position."""
         del self.positions[self.number(position):]
         self.known = min(self.known, position)

@@ -1,34 +1,39 @@
 """The lines of the console that keys of the panel send, and the page of all keys."""
 
+from typing import Any, Callable, Dict, List
+
 from ...run.forms import MOST_TURNS, PROCESSORS
+from ...run.tape import UnitCounts
 from ..keys import help_rows
+from .logged_session import LoggedSession
+from .view import View
 
 ROUND = PROCESSORS  # turns
 
 
-def counted(word, count):
+def counted(word: str, count: int) -> List[str]:
     """Returns the line of so many actions; none of no action."""
     return [word if count == 1 else f"{word} {count:o}"] if count else []
 
 
-def step_lines(turns):
+def step_lines(turns: int) -> List[str]:
     """Returns the lines that make so many turns."""
     whole, rest = divmod(turns, MOST_TURNS)
     return [f"STEP {MOST_TURNS:o}"] * whole + counted("STEP", rest)
 
 
-def turns_to(slot, processor, count):
+def turns_to(slot: int, processor: int, count: int) -> int:
     """Returns how many turns it is to the turn of a processor that comes after so many others of it."""
     return (processor - slot - 1) % PROCESSORS + 1 + ROUND * (count - 1)
 
 
-def on(history, turns):
+def on(history: UnitCounts, turns: int) -> List[str]:
     """Returns the lines that go on by so many turns: over those that are ahead, then over new ones."""
     again = history.last_turn - history.turns
     return counted("FORWARD", history.forward_over(turns) if turns <= again else history.to_redo) + step_lines(max(turns - again, 0))
 
 
-def to_turn(history, turn):
+def to_turn(history: UnitCounts, turn: int) -> List[str]:
     """Returns the lines that go to before the turn that comes after so many: back, or over what is ahead and then over new turns."""
     if turn < history.turns:
         return back_over(history, history.turns - turn)
@@ -36,17 +41,17 @@ def to_turn(history, turn):
     return counted("FORWARD", ahead) + step_lines(max(turn - history.last_turn, 0))
 
 
-def back_over(history, turns):
+def back_over(history: UnitCounts, turns: int) -> List[str]:
     """Returns the line that goes back over so many turns."""
     return counted("BACK", history.back_over(turns))
 
 
-def toggle_watch(session, view, count=1):
+def toggle_watch(session: LoggedSession, view: View, count: int = 1) -> List[str]:
     return [f"{'UNWATCH' if view.place() in session.watched() else 'WATCH'} {view.place()}"]
 
 
 # The lines of each action that sends some, by the session, what is looked at, and a count.
-LINES = {
+LINES: Dict[str, Callable[[Any, Any, int], List[str]]] = {
     "on": lambda session, view, count: on(session.history, count),
     "back": lambda session, view, count: counted("BACK", count),
     "round-on": lambda session, view, count: on(session.history, ROUND * count),
@@ -62,7 +67,7 @@ LINES = {
 }
 
 
-def help_lines():
+def help_lines() -> List[str]:
     """Returns the page of all keys."""
     lines = ["Each key of the first part sends lines of the console. They are shown with their",
              "answers, and w FILE saves them. A count before a key, in octal, repeats it: 12s",

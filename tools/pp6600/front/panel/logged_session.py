@@ -2,81 +2,85 @@
 
 import os
 from contextlib import closing
-from typing import NamedTuple
+from typing import Any, Callable, List, NamedTuple, Sequence, Tuple
 
 from ...devices.options import timeline
 from ...failure import Failure
+from ...run.attached import Attached
 from ...run.console import Console, has_no_answer
+from ...run.device import Device
 from ...run.forms import hit_of, is_refusal
 from ...run.searches import MOST_NEW
 from ...run.session import Session, without_history
-from ...run.state import state_of
-from ...run.tape import ScriptLine, SourceLine
+from ...run.state import State, state_of
+from ...run.tape import ScriptLine, SourceLine, UnitCounts
 from ...shell.keyboard import place_of
 
 LOG_LENGTH = 10000  # decimal, lines and answers
+Log = List[Tuple[str, List[str]]]  # lines with their answers
 
 
 class Outcome(NamedTuple):
     """What came of some lines."""
 
-    answer: list  # to the last one that was sent
+    answer: List[str]  # to the last one that was sent
     discarded: int  # how many actions that were ahead are so no longer
-    watched: list  # the places that were watched before
+    watched: List[str]  # the places that were watched before
 
 
-def kind_of(answer):
+def kind_of(answer: Sequence[str]) -> str:
     """Returns the first word of an answer, as TURNS; nothing if there is no answer."""
     return answer[0].split()[0] if answer else ""
 
 
-def never(done, total):
+def never(done: int, total: int) -> bool:
     return False
 
 
 class LoggedSession:
     """A simulator, all lines that it was sent, and its state. The lines that ask for the state are not among them."""
 
-    def __init__(self, words, devices=()):
+    def __init__(self, words: Sequence[str], devices: Sequence[Device] = ()) -> None:
         self.simulator = timeline(words, devices)
         self.most_new = 0 if devices else MOST_NEW  # a search has no devices
         self.size = self.simulator.central_size
         self.lines_sent = 0
         self.saved = (0, 0)  # the lines that are in a file
-        self.log, self.logged = [], 0  # the lines of the log
+        self.log: Log = []
+        self.logged = 0  # the lines of the log
         self.look_again()
 
     @property
-    def history(self):
+    def history(self) -> UnitCounts:
         return self.simulator.counts
 
     @property
-    def sent(self):
+    def sent(self) -> List[str]:
         """The lines that were sent; after a replay those of the replay, and what was sent after it."""
         return self.simulator.sent
 
-    def read(self):
+    def read(self) -> State:
         """Returns the machine's state."""
         return state_of(self.simulator, with_central=True)
 
-    def look_again(self):
+    def look_again(self) -> None:
         """Reads the state, in which nothing is marked."""
         self.state = self.before = self.read()
 
-    def search(self):
+    def search(self) -> Session:
         """Returns a session on the same tape, whose position is its own. It is used in a `with` block."""
         return Session(without_history(self.simulator.words), self.simulator.tape, is_search=True)
 
-    def watched(self):
+    def watched(self) -> List[str]:
         return [place.short for place in self.state.watched]
 
-    def would_refuse(self, line):
+    def would_refuse(self, line: str) -> bool:
         """Returns whether a new action would be refused: whether another simulator, which watches the same places, refuses it."""
         with closing(Console(self.simulator.words)) as other:
             *_, answer = other.ask_each([*(f"WATCH {place}" for place in self.watched()), line])
         return is_refusal(answer)
 
-    def send(self, line):
+    def send(self, line: str) -> List[str]:
         if not isinstance(line, SourceLine):
             self.lines_sent += 1
             line = ScriptLine(line, self.lines_sent)
@@ -85,18 +89,19 @@ class LoggedSession:
             self.log_line(line, answer)
         return answer
 
-    def log_line(self, line, answer):
+    def log_line(self, line: str, answer: List[str]) -> None:
         """Adds a line with its answer to the log, and drops the oldest of a log that is too long."""
         self.log.append((line, answer))
         self.logged += 1 + len(answer)
         while self.logged > LOG_LENGTH and len(self.log) > 1:
             self.logged -= 1 + len(self.log.pop(0)[1])
 
-    def perform(self, lines, stops=never):
+    def perform(self, lines: Sequence[str], stops: Callable[[int, int], bool] = never) -> Outcome:
         """Sends lines up to one that is refused, or that ends with a HIT, or until it `stops`: that is asked before each
         line but the first, with how many are done and how many there are. Then reads the state. Returns the outcome."""
         state, position, watched = self.state, self.history.position, self.watched()
-        answer, discarded = [], 0
+        answer: List[str] = []
+        discarded = 0
         for number, line in enumerate(lines):
             if number and stops(number, len(lines)):
                 break
@@ -108,13 +113,14 @@ class LoggedSession:
             self.state, self.before = self.read(), state
         return Outcome(answer, discarded, watched)
 
-    def tell(self, number, what):
+    def tell(self, number: int, what: Any) -> None:
         """Tells a device something, as which keys are pressed."""
+        assert isinstance(self.simulator, Attached)  # for it has a device
         self.simulator.tell(number, what)
         self.log_line(f"* {what!a} to device {number + 1} (decimal)", [])
         self.state, self.before = self.read(), self.state
 
-    def to_turn(self, turn):
+    def to_turn(self, turn: int) -> None:
         """Goes to where so many turns are in effect. What the last of them changed is marked. New turns do not end where a watched number
         changes."""
         for goal in range(max(turn - 1, 0), turn + 1):
@@ -123,7 +129,7 @@ class LoggedSession:
             self.before, self.state = self.state, self.read()
         self.before = self.before if turn else self.state
 
-    def perform_script(self, lines, stops=never):
+    def perform_script(self, lines: Sequence[str], stops: Callable[[int, int], bool] = never) -> bool:
         """Performs a script, whatever is refused; `stops` is asked before each line. What the last action changed is marked. Returns
         whether all was performed."""
         acting = (number for number, line in enumerate(lines) if not has_no_answer(line) and line.upper().split()[:1] != ["DUMP"])
@@ -137,12 +143,12 @@ class LoggedSession:
         self.state, self.saved = self.read(), place_of(self.simulator)
         return True
 
-    def close(self):
+    def close(self) -> None:
         self.simulator.close()
 
     # ---- the file of what was sent
 
-    def save(self, path, over=False):
+    def save(self, path: str, over: bool = False) -> None:
         """Writes all that was sent into a file, a script that gives the same session again. It begins with the options, if a note can say
         them."""
         if over and os.path.exists(path) and not os.path.isfile(path):  # a FIFO would wait for a reader
@@ -160,5 +166,5 @@ class LoggedSession:
             raise Failure(f"can't write {path}: {getattr(error, 'strerror', None) or error}") from error
         self.saved = place_of(self.simulator)
 
-    def is_saved(self):
+    def is_saved(self) -> bool:
         return self.saved == place_of(self.simulator)

@@ -11,7 +11,7 @@ SCRIPT, then waits for keys, which step it forward and back; ? shows them all. E
 w FILE saves what was sent as a script. It needs a terminal of 80 columns and 24 lines (decimal) or more."""
 
 
-def main():
+def main() -> None:
     parser = arguments(DESCRIPTION, "[OPTION ..] [SCRIPT]")
     parser.add_argument("--turn", metavar="N", type=octal, help="go to this turn of the script, counted in octal from 1")
     parser.add_argument("script", metavar="SCRIPT", nargs="*", help="lines of the console to begin with")

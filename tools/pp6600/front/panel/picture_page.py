@@ -1,20 +1,24 @@
 """The page of what devices of one's own show. The keys that send lines do so here too: the pictures follow the run."""
 
-from ...devices.pictures import braille
+from typing import Any, Iterator, List, Tuple
+
+from ...devices.pictures import Picture, braille
 from ...run.device import Device, DeviceFailure, drawn
 from ..keys import PANEL
 from .key_lines import LINES
+from .logged_session import LoggedSession
+from .screen import Screen
 from .text import MarkedLine
 from .text_page import TextPage
 
 
-def devices_that(session, method):
+def devices_that(session: LoggedSession, method: str) -> List[Tuple[int, Device]]:
     """Returns the numbers of the devices of a session whose class has a method of its own, and the devices."""
     devices = enumerate(getattr(session.simulator, "devices", ()))
     return [(number, device) for number, device in devices if getattr(type(device), method) is not getattr(Device, method)]
 
 
-def line_of(text):
+def line_of(text: str) -> MarkedLine:
     """Returns a line of a text that is not all ASCII."""
     line = MarkedLine()
     line.text = text
@@ -24,15 +28,15 @@ def line_of(text):
 class PicturePage(TextPage):
     passes = {*(key for key, action in PANEL.items() if action in LINES), *"01234567"}
 
-    def __init__(self, panel):
+    def __init__(self, panel: Any) -> None:
         super().__init__("", [], closes="v")
         self.panel, self.devices = panel, devices_that(panel.session, "picture")
 
-    def texts(self, columns, rows):
+    def texts(self, columns: int, rows: int) -> Iterator[str]:
         """Yields the lines of all pictures, each as large as it can be seen whole."""
-        def draw(picture):
+        def draw(picture: Picture) -> List[str]:
             if not picture.screens:  # the end of a page of paper
-                return picture.lines[-max(rows - 4, 1):]
+                return list(picture.lines[-max(rows - 4, 1):])
             return braille(picture, min(columns, (2 * (rows - 3) + 1) * len(picture.screens) - 1))
 
         for number, device in self.devices:
@@ -42,10 +46,10 @@ class PicturePage(TextPage):
             except DeviceFailure as failure:
                 yield str(failure)
 
-    def bottom(self, height):
+    def bottom(self, height: int) -> str:
         return self.panel.message or "s, b and other keys that step do so here; v, Escape or Enter closes this page"
 
-    def screen(self, columns, rows):
+    def screen(self, columns: int, rows: int) -> Screen:
         self.title = f"Turn {self.panel.session.history.turns:o}"
         self.lines = list(map(line_of, self.texts(columns, rows)))
         return super().screen(columns, rows)

@@ -1,21 +1,24 @@
 """What the panel says of the lines that were sent, beside their answers."""
 
 import os
+from typing import Any, List, Optional, Sequence
 
 from ...language.calls import address_of
 from ...run.forms import Place, hit_of
+from ...run.names import AllSymbols
 from ...run.reasons import reason
 from ...run.recording import next_changes
 from ...run.session import REPLAYED
+from ...run.state import Memory
 from ...run.tape import STEP
-from .logged_session import kind_of
+from .logged_session import LoggedSession, Outcome, kind_of
 
 # What a key does about a refusal.
 ADVICE = {"ERR 07": "< goes back to the beginning", "ERR 10": "[ goes to older changes", "ERR 15": "t watches the number at the cursor",
           "ERR 16": "> goes to the newest state"}
 
 
-def remarks(session, outcome, cursor, symbols):
+def remarks(session: LoggedSession, outcome: Outcome, cursor: Place, symbols: AllSymbols) -> List[str]:
     """Returns what an operator may not expect of the last lines, the most important first; the cursor is at a place, and processors
     have these symbols and sources."""
     kind, hit = kind_of(outcome.answer), hit_of(outcome.answer)
@@ -30,13 +33,13 @@ def remarks(session, outcome, cursor, symbols):
     return change + replayed + [f"WATCH {watched} is undone too" for watched in undone[:1]]
 
 
-def advice(line, answer, size):
+def advice(line: str, answer: str, size: int) -> str:
     """Returns a refusal with what may be done about it, or why the line was refused."""
     more = ADVICE.get(answer[:6]) or reason(line, answer, size)
     return f"{answer}; {more}" if more else answer
 
 
-def next_change(session, places, symbols):
+def next_change(session: LoggedSession, places: Sequence[Place], symbols: AllSymbols) -> List[str]:
     """Returns in words the next action, which makes the change before which a BACK W has stopped, with the first of the places that it
     changes; and the line of a source that its instruction is of, in a block transfer that of the instruction which began it."""
     simulator, slot = session.simulator, session.state.slot
@@ -52,14 +55,14 @@ def next_change(session, places, symbols):
     return [f"the next turn, PP {slot:02o} {instruction}, {change}", *line_of(session.state.memories[slot], address, symbols.of.get(slot))]
 
 
-def line_of(memory, address, source):
+def line_of(memory: Memory, address: Optional[int], source: Any) -> List[str]:
     """Returns the file and the line that an instruction is of, or was, in a list; an empty one without a source."""
-    is_known = source and source.is_source and address is not None
-    line = source.line_of(address, memory.number(address), memory.number(address + 1)) if is_known else None
+    is_known = source and source.is_source
+    line = source.line_of(address, memory.number(address), memory.number(address + 1)) if is_known and address is not None else None
     return [f"{os.path.basename(source.path)}:{line.number}"] if line else []
 
 
-def in_width(parts, width):
+def in_width(parts: Sequence[str], width: int) -> str:
     """Returns the first of the parts, and those of the others that a line has room for."""
     text = "".join(parts[:1])
     for part in parts[1:]:

@@ -1,20 +1,24 @@
 """The memory of the chosen processor by rows: an instruction each, or as the source. Then a row has the line that it is of, or was, and
 before it are the lines without words, as notes. `Source.line_of` says whose line a cell is. A cell of no line has its own row."""
 
+from __future__ import annotations
+
 import functools
 import os
-from typing import TYPE_CHECKING, NamedTuple, Optional
+from typing import TYPE_CHECKING, Any, Dict, Iterable, List, NamedTuple, Optional, Sequence, Tuple
 
 from ...language.display_code import text_of
 from ...language.notation import TAB
 from ...run.disassembly import Row, rows_above, rows_around, rows_from
 from ...run.forms import CELLS
 from ...run.sentences import sentence
+from ...run.state import State
 from .text import HEAD, HERE, OVERWRITTEN, MarkedLine
 
 if TYPE_CHECKING:
     from ...language.program import ListingRow
     from ...language.sources import CellLine
+    from .screen import ScreenContent
 
 TEXT_FROM, LABEL_FROM = 17, 33  # the columns of an instruction and of its label
 DISPLAY_WIDTH = 5
@@ -25,10 +29,10 @@ class Entry(NamedTuple):
     """What a line of the pane shows: a row of cells, with the source line that it is of, or was; or a line without words before it."""
 
     row: Row
-    line: Optional["CellLine"] = None
-    note: Optional["ListingRow"] = None
+    line: Optional[CellLine] = None
+    note: Optional[ListingRow] = None
 
-    def has(self, address):
+    def has(self, address: int) -> bool:
         return self.note is None and self.row.has(address)
 
 
@@ -36,9 +40,11 @@ class Notes:
     """The lines of a source without words, by what comes after them: a row of words, or the address of cells that a line leaves out, as
     BSS does. Those that a macro made are none."""
 
-    def __init__(self, rows):
+    def __init__(self, rows: Sequence[ListingRow]) -> None:
         """The rows are those of the listing."""
-        self.before, self.at, waiting = {}, {}, []
+        self.before: Dict[ListingRow, List[ListingRow]] = {}
+        self.at: Dict[int, List[ListingRow]] = {}
+        waiting: List[ListingRow] = []
         self.digits = len(str(max(row.number for row in rows)))
         for row, after in zip(rows, [*rows[1:], None]):
             if row.words:
@@ -49,15 +55,15 @@ class Notes:
                 self.at.setdefault((row.location if after else row.origin) % CELLS, []).extend(waiting)
                 waiting = []
 
-    def of(self, address, line):
+    def of(self, address: int, line: Optional[CellLine]) -> Sequence[ListingRow]:
         """Returns those that come before a cell, which is of a line."""
-        return self.at.get(address, []) + (self.before[line.row] if begins(line) else [])
+        return self.at.get(address, []) + (self.before[line.row] if line and begins(line) else [])
 
 
 notes_of = functools.lru_cache(maxsize=None)(lambda source: Notes(source.program.rows))
 
 
-def begins(line):
+def begins(line: Optional[CellLine]) -> bool:
     """Returns whether a line begins at its cell, and is still there."""
     return line is not None and line.is_there and not line.at
 
@@ -65,7 +71,7 @@ def begins(line):
 class Cells:
     """The cells of a processor, with the lines of its source if it has one."""
 
-    def __init__(self, state, number, source=None):
+    def __init__(self, state: State, number: int, source: Any = None) -> None:
         self.processor, memory, self.source = state.processors[number], state.memories[number], source
         self.word, p = memory.number, self.processor.p
         self.back = (memory.number(0) + 1) % CELLS if self.processor.phase else None  # where a block transfer goes on
@@ -73,24 +79,25 @@ class Cells:
         self.present = p if self.here is None else self.here
         self.heads = {self.present, p, self.back}
 
-    def __contains__(self, address):
+    def __contains__(self, address: Any) -> bool:
         """Returns whether a row begins at an address: one of the machine's, or where a line of the source begins."""
         return address in self.heads or self.source is not None and begins(self.line(address))
 
-    def line(self, address):
+    def line(self, address: int) -> Optional[CellLine]:
         """Returns the line that a cell is of, or was; None if it is of none."""
-        return self.source and self.source.line_of(address, self.word(address), self.word(address + 1))
+        line: Optional[CellLine] = self.source and self.source.line_of(address, self.word(address), self.word(address + 1))
+        return line
 
-    def entries(self, rows):
+    def entries(self, rows: Iterable[Row]) -> List[Entry]:
         """Returns what is shown of rows of cells."""
-        found = []
+        found: List[Entry] = []
         for row in rows:
             line = self.line(row.address)
             notes = notes_of(self.source).of(row.address, line) if self.source else ()
             found += [*(Entry(row, note=note) for note in notes), Entry(row, line)]
         return found
 
-    def window(self, top, address, count, is_centred=False):
+    def window(self, top: Tuple[int, int], address: int, count: int, is_centred: bool = False) -> Tuple[List[Entry], Tuple[int, int]]:
         """Returns so many entries with a cell among them: from the top on if it is there with rows above it, else with some before it. The
         top is the address of a row, and how many of its entries are above the window. Returns the top too. The cell may have to be in the
         middle."""
@@ -107,7 +114,7 @@ class Cells:
 
 # ---- the lines of the pane
 
-def cells_line(shown, row):
+def cells_line(shown: ScreenContent, row: Row) -> MarkedLine:
     """Returns the beginning of the line of a row: > for the cell at P, r where a block transfer goes on, or w for a watched cell; the
     address, and the words."""
     number, cells = shown.view.processor, shown.view.rows
@@ -119,19 +126,20 @@ def cells_line(shown, row):
     return line.fit(TEXT_FROM)
 
 
-def instruction_line(shown, entry):
+def instruction_line(shown: ScreenContent, entry: Entry) -> MarkedLine:
     """Returns the line of a row as an instruction, and beside it the source line that it was of, or a text, or else its label."""
     row, symbols, number, address = entry.row, shown.symbols, shown.view.processor, entry.row.address
-    was = f"was {os.path.basename(shown.view.source.path)}:{entry.line.number}" if entry.line else ""
+    was = f"was {os.path.basename(shown.view.source.path)}:{entry.line.number}" if entry.line and shown.view.source else ""
     line = cells_line(shown, row).add(text_of(row.words).ljust(DISPLAY_WIDTH) if shown.view.has_display_code else "").add(row.text)
     named = was or symbols.text(number, address, row.words[0]) or symbols.name(number, address)
     return line.fit(max(LABEL_FROM, len(line.text) + 1)).add(named, OVERWRITTEN if was else None) if named else line
 
 
-def source_line(shown, entry, width):
+def source_line(shown: ScreenContent, entry: Entry, width: int) -> MarkedLine:
     """Returns the line of an entry as its source line. The present one has > before its number; a + after it says that a macro made the
     text."""
-    cells, cell, source = shown.view.rows, entry.line, entry.note or entry.line.row
+    cells, cell, source = shown.view.rows, entry.line, entry.note or entry.line and entry.line.row
+    assert source
     mark = HERE if not entry.note and entry.row.address == cells.here else None
     text, note = "" if cell and cell.at else source.text.expandtabs(TAB).rstrip(), cell.note if cell else ""
     line = (MarkedLine() if entry.note else cells_line(shown, entry.row)).fit(TEXT_FROM)
@@ -141,7 +149,7 @@ def source_line(shown, entry, width):
     return line.add_line(MarkedLine(text, mark).fit(min(len(text), room))).add(note, OVERWRITTEN if has_other_word else None)
 
 
-def head_line(shown):
+def head_line(shown: ScreenContent) -> MarkedLine:
     """Returns the line above the rows: what they are, and where the processor is."""
     number, cells, source = shown.view.processor, shown.view.rows, shown.view.source
     at = shown.symbols.name(number, cells.processor.p)
@@ -150,7 +158,7 @@ def head_line(shown):
     return MarkedLine(f"PP {number:02o}  {name}", HEAD).add(f"   {where}" if where else "")
 
 
-def rows_pane(shown, count, width):
+def rows_pane(shown: ScreenContent, count: int, width: int) -> List[MarkedLine]:
     """Returns so many lines of the memory by rows, around P or the cursor, below a head."""
     entries, _ = shown.view.rows.window(shown.view.top_of_rows, shown.view.cell, count, shown.view.following)
     lines = (source_line(shown, entry, width) if entry.note or entry.line and entry.line.is_there else instruction_line(shown, entry)
@@ -158,7 +166,7 @@ def rows_pane(shown, count, width):
     return [line.fit(width) for line in (head_line(shown), *lines)]
 
 
-def sentence_line(shown):
+def sentence_line(shown: ScreenContent) -> MarkedLine:
     """Returns what the next turn of the chosen processor does."""
     number, state = shown.view.processor, shown.state
     return MarkedLine(f"PP {number:02o} {sentence(state.processors[number], state.memories[number].number, state.channels)}")

@@ -1,5 +1,7 @@
 """The terminal of the panel: keys in, screens out. All that is shown and all that a key does the panel decides."""
 
+from __future__ import annotations
+
 import curses
 import functools
 import locale
@@ -10,10 +12,12 @@ import signal
 import sys
 import time
 from contextlib import suppress
+from typing import Dict, List, Optional, Sequence, Tuple
 
 from ...devices.pictures import BRAILLE
 from ...failure import Failure
-from .text import CHANGED, CHOSEN, CURSOR, CUT, CUT_IN_ASCII, HEAD, HERE, OVERWRITTEN, REFUSED, SLOT, TITLE, WATCHED
+from .app import Panel
+from .text import CHANGED, CHOSEN, CURSOR, CUT, CUT_IN_ASCII, HEAD, HERE, OVERWRITTEN, REFUSED, SLOT, TITLE, WATCHED, MarkedLine
 
 ESCAPE_DELAY = 20  # milliseconds in which the rest of a key's sequence comes
 IN_ASCII = {ord(CUT): CUT_IN_ASCII, **dict.fromkeys(range(BRAILLE, BRAILLE + 0o400), ".")}
@@ -27,17 +31,17 @@ KEYS = {**{code: f"Ctrl-{chr(code + 64)}" for code in range(1, 32)}, **{code: ch
 SUSPEND, REDRAW, INTERRUPT, RESIZE = "Ctrl-Z", "Ctrl-L", "Ctrl-C", "Resize"
 OF_TERMINAL = (SUSPEND, REDRAW, RESIZE)  # keys that the panel does not know
 # The keys that signals are as; others end the panel.
-SIGNALS = {signal.SIGWINCH: RESIZE, signal.SIGCONT: RESIZE, signal.SIGTSTP: SUSPEND, signal.SIGINT: INTERRUPT}
+SIGNALS: Dict[int, str] = {signal.SIGWINCH: RESIZE, signal.SIGCONT: RESIZE, signal.SIGTSTP: SUSPEND, signal.SIGINT: INTERRUPT}
 ENDS = (signal.SIGTERM, signal.SIGHUP)
 # How each mark looks, and with colours its colour and how it looks beside.
 LOOKS = {TITLE: curses.A_REVERSE, HEAD: curses.A_BOLD, SLOT: curses.A_BOLD, CHOSEN: curses.A_REVERSE, CURSOR: curses.A_REVERSE,
          CHANGED: curses.A_BOLD, WATCHED: curses.A_UNDERLINE, HERE: curses.A_BOLD, REFUSED: curses.A_BOLD, OVERWRITTEN: curses.A_BOLD}
-COLOURS = {SLOT: (curses.COLOR_GREEN, curses.A_BOLD), HERE: (curses.COLOR_GREEN, curses.A_BOLD), CHANGED: (curses.COLOR_RED, curses.A_BOLD),
-           REFUSED: (curses.COLOR_RED, curses.A_BOLD), HEAD: (curses.COLOR_CYAN, curses.A_BOLD),
-           OVERWRITTEN: (curses.COLOR_YELLOW, curses.A_NORMAL)}
+COLOURS: Dict[str, Tuple[int, int]] = {
+    SLOT: (curses.COLOR_GREEN, curses.A_BOLD), HERE: (curses.COLOR_GREEN, curses.A_BOLD), CHANGED: (curses.COLOR_RED, curses.A_BOLD),
+    REFUSED: (curses.COLOR_RED, curses.A_BOLD), HEAD: (curses.COLOR_CYAN, curses.A_BOLD), OVERWRITTEN: (curses.COLOR_YELLOW, curses.A_NORMAL)}
 
 
-def check():
+def check() -> None:
     """Raises Failure if there is no terminal that can show a screen."""
     if sys.stdin is None or not sys.stdin.isatty() or not sys.stdout.isatty():
         raise Failure("standard input and output must be a terminal; for a script alone there is the tool show")
@@ -54,13 +58,14 @@ def check():
 class Terminal:
     """A terminal under curses, with a panel. Use it in a `with` statement, which puts the terminal back whatever happens."""
 
-    def __init__(self, panel):
+    def __init__(self, panel: Panel) -> None:
         self.panel = panel
-        self.signalled, self.pending = [], []  # keys of signals, and keys that are still to be performed
+        self.signalled: List[str] = []  # keys of signals
+        self.pending: List[str] = []  # and keys that are still to be performed
         self.drawn = 0.0
         panel.is_stopped, panel.show = self.is_stopped, self.draw
 
-    def __enter__(self):
+    def __enter__(self) -> Terminal:
         self.reading, self.writing = os.pipe()
         for end in (self.reading, self.writing):
             os.set_blocking(end, False)
@@ -77,18 +82,18 @@ class Terminal:
         self.in_ascii = {} if has_utf8() else IN_ASCII
         return self
 
-    def __exit__(self, *what):
+    def __exit__(self, *what: object) -> None:
         signal.set_wakeup_fd(-1)
         with suppress(curses.error):
             curses.endwin()
 
-    def take_signal(self, number, frame):
+    def take_signal(self, number: int, frame: object) -> None:
         """Takes a signal as a key, or ends the panel at once."""
         if number in ENDS:
             sys.exit(128 + number)
         self.signalled.append(SIGNALS[number])
 
-    def suspend(self):
+    def suspend(self) -> None:
         """Gives the terminal back to the shell until the panel is continued."""
         curses.endwin()
         signal.signal(signal.SIGTSTP, signal.SIG_DFL)
@@ -96,7 +101,7 @@ class Terminal:
         signal.signal(signal.SIGTSTP, self.take_signal)
         self.window.refresh()
 
-    def resize(self):
+    def resize(self) -> None:
         """Tells curses and the panel the terminal's columns and rows. All is to be drawn anew then."""
         try:
             size = os.get_terminal_size(sys.stdout.fileno())
@@ -109,7 +114,7 @@ class Terminal:
 
     # ---- out
 
-    def draw(self):
+    def draw(self) -> None:
         screen = self.panel.screen()
         self.window.erase()
         for row, line in enumerate(screen.lines):
@@ -119,18 +124,18 @@ class Terminal:
         self.window.refresh()
         self.drawn = time.monotonic()
 
-    def draw_line(self, row, line):
+    def draw_line(self, row: int, line: MarkedLine) -> None:
         """Draws a line. A part of it has the looks of all its marks."""
         with suppress(curses.error):  # after the last character of a screen the cursor has no place
             self.window.addstr(row, 0, line.text.translate(self.in_ascii))
         for start, end, _ in line.marks:
             marks = (mark for first, last, mark in line.marks if first <= start and end <= last)
             with suppress(curses.error):
-                self.window.chgat(row, start, end - start, functools.reduce(operator.or_, map(self.looks.get, marks)))
+                self.window.chgat(row, start, end - start, functools.reduce(operator.or_, (self.looks[mark] for mark in marks)))
 
     # ---- in
 
-    def run(self):
+    def run(self) -> None:
         """Performs keys until one ends the panel. While more of them wait, not every state is drawn."""
         self.draw()
         while not self.panel.is_ended:
@@ -141,21 +146,21 @@ class Terminal:
                 if not self.pending or time.monotonic() - self.drawn > BETWEEN_DRAWINGS:
                     self.draw()
 
-    def take_keys(self, seconds):
+    def take_keys(self, seconds: Optional[float]) -> None:
         """Takes the keys that come in so many seconds (None: however long)."""
         keys = self.typed_keys()
         if not keys:
             self.wait(seconds)
         self.take(keys or self.typed_keys())
 
-    def typed_keys(self):
+    def typed_keys(self) -> List[str]:
         """Returns the keys that were typed so far, those of signals first."""
         keys, self.signalled = self.signalled, []
         while (code := self.window.getch()) != -1:
             keys += [KEYS[code]] if code in KEYS else []
         return keys
 
-    def take(self, keys):
+    def take(self, keys: Sequence[str]) -> None:
         """Performs those keys that are the terminal's own, and keeps the others."""
         self.pending += [key for key in keys if key not in OF_TERMINAL]
         if SUSPEND in keys:
@@ -164,14 +169,14 @@ class Terminal:
             self.resize()
             self.draw()
 
-    def is_stopped(self):
+    def is_stopped(self) -> bool:
         """Returns whether Ctrl-C was typed while the simulator is busy; keeps the other keys."""
         self.take_keys(0)
         is_stopped = INTERRUPT in self.pending
         self.pending = [] if is_stopped else self.pending
         return is_stopped
 
-    def wait(self, seconds):
+    def wait(self, seconds: Optional[float]) -> None:
         """Waits for a key or a signal."""
         poll = select.poll()
         for number in (sys.stdin.fileno(), self.reading):
@@ -183,7 +188,7 @@ class Terminal:
             raise Failure("the terminal is gone")
 
 
-def looks():
+def looks() -> Dict[str, int]:
     """Returns how each mark looks: with colours, if the terminal has them and NO_COLOR is not set."""
     if not has_colours():
         return LOOKS
@@ -192,13 +197,13 @@ def looks():
     return {**LOOKS, **{mark: curses.color_pair(colour) | beside for mark, (colour, beside) in COLOURS.items()}}
 
 
-def has_utf8():
+def has_utf8() -> bool:
     """Returns whether the terminal is said to show UTF-8. LC_CTYPE does not say it: Python sets it in the locale C."""
     name = os.environ.get("LC_ALL") or os.environ.get("LANG") or ""
     return locale.nl_langinfo(locale.CODESET).upper() == "UTF-8" and "UTF8" in name.upper().replace("-", "")
 
 
-def has_colours():
+def has_colours() -> bool:
     if os.environ.get("NO_COLOR"):
         return False
     try:
@@ -209,7 +214,7 @@ def has_colours():
     return curses.has_colors() and curses.COLORS >= 8
 
 
-def run(panel, script, turn=None):
+def run(panel: Panel, script: Sequence[str], turn: Optional[int] = None) -> None:
     """Shows a panel that performs a script, goes to a turn, and then performs keys."""
     with Terminal(panel) as terminal:
         terminal.resize()

@@ -1,12 +1,15 @@
 """What the panel looks at: the part of the screen with the cursor, and the place of the cursor in each part."""
 
+from __future__ import annotations
+
 import re
 from dataclasses import dataclass
-from typing import TYPE_CHECKING, Optional
+from typing import TYPE_CHECKING, Any, Dict, Optional, Tuple
 
 from ...failure import Failure
 from ...run.disassembly import moved
 from ...run.forms import CELLS, CLOCK, KINDS, PROCESSORS, ROW, Place
+from ...run.state import State
 from .rows_pane import Cells
 
 if TYPE_CHECKING:
@@ -28,55 +31,55 @@ class View:
     word: int = 0  # the central address
     following: bool = True  # the memory follows P
     top: int = 0  # the first cell shown
-    top_of_rows: tuple = (0, 0)  # the address of the first row shown, and how many of its lines are above
+    top_of_rows: Tuple[int, int] = (0, 0)  # the address of the first row shown, and how many of its lines are above
     central_top: int = 0
     as_program: bool = False  # the cells are shown as instructions
     has_display_code: bool = False  # and beside them as two symbols each
     as_source: bool = True  # they are shown as the source of their processor, if it has one
-    source: Optional["Source"] = None  # that is shown
+    source: Optional[Source] = None  # that is shown
     has_central: bool = False  # central memory is beside it
-    rows: Optional[Cells] = None  # the cells that are shown by rows
+    rows: Any = None  # the cells that are shown by rows
 
     @property
-    def cursor(self):
+    def cursor(self) -> Place:
         """The place of the cursor."""
         return Place(*{"processors": (self.register, (self.processor,)), "channels": ("H", (self.channel,)),
                        "memory": ("M", (self.processor, self.cell)), "central": ("C", (self.word,))}[self.pane])
 
-    def place(self):
+    def place(self) -> str:
         """Returns the place of the cursor, as the lines of the console have it."""
         return self.cursor.short
 
     @property
-    def is_by_rows(self):
+    def is_by_rows(self) -> bool:
         """Whether the cells are shown as instructions or as a source, and not as numbers."""
         return self.as_program or self.source is not None
 
     @property
-    def shows_central(self):
+    def shows_central(self) -> bool:
         return self.source is None or self.has_central or self.pane == "central"
 
-    def next_pane(self, steps):
+    def next_pane(self, steps: int) -> None:
         panes = PANES if self.shows_central else PANES[:-1]
         self.pane = panes[(panes.index(self.pane) + steps) % len(panes)]
 
-    def toggle_program(self, is_display_code=False):
+    def toggle_program(self, is_display_code: bool = False) -> None:
         """Shows the cells as instructions, or as numbers again; or as instructions, with display code or without."""
         self.has_display_code ^= is_display_code
         self.as_program = is_display_code or self.source is not None or not self.as_program
         if self.source is not None:
             self.as_source, self.source = False, None
 
-    def toggle_central(self):
+    def toggle_central(self) -> None:
         """Shows central memory beside the source, or the source alone."""
         self.has_central = not self.shows_central
         if self.pane == "central" and not self.has_central:
             self.pane = "memory"
 
-    def choose_processor(self, number):
+    def choose_processor(self, number: int) -> None:
         self.processor = number % PROCESSORS
 
-    def move(self, key, count, rows, size):
+    def move(self, key: str, count: int, rows: int, size: int) -> None:
         """Moves the cursor by an arrow; a page has so many rows, and central memory so many words."""
         steps = -count if key in ("Up", "Left", "Page Up") else count
         is_across, is_page = key in ("Left", "Right"), key in ("Page Up", "Page Down")
@@ -95,12 +98,12 @@ class View:
         else:
             self.choose_processor(self.processor + steps)
 
-    def go_to_cell(self, address):
+    def go_to_cell(self, address: int) -> None:
         self.pane, self.following, self.cell = "memory", False, address % CELLS
 
-    def go_to(self, text, size):
+    def go_to(self, text: str, size: int) -> None:
         """Moves the cursor to an address of the memory that it is in, or to a place; central memory has so many words."""
-        sizes = {**{kind: one.sizes for kind, one in KINDS.items()}, "PP": (PROCESSORS,), "C": (size,)}
+        sizes: Dict[str, Tuple[int, ...]] = {**{kind: one.sizes for kind, one in KINDS.items()}, "PP": (PROCESSORS,), "C": (size,)}
         words = text.upper().split()
         if words[0] not in sizes:
             words = ["C", *words] if self.pane == "central" else ["M", f"{self.processor:o}", *words]
@@ -114,7 +117,7 @@ class View:
             raise Failure(f"there is no place {text}")
         self.go_to_place(kind, *numbers)
 
-    def go_to_place(self, kind, number, address=0):
+    def go_to_place(self, kind: str, number: int, address: int = 0) -> None:
         self.pane = PANE_OF.get(kind, "processors")
         if kind == "C":
             self.word = number
@@ -125,7 +128,7 @@ class View:
         if kind == "M":
             self.go_to_cell(address)
 
-    def scroll(self, state, rows, size):
+    def scroll(self, state: State, rows: int, size: int) -> None:
         """Moves the windows to their cursors; each has so many rows, and central memory so many words."""
         self.rows = Cells(state, self.processor, self.source)
         if self.following:
@@ -137,14 +140,14 @@ class View:
         self.central_top = central_top(self.central_top, self.word, rows, size)
 
 
-def memory_top(top, address, rows):
+def memory_top(top: int, address: int, rows: int) -> int:
     """Returns the first cell of a window of so many rows that has the address in it: the same one, if it has."""
     distance = (address // ROW - top // ROW) % (CELLS // ROW)
     steps = 0 if distance < rows else 1 if distance == rows else -1 if distance == CELLS // ROW - 1 else distance - rows // 3
     return (top + steps * ROW) % CELLS
 
 
-def central_top(top, address, rows, size):
+def central_top(top: int, address: int, rows: int, size: int) -> int:
     """Returns what `memory_top` does, of central memory, which does not begin anew after its end."""
     if not top <= address < top + rows:
         top = address - (rows - 1 if address == top + rows else 0 if address == top - 1 else rows // 3)
