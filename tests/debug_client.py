@@ -193,7 +193,8 @@ class Client:
         self.listener.join(PATIENCE)
         said = self.said()
         for stream in (self.process.stdin, self.process.stdout, self.process.stderr):
-            stream.close()
+            with contextlib.suppress(BrokenPipeError):  # what it has not read
+                stream.close()
         self.ended = status, said
         return self.ended
 

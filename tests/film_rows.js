@@ -1,7 +1,7 @@
 // node ROWS MODULE ABOUT SESSIONS: performs sessions by the modules of a film's page, as its worker and the page do, and writes for each a line
 // of JSON: the answers, what the page knows of each moment, and its numbers at the end. tests/films.py joins it.
 
-import { openLibrary } from "../tools/pp6600/front/film/web/engine/library.mjs";
+import { instructionsOf, openLibrary } from "../tools/pp6600/front/film/web/engine/library.mjs";
 import { Session } from "../tools/pp6600/front/film/web/engine/session.js";
 import { Film } from "../tools/pp6600/front/film/web/machine/film.js";
 import { placesOfSetting, wordsIn } from "../tools/pp6600/front/film/web/machine/lines.js";
@@ -33,7 +33,7 @@ function writesOf(film, moment) {
 }
 
 (async () => {
-  const calls = await openLibrary(fs.readFileSync(module_)), known = JSON.parse(fs.readFileSync(about));
+  const calls = await openLibrary(fs.readFileSync(module_)), known = { ...JSON.parse(fs.readFileSync(about)), instructions: instructionsOf(calls) };
   const bytes = (text) => Uint8Array.from(text, (letter) => letter.charCodeAt(0));
   for (const { lines, deck, panel } of JSON.parse(fs.readFileSync(sessions))) {
     const film = new Film(known), session = new Session(calls, { ...known, deck: bytes(deck), panel: bytes(panel) }, CONTROL), answers = [], moments = [];
@@ -41,7 +41,8 @@ function writesOf(film, moment) {
     film.grow(session.take());
     for (let at = 1; at < film.count; at++) {
       film.goTo(at);
-      moments.push([film.kinds[at], film.processor[at], film.p[at], film.turn[at], changesOf(film, at), writesOf(film, at)]);
+      const p = film.isTurn(at) ? film.turnOf(at).p : 0;
+      moments.push([film.kinds[at], film.processor[at], p, film.turn[at], changesOf(film, at), writesOf(film, at)]);
     }
     console.log(JSON.stringify({ answers, moments, deck: layout.end, numbers: [...film.numbers.subarray(0, layout.watches)] }));
     session.close();

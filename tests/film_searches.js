@@ -2,19 +2,19 @@
 // Writes for each a line of JSON: of each condition after how many actions it comes to hold first, and last, or null. tests/films.py joins it.
 
 import { parseCondition } from "../tools/pp6600/front/film/web/engine/conditions.js";
-import { openLibrary } from "../tools/pp6600/front/film/web/engine/library.mjs";
+import { instructionsOf, openLibrary } from "../tools/pp6600/front/film/web/engine/library.mjs";
 import { Session } from "../tools/pp6600/front/film/web/engine/session.js";
 
 const fs = require("fs"), [, , module_, about, sessions] = process.argv, CONTROL = { pause: async () => {}, isStopped: () => false };
 
 (async () => {
-  const calls = await openLibrary(fs.readFileSync(module_)), known = JSON.parse(fs.readFileSync(about));
+  const calls = await openLibrary(fs.readFileSync(module_)), known = { ...JSON.parse(fs.readFileSync(about)), instructions: instructionsOf(calls) };
   for (const { lines, conditions } of JSON.parse(fs.readFileSync(sessions))) {
     const session = new Session(calls, known, CONTROL), found = [];
     for (const line of lines) await session.perform(line);
     for (const text of conditions) {
-      const parse = () => parseCondition(text, known.labels, "no condition"), { tape } = session, end = tape.length;
-      found.push([(await session.firstOf(parse(), 0, tape.between(0, end))).found, await session.lastOf(parse(), end)]);
+      const parse = () => parseCondition(text, known.labels, "no condition");
+      found.push([(await session.firstOf(parse(), 0)).found, await session.lastOf(parse(), session.position)]);
     }
     console.log(JSON.stringify(found));
     session.close();

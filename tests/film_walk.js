@@ -2,7 +2,7 @@
 
 const octal = (n, digits) => n.toString(8).padStart(digits, "0"), two = (n) => octal(n, 2), range = (count) => [...Array(count).keys()];
 const film = () => page.store.state.film, numberOf = (name) => film().text(film().placeNamed(name));
-const sentenceOf = (n) => m_machine_turns.turning.sentence(film().next(n));
+const sentenceOf = (n) => film().next(n).sentence;
 const textsOf = (selector) => [...document.querySelectorAll(selector)].map((one) => one.textContent);
 
 // Shows all parts of the machine, and cells of a processor from one on.
@@ -51,5 +51,5 @@ const pictureOf = () => {
 // The turns of which it says that they wait, and that did not; or the other way round.
 const waitedWrongly = () => range(film().count).slice(1).filter((at) => film().isTurn(at)).filter((at) => {
   film().goTo(at - 1);
-  return (m_machine_turns.turning.waits(film().next(film().processor[at])) !== "") !== (film().kinds[at] === 1);
+  return (film().next(film().processor[at]).waits !== "") !== (film().kinds[at] === 1);
 });

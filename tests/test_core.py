@@ -1,5 +1,6 @@
 """Tests how the tools' package is built: its types, its launchers, and who imports whom."""
 
+import ast
 import glob
 import os
 import re
@@ -14,13 +15,15 @@ from pp6600.shell import completions
 from pp6600.shell.options import OPTIONS
 
 TOOLS = os.path.join(TOP, "tools")
+FOR_PYTHON_2 = ("tools/until", "tools/pp6600/__init__.py", "exercises/check-exercise", "exercises/grade", "exercises/hand-out", "exercises/new",
+                "share/install", "share/npm", "share/wheel")
 COMMANDS = [os.path.basename(path)[:-len(".py")] for path in glob.glob(os.path.join(TOOLS, "pp6600", "front", "commands", "[!_]*.py"))]
 
 
 class Package(Case):
     @unittest.skipUnless(shutil.which("mypy"), "mypy is not installed")
     def test_types(self):
-        """mypy --strict accepts the core and the assembler, as pyproject.toml configures it."""
+        """mypy --strict accepts the tools, as pyproject.toml configures it."""
         done = subprocess.run(["mypy", "--cache-dir", self.room()], cwd=TOP, capture_output=True, text=True, check=False)
         self.assertEqual(0, done.returncode, done.stdout)
 
@@ -37,6 +40,15 @@ class Package(Case):
         scripts = re.findall(r'^pp6600-(\S+) = "pp6600.__main__:launch"$', read("pyproject.toml"), re.M)
         self.assertEqual(sorted(names), sorted(scripts))
         self.assertEqual(sorted(names), sorted(MODULES))
+
+    def test_python_2(self):
+        """Python 2 can read what may be run by it, which then says what is needed."""
+        later = (ast.JoinedStr, ast.NamedExpr, ast.AnnAssign, ast.Nonlocal)
+        for path in FOR_PYTHON_2:
+            nodes = list(ast.walk(ast.parse(read(path))))
+            unpacked = [one for node in nodes if isinstance(node, (ast.List, ast.Tuple, ast.Set)) for one in node.elts if isinstance(one, ast.Starred)]
+            with self.subTest(path):
+                self.assertEqual([], [node.lineno for node in nodes if isinstance(node, later)] + [one.lineno for one in unpacked])
 
     def test_options(self):
         """The table of the simulator's options has those of docs/CONSOLE.md, and the completions of shells have each value of its own."""

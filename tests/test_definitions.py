@@ -92,14 +92,16 @@ class Page(Case):
         self.assertLess(len(read("docs", "THEOREM.md").split()), MOST_OF_THE_THEOREM)
 
     def test_theorem(self):
-        """What docs/THEOREM.md shows of the sources is there, and its tables name each field of it."""
+        """What docs/THEOREM.md shows of the sources is there, and its tables name each field of the two records."""
         source, page = read("crates", "pp_program", "specs", "Run.antt"), read("docs", "THEOREM.md")
-        shown = re.findall(r"^```antt\n(.*?)^```", page, re.M | re.S)
-        self.assertEqual(["IsRun", "IsWhole"], [re.match(r"pub record (\w+)", code)[1] for code in shown])
-        for code in shown:
-            self.assertIn(code, source)
-            table = page.split(code)[1].split("\n## ")[0]
-            for field in re.findall(r"^  pub (\w+) :", code, re.M):
+        shown, = re.findall(r"^```antt\n(.*?)^```", page, re.M | re.S)
+        self.assertIn(shown, source)
+        self.assertEqual("IsRun", re.match(r"pub record (\w+)", shown)[1])
+        of_run, of_whole = page.split(shown)[1].split("\n## ")[0].split("\nA whole course is ")
+        for name, table in (("IsRun", of_run), ("IsWhole", of_whole)):
+            fields = re.findall(r"^  pub (\w+) :", source.split(f"pub record {name} ")[1].split("pub record")[0], re.M)
+            self.assertLess(3, len(fields))
+            for field in fields:
                 self.assertRegex(table, rf"(?m)^\| [^|]*`{field}`", field)
 
     def test_links_of_the_printed_page(self):

@@ -63,7 +63,10 @@ class Calls(Case):
         for name in ENGINES:
             for words, text in ((["--history", "0"], "BAD ARGUMENTS"), (["--reader", "13"], "SAME CHANNEL"), (["--deck", "/none"], "CANNOT OPEN DECK"),
                                 (["--deck", self.file("8\n")], "DECK LINE 1 NOT OCTAL"), (["--panel", self.file("1\n", "p")], "PANEL PANEL COUNT"),
-                                (["--panel", self.file("", "none")], "PANEL PANEL COUNT")):
+                                (["--panel", self.file("", "none")], "PANEL PANEL COUNT"), (["--central"], "BAD ARGUMENTS"),
+                                (["--history", "5", "--history=5"], "BAD ARGUMENTS"), (["--central=33"], "BAD ARGUMENTS"),
+                                (["--history=010001"], "BAD ARGUMENTS"), (["--none", "5"], "BAD ARGUMENTS"), (["--reader", "014"], "BAD CHANNEL"),
+                                (["--printer=8", "--deck", "/none"], "BAD CHANNEL")):
                 with self.subTest(words, engine=name), self.assertRaises(Rejection) as caught:
                     engine_of(name, words)
                 self.assertEqual((f"pp6600: {text}", 2), (caught.exception.text, caught.exception.status))
@@ -99,7 +102,7 @@ class Alike(Case):
         name = choose.choice(("looks", "turns", "back", "forward"))
         if name == "looks":
             places = choose.sample(NUMBERED, 3)
-            found = engine.looks(most, places)
+            found = engine.numbers_after(most, places)
         elif name == "turns":
             found = turns_made(engine, most)
         else:

@@ -36,8 +36,7 @@ class InNode(Case):
         """The page knows of a source that it assembles what the tool puts into the page of one that it assembles."""
         paths = sorted(path for place in PLACES for path in glob.glob(os.path.join(TOP, place), recursive=True))
         texts = [text for text in map(read, paths) if "\n," not in text and text.isascii()]
-        files = [self.file(json.dumps(data)) for data in ({"two_words": page.tables()["two_words"]}, texts)]
-        done = map(json.loads, in_node("film_assembler.js", MODULE, *files))
+        done = map(json.loads, in_node("film_assembler.js", MODULE, self.file(json.dumps(texts))))
         made = [(path, one) for path, one in zip((path for path in paths if read(path) in texts), done) if not one["faults"]]
         self.assertGreater(len(made), LEAST)
         for path, one in made:
@@ -49,7 +48,7 @@ class InNode(Case):
         symbols.of[3] = source
         wanted = json.loads(json.dumps(page.of_symbols(symbols)))
         self.assertEqual(list(set_lines(source.program, 3)), one["load"])
-        self.assertEqual(wanted["sources"]["3"]["words"], one["source"]["words"])
+        self.assertEqual(wanted["sources"]["3"]["rows"], one["source"]["rows"])
         lines = wanted["sources"]["3"]["lines"]
         self.assertEqual(lines, one["source"]["lines"][:len(lines)])
         labels = wanted["labels"]["3"]
@@ -64,7 +63,6 @@ class InNode(Case):
     def test_products(self):
         """A product that has 63 bits, and one that has more, which the module makes of halves."""
         texts = [f"          BASE   DECIMAL\n          CON    {factor}*{factor}/9007199254740992\n          END\n" for factor in (3037000499, 3037000500)]
-        files = [self.file(json.dumps(data)) for data in ({"two_words": page.tables()["two_words"]}, texts)]
-        fits, does_not = map(json.loads, in_node("film_assembler.js", MODULE, *files))
+        fits, does_not = map(json.loads, in_node("film_assembler.js", MODULE, self.file(json.dumps(texts))))
         self.assertEqual((fits["faults"], fits["load"]), (0, ["SET M 3 0 1777"]))  # the quotient is 1023 and a part
         self.assertEqual(does_not["faults"], 1)

@@ -132,7 +132,10 @@ class InChromium(Rules, PageCase):
             self.js("await session.type(['SET A 0 4']); session.keepNow()")
             self.browser.session, second = first, self.browser.session
             self.assertEqual(3, self.js("session.keepNow(); return store.state.film.number('A', 0)"))
-            kept = self.js("return Object.keys(localStorage).filter((key) => key.includes('session run')).length")
+            # what another tab keeps is seen here a little later
+            kept = self.js("""const count = () => Object.keys(localStorage).filter((key) => key.includes("session run")).length;
+              for (let tries = 0; tries < 100 && count() < 2; tries += 1) await new Promise((done) => setTimeout(done, 100));
+              return count()""")
             self.assertGreaterEqual(kept, 2)
             self.browser.session = second
         finally:
@@ -269,7 +272,7 @@ class Solve(PageCase):
         self.assertEqual([0, 0, {"wanted": "0022 5555", "found": "0022 0000"}, {"first-program": True}], solved)
         there = self.js("""moves.moveTo(store.state.film.last); await session.type(['STEP 100']); await exercises.goTo("exchange"); await session.type(["STEP 5"]);
           const other = [store.state.exercise, turn(), store.state.editor.text.includes("LDD")]; await exercises.goTo("first-program");
-          return [other, store.state.exercise, turn(), store.state.editor.text.includes("LDD"), store.state.sources.get(0).name,
+          return [other, store.state.exercise, turn(), store.state.editor.text.includes("LDD"), store.state.film.sources.get(0).name,
             [...document.querySelectorAll(".list .solved")].length]""")
         self.assertEqual([["exchange", "5", False], "first-program", "100", True, "typed", 1], there)
         self.browser.open(path)

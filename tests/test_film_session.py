@@ -15,7 +15,7 @@ from pp6600.run.device import drawn
 from pp6600.devices.options import device_of
 
 # In the page: of each line of the origin of a place at the end of the film the place and number, and the turn.
-PAGE_LINES = """(([name]) => { const { film, sources } = page.store.state, rows = m_machine_origins.originLines(film, sources, film.placeNamed(name));
+PAGE_LINES = """(([name]) => { const { film } = page.store.state, rows = m_machine_origins.originLines(film, film.placeNamed(name));
   return rows.map(({ step, text }) => [text.split(":")[0], step.moment > 0 ? film.turn[step.moment] : 0]); })"""
 
 

@@ -23,7 +23,7 @@ class Mark(NamedTuple):
 CELLS = 0o10000
 WHOLE, NOT_YET = Mark(""), Mark("not yet")
 # In the page: of each source the line where its processor is, and what is said of each line with words.
-LINES = """[...page.store.state.sources.values()].map((one) => {
+LINES = """[...page.store.state.film.sources.values()].map((one) => {
   const { film } = page.store.state, { number, note } = m_machine_sources.lineOfNext(film, one), rows = one.lines.filter((row) => row.words.length);
   return [number ? [number, note] : [], rows.map((row) => {
     const { text, address } = m_machine_sources.markOf(film, one, row.words);
@@ -46,10 +46,11 @@ def sources_of(sources):
 
 
 def line_at_p(source, registers, cells):
-    """Returns the line where a processor is, and why it is not performed if it isn't; in a block transfer that of the instruction, before
-    whose second word the transfer goes on: cell 0000 has this address."""
-    at = (cells[0] - 1) % CELLS if int(registers["PHASE"], 8) else int(registers["P"], 8)
-    line = source.line_of(at, cells[at], cells[(at + 1) % CELLS])
+    """Returns the line where a processor is, and why it is not performed if it isn't; in a block transfer that of the instruction, which
+    PHASE has, before whose second word the transfer goes on: cell 0000 has this address."""
+    phase = int(registers["PHASE"], 8)
+    at = (cells[0] - 1) % CELLS if phase else int(registers["P"], 8)
+    line = source.line_of(at, phase or cells[at], cells[(at + 1) % CELLS])
     return [] if line is None else [line.number, "was" if not line.is_there else f"word {line.at + 1}" if line.at else ""]
 
 

@@ -11,11 +11,15 @@ from tests.support import PROVED, TOP, Case, names_of_codes, read
 
 from pp6600.engine import library
 from pp6600.engine.plain.instructions import CODES as PLAIN
-from pp6600.language.notation import MNEMONICS, size_of
+from pp6600.language.listed_words import ALONE
+from pp6600.language.notation import CONSTANTS, MNEMONICS, size_of
+from pp6600.run import turn
+from pp6600.run.forms import STATES
 from pp6600.run.sentences import TEXT
 
 ROW = re.compile(r"^ +(?:∷ )?row code\.(\w+) (\w+) .*?-- ([0-7]{2})$", re.M | re.S)
-ROWS = [(name, mode, int(code, 8)) for name, mode, code in ROW.findall(read("crates", "pp_step", "specs", "InstructionTable.antt"))]
+TABLE = read("crates", "pp_step", "specs", "InstructionTable.antt")
+ROWS = [(name, mode, int(code, 8)) for name, mode, code in ROW.findall(TABLE)]
 NAMES = [name.rstrip("0123456789").upper() for name, _, _ in ROWS]
 WORDS = [2 if mode in ("Memory", "Unindexed") else 1 for _, mode, _ in ROWS]
 TWO = {code for code, words in enumerate(WORDS) if words == 2}
@@ -56,6 +60,14 @@ class Instructions(Case):
 
     def test_tools(self):
         self.assertEqual(list(zip(NAMES, WORDS)), [(name, size_of(code)) for code, name in enumerate(MNEMONICS)])
+        for mode, codes in (("Indirect", turn.INDIRECT), ("Memory", turn.INDEXED)):
+            self.assertEqual([code for _, one, code in ROWS if one == mode], list(codes))
+
+    def test_states(self):
+        """The tools have the states of a channel in which an instruction completes."""
+        states = {"is_in Inactive": "I", "is_in Empty": "E", "is_in Full": "F", "is_active": STATES.replace("I", "")}
+        found = re.findall(r"(?<!test )[(](is_in \w+|is_active) i\.d s\.states[)] i .*-- ([0-7]{2})$", TABLE, re.M)
+        self.assertEqual(turn.COMPLETES, {int(code, 8): states[state] for state, code in found})
 
     def test_second_simulator(self):
         self.assertEqual([(f"{code:02o} {NAMES[code]}", WORDS[code]) for code in range(64)], [one[:2] for one in PLAIN])
@@ -66,6 +78,8 @@ class Instructions(Case):
         found = [library.instruction(code, PROVED) for code in range(64)]
         self.assertEqual(list(zip(NAMES, WORDS)), [one[:2] for one in found])
         self.assertEqual(TWO, {code for code, (*_, form) in enumerate(found) if form > 2})
+        for number, codes in ((0, ALONE), (2, turn.RELATIVE_JUMPS), (3, CONSTANTS), (4, turn.INDEXED)):
+            self.assertEqual(list(codes), [code for code, (*_, form) in enumerate(found) if form == number])
 
     def test_sentences(self):
         """Each code has a sentence without a condition; 40 to 57 have those of 30 to 37."""

@@ -34,6 +34,7 @@ used = int(open("/proc/self/statm").read().split()[0]) * resource.getpagesize()
 library.load()
 resource.setrlimit(resource.RLIMIT_AS, (used + (24 << 20),) * 2)
 sessions, numbers = [], lambda session: session.numbers(40960, 100) + session.numbers(0, 100)
+library.ANSWER_ROOM = 4096  # so that memory does not run out in Python
 try:
     while len(sessions) < 100:
         sessions.append(library.LibrarySession(history=200, central=32768))

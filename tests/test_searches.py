@@ -51,7 +51,7 @@ def samples_of(text):
     for turns in range(1, SAMPLES + 1):
         engine = engine_of("plain", [])
         engine.answers(text)
-        engine.looks(40 * turns, [flat.SLOT])
+        engine.numbers_after(40 * turns, [flat.SLOT])
         found.append(lambda place, engine=engine: engine.numbers(place, 1)[0])
     return found
 
