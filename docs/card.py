@@ -78,7 +78,7 @@ def facts():
 
 def tools():
     """Returns the names of the tools that answer the questions of TOOLS.md."""
-    named = [without_links(tool).split()[0].rstrip(",") for _, tool in rows("TOOLS.md", "| Question | Tool |")]
+    named = [without_links(tool).split()[0].rstrip(",;") for _, tool in rows("TOOLS.md", "| Question | Tool |")]
     return ", ".join(dict.fromkeys(f"`{name}`" for name in named if not name.startswith("-")))
 
 
