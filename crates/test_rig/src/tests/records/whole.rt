@@ -1,10 +1,8 @@
-//! All numbers of a machine, by their places, and the undo records of all devices.
-ghost use Rattle.std.specs.Prelude.{◌≡◌};
-
-use crate::rig::{Rig, RigRecord, ShortTurn};
+//! All numbers of a machine, by their places.
 use crate::tests::has;
-use pp_history::Reversible;
-use pp_machine::{AllRecords, OnRecords, Place};
+use pp_history::{Reversible, Session};
+use pp_machine::Place;
+use pp_rig::{Rig, old_value};
 use std::alloc::{AllocError, Global};
 
 /// Adds these places.
@@ -89,54 +87,15 @@ pub fn numbers_at(alloc: Global, rig: &Rig, places: &[Place]) -> Result<Vec<u64>
     Ok(numbers)
 }
 
-/// Returns whether the record has the old number of each place that changed, and only old numbers.
-pub fn is_true_of(record: &RigRecord, places: &[Place], before: &[u64], after: &[u64]) -> bool {
+/// Returns whether the newest undo record has the old number of each place that changed, and only old numbers.
+pub fn is_true_of(session: &Session<Rig>, places: &[Place], before: &[u64], after: &[u64]) -> bool {
+    let Some(back) = session.newest() else {
+        return false;
+    };
     for i in 0..places.len().min(before.len()).min(after.len()) {
-        let old = before[i];
-        if Rig::was(record, &places[i]).unwrap_or(after[i]) != old {
+        if old_value(&back, &places[i]).unwrap_or(after[i]) != before[i] {
             return false;
         }
     }
     true
-}
-
-/// Returns whether the short record has the old number of each place that changed, and only old numbers.
-pub fn is_short_true_of(
-    record: &ShortTurn,
-    places: &[Place],
-    before: &[u64],
-    after: &[u64],
-) -> bool {
-    for i in 0..places.len().min(before.len()).min(after.len()) {
-        let old = before[i];
-        if record.was(&places[i]).unwrap_or(after[i]) != old {
-            return false;
-        }
-    }
-    true
-}
-
-/// Returns the undo records of the devices rebuilt from their fields alone.
-pub fn devices_anew(back: AllRecords) -> AllRecords
-    ensures { result ≡ back }
-{
-    let OnRecords {
-        channel: reader_channel,
-        own: reader,
-        others,
-    } = back;
-    let OnRecords {
-        channel: printer_channel,
-        own: printer,
-        others: none,
-    } = others;
-    OnRecords {
-        channel: reader_channel,
-        own: reader,
-        others: OnRecords {
-            channel: printer_channel,
-            own: printer,
-            others: none,
-        },
-    }
 }

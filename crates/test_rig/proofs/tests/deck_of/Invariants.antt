@@ -1,5 +1,5 @@
 use Rattle.std.proofs.Common.{◌≡◌, replicate}
-use Rattle.pp_rig.proofs.tests.deck_of.Given as goal
+use Rattle.test_rig.proofs.tests.deck_of.Given as goal
 
 abbrev pub invariant-loop-card : goal.invariant-loop-card
 invariant-loop-card l = l.deck.items ≡ replicate l._card (replicate 80 l.column)

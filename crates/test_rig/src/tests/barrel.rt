@@ -1,6 +1,7 @@
 //! Turns of the barrel.
 
 use super::*;
+use pp_rig::old_value;
 
 const P_OF_LAST: Place = Place::RegP { pp: 0o11 };
 
@@ -48,31 +49,30 @@ const OLD: [(Place, Option<u64>); 4] = [
 /// The numbers after the turn is undone.
 const UNDONE: [(Place, u64); 3] = [(STATE, 0), (WORD, 0o1234), (Place::ReaderMode, 0)];
 
-/// Checks the old numbers that a record has.
-fn check_old(rt: &impl Abort, record: &RigRecord, rows: &[(Place, Option<u64>)]) {
+/// Checks the old numbers that the newest undo record has.
+fn check_old(
+    rt: &impl Abort,
+    session: &Session<Rig>,
+    rows: &[(Place, Option<u64>)],
+) -> Result<(), Fail> {
+    let back = session.newest().ok_or("no record")?;
     for i in 0..rows.len() {
         let (place, number) = &rows[i];
-        assert!(rt; Rig::was(record, place) == *number, "old number {i}");
+        assert!(rt; old_value(&back, place) == *number, "old number {i}");
     }
-}
-
-/// Performs the turn and undoes it.
-fn turn_and_undo(rt: &impl Abort, rig: &mut Rig) {
-    assert!(rt; rig.admits(&Action::Turn));
-    let record = rig.act(&Action::Turn);
-    check_numbers(rt, rig, &AFTER);
-    check_old(rt, &record, &OLD);
-    rig.undo(record);
+    Ok(())
 }
 
 /// If a processor and the reader write one channel in one turn, its number before the turn counts.
 #[test]
 fn the_oldest_number_of_a_channel_counts(rt: HostRuntime) -> Result<(), Fail> {
-    let mut rig = make_rig(rt.alloc())?;
-    perform_all(&rt, &mut rig, &CALLS_THE_READER);
-    turn_and_undo(&rt, &mut rig);
-    check_numbers(&rt, &rig, &UNDONE);
-    drop(rig);
+    let mut session = new_session(rt.alloc())?;
+    follow(&rt, &mut session, &CALLS_THE_READER);
+    assert!(rt; act(&mut session, Action::Turn));
+    check_numbers(&rt, session.machine(), &AFTER);
+    check_old(&rt, &session, &OLD)?;
+    assert!(rt; session.back(1).is_ok());
+    check_numbers(&rt, session.machine(), &UNDONE);
     Ok(())
 }
 

@@ -1,0 +1,5 @@
+//! Worked examples of the whole machine and of its sessions. They stand in a crate of their own, because a crate with tests is proved twice.
+#![tactic(auto)]
+
+#[cfg(test)]
+mod tests;
