@@ -16,11 +16,11 @@ use crate::program::{Assembly, Performed};
 use crate::readings::{Reading, are_readings};
 use crate::running::Ending;
 use pp_complaints::{Known, complaints};
-use pp_notation::Program;
+use pp_notation::{Program, Slot, program_of};
 use pp_source::{
     Decks, Fault, Lines, Message, Span, Symbols, Text, Wording, cut_lines, read_lines,
 };
-use pp_statements::{Blocks, Scope, Slot, Unit, program_of};
+use pp_statements::{Blocks, Scope, Unit};
 use std::alloc::{AllocError, Global};
 use std::mem::replace;
 

@@ -1,6 +1,6 @@
 //! The words of statements, and how they are put into cells.
-use crate::scope::{CELLS, Scope, Slot};
-use pp_notation::{Form, form_of, size_of};
+use crate::scope::{CELLS, Scope};
+use pp_notation::{Form, Slot, form_of, size_of};
 use pp_source::{
     Argument, Fault, Field, FirstParts, Here, Outcome, Statement, Stop, Wording, first_parts,
     is_empty, tail,

@@ -1,7 +1,6 @@
 //! The statements of a source, each for itself: its words, the names that it defines, and the counters.
 #![tactic(auto)]
 
-mod cells;
 mod directives;
 mod encoding;
 mod makers;
@@ -10,9 +9,8 @@ mod scope;
 mod units;
 mod values;
 
-pub use cells::program_of;
 pub use directives::{base_of, the_only, wants_operand};
 pub use performing::is_known;
-pub use scope::{CELLS, MOST_STATEMENTS, Row, Scope, Slot, count_one, too_many_statements};
+pub use scope::{CELLS, MOST_STATEMENTS, Row, Scope, count_one, too_many_statements};
 pub use units::{Blocks, Unit};
 pub use values::Base;

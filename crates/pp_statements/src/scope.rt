@@ -1,6 +1,7 @@
 //! What a pass knows at a line, and what it has made: its counters, its names, its cells, and the rows of the listing.
 use crate::units::{Blocks, Literals, Unit};
 use crate::values::{Base, Expression, Value};
+use pp_notation::Slot;
 use pp_source::{
     Argument, Definition, DisplayText, Fault, Field, Here, Message, Outcome, Statement, Stop,
     Symbols, Wording, are_in_code, text_at,
@@ -15,13 +16,6 @@ pub const MOST_STATEMENTS: u32 = 100_000;
 /// Returns that a source makes too many statements.
 pub fn too_many_statements() -> Stop {
     Stop::too_much(Wording::ManyStatements)
-}
-
-/// What the source puts into a cell; the line, from 1, is 0 if there is nothing.
-#[derive(Clone, Copy, Default)]
-pub struct Slot {
-    pub word: u16,
-    pub line: u32,
 }
 
 /// What the listing has of a line.

@@ -1,7 +1,6 @@
 //! The programs of a source, with the blocks of USE and the literals of each.
-use crate::cells::program_of;
-use crate::scope::{Scope, Slot};
-use pp_notation::Program;
+use crate::scope::Scope;
+use pp_notation::{Program, Slot, program_of};
 use pp_source::{
     Argument, Definition, Fault, Field, Here, Outcome, Place, Span, Stop, Wording, is_alphanumeric,
 };

@@ -1,7 +1,7 @@
 use Rattle.std.proofs.Common.{◌<◌, arith}
 use Rattle.pp_notation.proofs.Programs.{IsBelow-push, IsBelow-skip}
-use Rattle.pp_statements.proofs.cells.cells_of.Goals as goal
-use Rattle.pp_statements.proofs.cells.cells_of.Goals.{in-Some+then-slot-ne0+in_ok-push, in-Some+else-slot-ne0, in_default}
+use Rattle.pp_notation.proofs.slots.cells_of.Goals as goal
+use Rattle.pp_notation.proofs.slots.cells_of.Goals.{in-Some+then-slot-ne0+in_ok-push, in-Some+else-slot-ne0, in_default}
 
 pub loop-address-preserved : goal.loop-address-preserved
 loop-address-preserved c =

@@ -1,17 +1,27 @@
-//! The cells of a program.
+//! The program of what a source puts into each cell of the memory.
 ghost use Rattle.std.specs.Prelude.{◌≡◌, ◌<◌, IfOk};
 ghost use Rattle.pp_notation.specs.Cells.{IsProgram, IsStart};
 
-use crate::scope::{CELLS, Slot};
-use pp_notation::{Cell, Program};
+use crate::program::{Cell, Program};
 use std::alloc::{AllocError, Global};
 
-/// Returns the program of these cells.
-pub fn program_of(alloc: Global, cells: &[Slot], start: Option<u16>) -> Result<Program, AllocError>
+/// What the source puts into a cell; the line, from 1, is 0 if there is nothing.
+#[derive(Clone, Copy, Default)]
+pub struct Slot {
+    pub word: u16,
+    pub line: u32,
+}
+
+/// Returns the program of the first 4096 slots, each that of the cell with its index: its words of twelve bits, and the address of its
+/// beginning, each without the bits beyond.
+///
+/// # Errors
+/// Memory ran out.
+pub fn program_of(alloc: Global, slots: &[Slot], start: Option<u16>) -> Result<Program, AllocError>
     ensures cells { IfOk result (λ program. IsProgram program.cells.items) }
     ensures start { IfOk result (λ program. IsStart program.start) }
 {
-    Ok(Program::new(cells_of(alloc, cells)?, address_of(start)))
+    Ok(Program::new(cells_of(alloc, slots)?, address_of(start)))
 }
 
 /// Returns an address of twelve bits.
@@ -29,7 +39,7 @@ fn cells_of(alloc: Global, slots: &[Slot]) -> Result<Vec<Cell>, AllocError>
     ensures { IfOk result (λ cells. IsProgram cells.items) }
 {
     let mut cells = Vec::new(alloc);
-    for address in 0..CELLS {
+    for address in 0..0o10000 {
         if let Some(slot) = slots.get(address) {
             if slot.line != 0 {
                 cells.push(cell_of(address, *slot))?;
