@@ -12,7 +12,7 @@ from tests.ways import CaseTests
 
 # The loops over many turns, and the functions of a turn that stand in them, and so have no name of their own in the program.
 LOOPS = (b"pp_history::repeatable::repeat_all", b"pp_history::repeatable::repeat_to_mark",
-         b"pp_history::session::Session::take_back", b"pp_history::session::Session::forward_part")
+         b"pp_history::session::Session::take_back", b"pp_history::step::perform_all")
 OF_A_TURN = (b"pp_rig::rig::RigReversible::perform", b"pp_rig::rig::Rig::perform_turn", b"pp_rig::rig::Rig::turn_short",
              b"pp_rig::rig::Rig::finish_turn", b"pp_rig::rig::Rig::undo_turn", b"pp_step::stepping::step_short", b"pp_step::effect::effect")
 

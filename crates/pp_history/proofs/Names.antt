@@ -4,9 +4,9 @@ pub use Rattle.std.proofs.Common.{◌∷◌, ◌++◌, length, take, drop, refl,
 pub use Rattle.std.proofs.Common.{Vec, Global, get_or, inl, inr, sym, length-drop, append_assoc, IsSomeAnd, ◌/◌, ◌%◌, sub-one, true}
 pub use Rattle.std.proofs.Common.{false, rules}
 pub use Rattle.std.proofs.lemmas.List.{reverse-append, length-take, length-append, length-reverse, length-set, take_all, drop_all}
-pub use Rattle.std.proofs.lemmas.List.{append-nil, take-append-le, take-set, drop-set, drop-drop}
+pub use Rattle.std.proofs.lemmas.List.{append-nil, take-append-le, take-set, drop-set, drop-append-le, drop-drop, take-append-drop}
 pub use Rattle.std.{proofs.Math.Seq.take-suc, proofs.Math.Seq.take-add, proofs.lemmas.Option.get_or_from_slice_get}
-pub use Rattle.std.{proofs.lemmas.Option.slice_get_within, proofs.lemmas.Option.slice_get_read, specs.Option.option_map}
+pub use Rattle.std.{proofs.lemmas.Option.slice_get-get_or, proofs.lemmas.Option.slice_get_within, proofs.lemmas.Option.slice_get_read, specs.Option.option_map}
 pub use Rattle.std.{specs.Option.option_copied, proofs.lemmas.Bool.cases_lt, proofs.lemmas.Grind.flat_map-append}
 pub use Rattle.std.{proofs.lemmas.Grind.common_steps, proofs.ByRecursion.All-get_or, proofs.ByRecursion.All-take}
 pub use Rattle.std.{proofs.ByRecursion.All-drop, proofs.ByRecursion.All-push, specs.List.AllByRecursion, specs.List.flat_map}
@@ -25,5 +25,6 @@ pub use Rattle.pp_history.specs.{SessionLaws.replayed, Marks.IsUnmarked, Repeati
 unfoldable pub use Rattle.pp_history.specs.Repeating.{after_acts}
 pub use Rattle.pp_history.specs.{declared.marks.Marks.Marks, Change.differ, Change.change_in, Change.IsLeastChange, Change.change}
 pub use Rattle.pp_history.specs.{UndoRecord.whole_action, UndoRecord.whole_record}
+pub use Rattle.pp_history.specs.Redoing.{AreReady, AreRedone}
 pub use Rattle.std.specs.Vec.{with_item, with_items}
 pub use Rattle.std.proofs.lemmas.List.{with_items_is}

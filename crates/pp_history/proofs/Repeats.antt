@@ -75,7 +75,7 @@ abbrev pub placed : {X : Type 0} → List X → ℕ → List X → List X
 placed slots at [] = slots
 placed slots at (head ∷ later) = set (placed slots (at + 1) later) at head
 
-length-placed : {X : Type 0} (slots : List X) (at : ℕ) (heads : List X) → length (placed slots at heads) ≡ length slots
+pub length-placed : {X : Type 0} (slots : List X) (at : ℕ) (heads : List X) → length (placed slots at heads) ≡ length slots
 length-placed slots at [] = refl
 length-placed slots at (head ∷ later) = length-set (placed slots (at + 1) later) at head ∙ length-placed slots (at + 1) later
 

@@ -52,12 +52,12 @@ pub trait Recordable: Repeatable {
         ensures at_most { result ≤ used + most };
 }
 
-/// How far a recording came.
+/// How many repetitions a call of `Session::repeat_recorded` performed, and how much of the slice of places is then in use.
 #[derive(Clone, Copy, Drop)]
-pub struct Part {
-    /// How many times the action was performed.
+pub struct Recorded {
+    /// How many times the action was performed and recorded: the number of new moments.
     pub count: usize,
-    /// How many places are there then.
+    /// How many places the slice has then, those that were there before the call included.
     pub used: usize,
 }
 

@@ -1,9 +1,10 @@
 //! One step of a session, back or forward.
 
-ghost use Rattle.std.specs.Prelude.{◌≡◌, ◌≤◌, Some, None, IfSome, IsSomeAnd, drop, false};
+ghost use Rattle.std.specs.Prelude.{◌≡◌, ◌≤◌, Some, None, IfSome, IsSomeAnd, drop, false, length};
 ghost use Rattle.std.specs.Option.{option_map};
 ghost use Rattle.circular_buffer.specs.Buffer.{buffer};
 ghost use Rattle.pp_history.specs.Joining.{IsActed, IsNext, first_of, left_by};
+ghost use Rattle.pp_history.specs.Redoing.{AreReady, AreRedone};
 ghost use Rattle.pp_history.specs.{Marks.IsUnmarked, Tails.in_tail, Tails.pushed, UndoRecord.whole_action, UndoRecord.whole_record};
 
 use crate::marks::{Marked, Marks};
@@ -67,7 +68,7 @@ pub(crate) fn kept_action<'a, A: Drop, R: Drop, H: Drop>(
 
 /// Performs the next action again: that of its head, or else the first of the undone ones, which is taken out.
 #[inline(always)]
-pub(crate) fn perform_next<T: Reversible>(
+fn perform_next<T: Reversible>(
     machine: &mut T,
     head: &mut Option<T::Head>,
     tails: &mut Tails<T::Action, T::Record>,
@@ -104,6 +105,27 @@ fn perform_undone<T: Reversible>(
 {
     let action = undone.pop_front().unwrap();
     machine.perform(action, head, tails);
+}
+
+/// Performs the next action again for each head, the last head first, and keeps each action as `perform` does. As a function of
+/// its own it has registers for what its loop needs.
+#[inline(never)]
+pub(crate) fn perform_all<T: Reversible>(
+    machine: &mut T,
+    heads: &mut [Option<T::Head>],
+    tails: &mut Tails<T::Action, T::Record>,
+    undone: &mut HeapCircularBuffer<T::Action>,
+)
+    requires ready { AreReady T.Reversible heads.old machine.old tails.old undone.old }
+    requires room { 1 ≤ tails.old.ring.capacity }
+    ensures same_length { length heads.new ≡ length heads.old }
+    ensures redone { AreRedone T.Reversible heads.old heads.new machine.old machine.new tails.old tails.new undone.old undone.new }
+{
+    let mut left = heads.len();
+    while left > 0 {
+        left -= 1;
+        perform_next(machine, &mut heads[left], tails, undone);
+    }
 }
 
 /// Undoes the newest action, by its head or else by the newest tail, which is discarded. The action is then the next to

@@ -17,7 +17,7 @@ ghost use Rattle.std.specs.Prelude.{◌≡◌, ◌+◌, ◌*◌, ◌<◌, ◌≤
 use crate::rig::{Rig, put_newest_old_values};
 use crate::stopping::turn_once;
 use pp_actions::Action;
-use pp_history::{BackFault, KeptAction, Part, Session};
+use pp_history::{BackFault, KeptAction, Session};
 use pp_machine::Old;
 
 /// The most places that one action overwrites (decimal).
@@ -105,7 +105,7 @@ fn record_part(
     turns: usize,
     olds: &mut [Old],
     used: usize,
-) -> (Part, bool)
+) -> (pp_history::Recorded, bool)
     requires some { 1 ≤ most }
     requires made_room { turns + most ≤ length made.old }
     requires olds_room { used + most * list_room ≤ length olds.old }
@@ -128,7 +128,7 @@ fn record_part(
     let (moment, hit) = record_turn(session, olds, used);
     made[turns] = moment;
     let used = used + moment.count as usize;
-    (Part { count: 1, used }, hit)
+    (pp_history::Recorded { count: 1, used }, hit)
 }
 
 /// Performs turns until there were `most`, or one changed the number of a watched place, or there is no more room: in
