@@ -16,7 +16,7 @@ from pp6600.shell.options import OPTIONS
 
 TOOLS = os.path.join(TOP, "tools")
 FOR_PYTHON_2 = ("tools/until", "tools/pp6600/__init__.py", "exercises/check-exercise", "exercises/grade", "exercises/hand-out", "exercises/new",
-                "share/install", "share/npm", "share/wheel")
+                "share/install", "share/deb", "pp6600-python", "tests/__init__.py")
 COMMANDS = [os.path.basename(path)[:-len(".py")] for path in glob.glob(os.path.join(TOOLS, "pp6600", "front", "commands", "[!_]*.py"))]
 
 
@@ -33,10 +33,13 @@ class Package(Case):
         self.assertEqual(0, done.returncode, done.stdout)
 
     def test_launchers(self):
-        """Each tool is a copy of one launcher, is a script of the package, and has a module."""
+        """Each tool is a copy of one launcher, is a script of the package, and has a module. What makes and what measures has another one."""
         names = [name for name in os.listdir(TOOLS) if "." not in name and os.path.isfile(os.path.join(TOOLS, name))]
         for name in names:
             self.assertEqual(read(TOOLS, names[0]), read(TOOLS, name), name)
+        for path in glob.glob(os.path.join(TOP, "*", "scripts", "*.py")):
+            folder, name = os.path.split(path)
+            self.assertEqual(read("share", "deb"), read(os.path.dirname(folder), name[:-len(".py")]), name)
         scripts = re.findall(r'^pp6600-(\S+) = "pp6600.__main__:launch"$', read("pyproject.toml"), re.M)
         self.assertEqual(sorted(names), sorted(scripts))
         self.assertEqual(sorted(names), sorted(MODULES))

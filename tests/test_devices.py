@@ -12,7 +12,9 @@ from pp6600.run.device import Event
 from pp6600.devices.options import NAMES, device_of, script_with
 from pp6600.devices.card_reader import CardReader
 from pp6600.devices.console_display import ConsoleDisplay
-from pp6600.devices.line_printer import LinePrinter
+from pp6600.devices.controller import Controller, ControllerState
+from pp6600.devices.converter import ConverterState
+from pp6600.devices.line_printer import LinePrinter, Paper
 from pp6600.devices.magnetic_tape import MagneticTape
 from pp6600.devices.paper_tape import PaperTape
 from pp6600.devices.pictures import Mark, Picture, braille, svg
@@ -259,6 +261,17 @@ class Pictures(Case):
     def test_widths(self):
         self.check_rows(lambda count, width: [len(braille(Picture((frozenset(),) * count), width)[0])],
                         (1, 1, [16]), (1, 31, [16]), (1, 32, [32]), (1, 80, [64]), (2, 80, [65]), (2, 128, [65]), (2, 129, [129]))
+
+    def test_two_printers(self):
+        """The pages of both are shown, one below the other in a terminal, beside each other in SVG."""
+        papers = [Paper().moved("".join(f"{name} {line}\n" for line in range(8))) for name in ("A", "B")]
+        printers = Controller(LinePrinter("4"), LinePrinter("5"))
+        picture = printers.picture(ControllerState(tuple(map(ConverterState, papers))))
+        pages = [[*(f"{name} {line}" for line in range(8)), ""] for name in "AB"]
+        self.assertEqual([*pages[0], "", *pages[1]], braille(picture, 80))
+        self.assertEqual([*pages[0][-5:], "", *pages[1][-5:]], picture.last_lines(5))
+        self.assertEqual(pages[0][:-1] + pages[1][:-1], re.findall("preserve\">(.*)</text>", svg(picture)))
+        self.assertEqual(["7", "973"], sorted({*re.findall('text x="([0-9]+)"', svg(picture))}, key=int))
 
     def test_devices_that_show_nothing(self):
         for device in (PaperTape(), MagneticTape()):

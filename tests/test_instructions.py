@@ -17,9 +17,10 @@ from pp6600.run import turn
 from pp6600.run.forms import STATES
 from pp6600.run.sentences import TEXT
 
-ROW = re.compile(r"^ +(?:∷ )?row code\.(\w+) (\w+) .*?-- ([0-7]{2})$", re.M | re.S)
+ROW = re.compile(r"^ +(?:∷ )?row code\.(\w+) (\w+) (.*?)-- ([0-7]{2})$", re.M | re.S)
 TABLE = read("crates", "pp_step", "specs", "InstructionTable.antt")
-ROWS = [(name, mode, int(code, 8)) for name, mode, code in ROW.findall(TABLE)]
+ROWS = [(name, mode, int(code, 8)) for name, mode, _, code in ROW.findall(TABLE)]
+EFFECTS = [effect for _, _, effect, _ in ROW.findall(TABLE)]
 NAMES = [name.rstrip("0123456789").upper() for name, _, _ in ROWS]
 WORDS = [2 if mode in ("Memory", "Unindexed") else 1 for _, mode, _ in ROWS]
 TWO = {code for code, words in enumerate(WORDS) if words == 2}
@@ -62,12 +63,19 @@ class Instructions(Case):
         self.assertEqual(list(zip(NAMES, WORDS)), [(name, size_of(code)) for code, name in enumerate(MNEMONICS)])
         for mode, codes in (("Indirect", turn.INDIRECT), ("Memory", turn.INDEXED)):
             self.assertEqual([code for _, one, code in ROWS if one == mode], list(codes))
+        for word, codes in (("branch", turn.RELATIVE_JUMPS), ("test", turn.CHANNEL_JUMPS), ("[cC]entral", turn.A_IS_AN_ADDRESS),
+                            ("states|issue", turn.CHANNEL_CODES), ("issue", turn.BLOCK_GOES_ON), ("issue_counted", turn.BLOCKS_OF_CENTRAL)):
+            self.assertEqual([code for code, effect in enumerate(EFFECTS) if re.search(rf"\b({word})\b", effect)], list(codes), word)
 
     def test_states(self):
-        """The tools have the states of a channel in which an instruction completes."""
+        """The tools have the states of a channel in which an instruction completes, or jumps."""
         states = {"is_in Inactive": "I", "is_in Empty": "E", "is_in Full": "F", "is_active": STATES.replace("I", "")}
         found = re.findall(r"(?<!test )[(](is_in \w+|is_active) i\.d s\.states[)] i .*-- ([0-7]{2})$", TABLE, re.M)
         self.assertEqual(turn.COMPLETES, {int(code, 8): states[state] for state, code in found})
+        found = re.findall(r"test [(](not )?[(]?is_(active|full) i\.d s\.states.*-- ([0-7]{2})$", TABLE, re.M)
+        states = {"active": "EFX", "full": "FX"}
+        self.assertEqual(turn.JUMPS_IN, {int(code, 8): "".join(one for one in STATES if (one in states[state]) != bool(no))
+                                         for no, state, code in found})
 
     def test_second_simulator(self):
         self.assertEqual([(f"{code:02o} {NAMES[code]}", WORDS[code]) for code in range(64)], [one[:2] for one in PLAIN])

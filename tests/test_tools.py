@@ -1,6 +1,5 @@
 """The tools, by rules that no single transcript of tests/sessions shows. Expected values are those of the pages."""
 
-import ast
 import random
 import re
 
@@ -13,14 +12,6 @@ DEVICES = ("--central", "32", "--panel", "examples/dead-start/panel", "--deck", 
 
 def busy_script(seed):
     return "".join(f"{line}\n" for line in Maker(seed, BUSY).script())
-
-
-class OlderPython(Case):
-    def test_it_reads_what_refuses_it(self):
-        """What says that a later Python is needed has no syntax of that one; tests/sessions/bad-hands.txt has what is said."""
-        for path in ("pp6600-python", "tools/pp6600/__init__.py", "tests/__init__.py", *(f"tools/{name}" for name in TOOLS)):
-            with self.subTest(path):
-                ast.parse(read(*path.split("/")), feature_version=(3, 4))
 
 
 class Tables(Case):

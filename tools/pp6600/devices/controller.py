@@ -7,7 +7,7 @@ from typing import Any, NamedTuple, Optional, Tuple
 from ..failure import Failure
 from ..run.device import Answer, Device, Event
 from .converter import CONNECT, CONNECT_BY_WORD, EQUIPMENT, MASTER_CLEAR, Converter
-from .pictures import Picture
+from .pictures import Picture, joined
 
 
 class ControllerState(NamedTuple):
@@ -53,7 +53,8 @@ class Controller(Device):
                                      for at, inner in enumerate(state.states)), chosen)
 
     def picture(self, state: ControllerState) -> Optional[Picture]:
-        return next(filter(None, (one.picture(inner) for one, inner in zip(self.equipments, state.states))), None)
+        shown = [one.picture(inner) for one, inner in zip(self.equipments, state.states)]
+        return joined([picture for picture in shown if picture]) if any(shown) else None
 
     def paper(self, state: ControllerState) -> str:
         return "".join(one.paper(inner) for one, inner in zip(self.equipments, state.states))

@@ -45,10 +45,25 @@ class Mark(NamedTuple):
 
 
 class Picture(NamedTuple):
-    """What is on the screens of a device, from left to right; or without screens the lines of a page of paper."""
+    """What is on the screens of a device, from left to right; or without screens the lines of a page of paper, or of several pages, with a
+    form feed as the line between two."""
 
     screens: Tuple[FrozenSet[Mark], ...]
     lines: Tuple[str, ...] = ()
+
+    @property
+    def pages(self) -> List[List[str]]:
+        return [page.split("\n") for page in "\n".join(self.lines).split("\n\f\n")]
+
+    def last_lines(self, most: int) -> List[str]:
+        """Returns the last lines of each page, at most so many of one, with an empty line between two pages."""
+        return [line for page in self.pages for line in ("", *page[-most:])][1:]
+
+
+def joined(pictures: Sequence[Picture]) -> Picture:
+    """Returns pictures as one, beside each other."""
+    pages = (one.lines for one in pictures if one.lines)
+    return Picture(tuple(screen for one in pictures for screen in one.screens), tuple("\n\f\n".join(map("\n".join, pages)).split("\n")))
 
 
 # ---- SVG
@@ -61,7 +76,7 @@ WIDTHS = {0: 3, 8: 1, 16: 1.4, 32: 2}  # of the strokes, by the size of the symb
 def svg(picture: Picture) -> str:
     """Returns a picture as SVG, a mark or a line of paper a line."""
     if not picture.screens:
-        return paper_as_svg(picture.lines)
+        return paper_as_svg(picture.pages)
     width, height = 2 * FRAME * len(picture.screens), 2 * FRAME
     lines = [f'<svg xmlns="http://www.w3.org/2000/svg" viewBox="0 0 {width} {height}">'
              f'<rect width="{width}" height="{height}" fill="#3a3f42"/>']
@@ -77,13 +92,16 @@ def svg(picture: Picture) -> str:
 ACROSS_PAPER, DOWN_PAPER = 7, 12  # from a symbol of paper to the next, and from a line
 
 
-def paper_as_svg(lines: Sequence[str]) -> str:
-    """Returns a page of paper as SVG."""
-    width, height = (COLUMNS + 2) * ACROSS_PAPER, (ROWS + 1) * DOWN_PAPER
+def paper_as_svg(pages: Sequence[Sequence[str]]) -> str:
+    """Returns pages of paper as SVG, beside each other."""
+    page_width, height = (COLUMNS + 2) * ACROSS_PAPER, (ROWS + 1) * DOWN_PAPER
+    width = page_width * len(pages)
     return "\n".join([f'<svg xmlns="http://www.w3.org/2000/svg" viewBox="0 0 {width} {height}" font-family="monospace" font-size="11">'
                       f'<rect width="{width}" height="{height}" fill="#f6f4ea"/>',
-                      *(f'<text x="{ACROSS_PAPER}" y="{DOWN_PAPER * number}" textLength="{ACROSS_PAPER * len(line)}" xml:space="preserve">'
-                        f"{escape(line)}</text>" for number, line in enumerate(lines, 1) if line), "</svg>", ""])
+                      *(f'<path d="M{page_width * at} 0V{height}" stroke="#15181a"/>' for at in range(1, len(pages))),
+                      *(f'<text x="{page_width * at + ACROSS_PAPER}" y="{DOWN_PAPER * number}" textLength="{ACROSS_PAPER * len(line)}" '
+                        f'xml:space="preserve">{escape(line)}</text>'
+                        for at, page in enumerate(pages) for number, line in enumerate(page, 1) if line), "</svg>", ""])
 
 
 def path_of(mark: Mark) -> str:
@@ -104,7 +122,7 @@ def braille(picture: Picture, width: int) -> List[str]:
     """Returns a picture as lines of at most so many cells, the screens beside each other; paper as its lines. Its dots are those of braille symbols; a
     symbol too small for strokes is a letter. A screen has 16, 32, 64 .. cells a line, so its symbols are at equal distances."""
     if not picture.screens:
-        return list(picture.lines)
+        return picture.last_lines(len(picture.lines))
     cells = MOST_CELLS
     while cells > FEWEST_CELLS and (cells + 1) * len(picture.screens) - 1 > width:
         cells //= 2

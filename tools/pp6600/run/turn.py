@@ -21,10 +21,13 @@ COMPLETES = {0o70: "F", 0o72: "E", 0o74: "I", 0o75: "EFX", 0o76: "I", 0o77: "I"}
 BLOCK_GOES_ON = {0o71: "IF", 0o73: "IE"}
 BLOCKS_OF_CENTRAL = (0o61, 0o63)
 BLOCKS = (*BLOCKS_OF_CENTRAL, *BLOCK_GOES_ON)
+# Outside a block: whose address in central memory is A.
+A_IS_AN_ADDRESS = (0o26, 0o60, 0o62)
 STATES_WORDS = {"F": "full", "IF": "full", "E": "empty", "IE": "empty", "I": "inactive", "EFX": "active"}
 WAITS_FOR = {code: STATES_WORDS[states] for code, states in {**COMPLETES, **BLOCK_GOES_ON}.items()}
 RELATIVE_JUMPS = range(0o03, 0o10)
-CHANNEL_JUMPS = range(0o64, 0o70)
+JUMPS_IN = {0o64: "EFX", 0o65: "I", 0o66: "FX", 0o67: "IE"}  # the states of its channel in which AJM, IJM, FJM and EJM jump
+CHANNEL_JUMPS = tuple(JUMPS_IN)
 CONDITIONAL_JUMPS = (*RELATIVE_JUMPS, *CHANNEL_JUMPS)
 CHANNEL_CODES = range(0o64, 0o100)
 # Whose operand's address is in cell d; and m, to which cell d is added if d is not 0. Of all others it is d.

@@ -9,12 +9,11 @@ from ..engine.interface import CELLS_OF_PROCESSOR
 from ..engine.origins import Origin, Origins
 from .forms import Place
 from .session import Session
-from .turn import BLOCKS_OF_CENTRAL, CONDITIONAL_JUMPS, INDEXED, INDIRECT, RELATIVE_JUMPS, TWO_WORDS, Processor
+from .turn import A_IS_AN_ADDRESS, BLOCKS_OF_CENTRAL, CONDITIONAL_JUMPS, INDEXED, INDIRECT, RELATIVE_JUMPS, TWO_WORDS, Processor
 
 # The parts of a word, of twelve bits each from the left, that a field has.
 PARTS = {**{of.FIRST + part: (part,) for part in range(5)}, of.WITHOUT_B0: (0, 1, 2, 3), of.PROGRAM_ADDRESS: (0, 1)}
 ADVANCES = (of.AFTER1, of.AFTER2, of.AFTER5)
-A_IS_AN_ADDRESS = (0o26, 0o60, 0o62)
 MOVES = (of.MOVED, of.JOINED, of.NO_WORD, of.ZERO, of.ONE, of.TWO, of.THREE)
 # How a number that is computed is made, before what it is made from.
 WORDS = {of.SUM: "SUM OF", of.LOW_SUM: "SUM OF", of.DIFFERENCE: "DIFFERENCE OF", of.LOGICAL_DIFFERENCE: "LOGICAL DIFFERENCE OF",

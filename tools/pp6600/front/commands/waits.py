@@ -17,7 +17,7 @@ from ...run.searches import last_moments
 from ...run.session import Session
 from ...run.state import State, central_of, state_of
 from ...run.tape import STEP, Position, Tape
-from ...run.turn import CHANNEL_JUMPS, Processor, places_of_setting
+from ...run.turn import JUMPS_IN, Processor, places_of_setting
 from ...run.written import made_turn
 from ...shell.command_line import add_script, add_turn, arguments, write_lines
 
@@ -29,7 +29,6 @@ dead start. A jump to itself is no wait, but for one that tests a channel, which
 which turn the channel is as it is, and who made it so: a processor with its P and instruction, a device, a SET or a DEADSTART,
 or nobody."""
 
-JUMPS_IN = dict(zip(CHANNEL_JUMPS, ("EFX", "I", "FX", "IE")))  # the states of its channel in which AJM, IJM, FJM and EJM jump
 # After so many turns the clock is as it was, and so are processors that pass through their memories.
 CLOCK_TRIP = PROCESSORS * CELLS
 # After so many times as many also loops of most lengths are, and those of one or two rounds that count in a cell. Each is a multiple of

@@ -35,8 +35,8 @@ class PicturePage(TextPage):
     def texts(self, columns: int, rows: int) -> Iterator[str]:
         """Yields the lines of all pictures, each as large as it can be seen whole."""
         def draw(picture: Picture) -> List[str]:
-            if not picture.screens:  # the end of a page of paper
-                return list(picture.lines[-max(rows - 4, 1):])
+            if not picture.screens:
+                return picture.last_lines(max((rows - 3) // len(picture.pages) - 1, 1))
             return braille(picture, min(columns, (2 * (rows - 3) + 1) * len(picture.screens) - 1))
 
         for number, device in self.devices:
