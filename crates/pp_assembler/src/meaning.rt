@@ -4,7 +4,7 @@ ghost use Rattle.pp_assembler.specs.Meaning.{ArePerformed, IsFound, IsWordsOf, r
 
 use crate::pass::Pass;
 use crate::program::Performed;
-use crate::terms::{Names, begins_with_blank, may_follow, operand_of, text_of_display};
+use crate::terms::{Names, begins_with_blank, field_of, may_follow, operand_of, text_of_display};
 use pp_meaning::{
     Item, Literal, Operand, Operation as Meant, Refusal, Statement, Symbol, encode, program_of,
 };
@@ -18,6 +18,9 @@ use std::alloc::{AllocError, Global};
 
 /// The greatest word.
 const WORD: u32 = 0o7777;
+
+/// The code of LDN, which LDK may be.
+const LOAD: u8 = 0o14;
 
 /// The statement of a row of the listing that has a literal.
 const NO_STATEMENT: usize = usize::MAX;
@@ -49,8 +52,13 @@ fn is_bare(row: &Row) -> bool {
     row.first == row.end && !row.has_address && row.value.is_none()
 }
 
-/// Returns what an operation does to the words, if that is known here.
-fn meant(operation: Operation, name: &[u8], operand: &[u8]) -> Option<Meant> {
+/// Returns what an operation does to the words, if that is known here. LIT is at an address.
+fn meant(
+    operation: Operation,
+    name: &[u8],
+    operand: &[u8],
+    address: Option<usize>,
+) -> Option<Meant> {
     Some(match operation {
         Operation::None => Meant::Blank,
         Operation::Instruction(code) => Meant::Instruction(code),
@@ -62,6 +70,8 @@ fn meant(operation: Operation, name: &[u8], operand: &[u8]) -> Option<Meant> {
         Operation::Location => Meant::Location,
         Operation::Equate => Meant::Equate(matches!(name, b"=")),
         Operation::Set => Meant::Set,
+        Operation::Greatest => Meant::Choose(true),
+        Operation::Least => Meant::Choose(false),
         Operation::Base => {
             let more = u8::try_from(operand.len().wrapping_sub(1)).ok()?;
             Meant::SetBase(base_of(operand)?, more)
@@ -69,6 +79,10 @@ fn meant(operation: Operation, name: &[u8], operand: &[u8]) -> Option<Meant> {
         Operation::Deck => Meant::Deck,
         Operation::End => Meant::End,
         Operation::Text => Meant::Display,
+        Operation::Bits => Meant::Bits,
+        Operation::Position => Meant::Position,
+        Operation::Shortest(code, ..) => Meant::Shortest(code != LOAD),
+        Operation::Literals => Meant::Pool(address?),
         _ => return None,
     })
 }
@@ -83,7 +97,10 @@ fn is_silent(operation: Operation) -> bool {
             | Operation::Micro
             | Operation::NumberMicro { .. }
             | Operation::Block(_)
-            | Operation::Lines(Elsewhere::Deck | Elsewhere::Here | Elsewhere::Purge)
+            | Operation::TextCode
+            | Operation::Lines(
+                Elsewhere::Deck | Elsewhere::Here | Elsewhere::Purge | Elsewhere::Stop
+            )
     )
 }
 
@@ -104,7 +121,8 @@ fn part_of_statement(pass: &Pass, here: &Here, row: &Row, fields: Fields) -> Par
     if is_bare(row) && (is_call || is_silent(operation)) {
         return Part::Silent;
     }
-    match meant(operation, name, fields.operand.of(here.text)) {
+    let address = row.value.and_then(|value| usize::try_from(value).ok());
+    match meant(operation, name, fields.operand.of(here.text), address) {
         Some(meant) if row.origin <= CELLS as i64 && is_right_label(meant, fields) => {
             Part::Kept(fields, meant)
         }
@@ -142,11 +160,15 @@ fn names_of(alloc: Global, lines: &Lines, pass: &Pass) -> Result<Option<Names>, 
         let label = lines.part_of(row.statement, fields.location);
         if is_name(label) {
             let value = match operation {
-                Meant::Equate(_) | Meant::Set => row.value,
+                Meant::Equate(_) | Meant::Set | Meant::Choose(_) | Meant::Pool(_) => row.value,
                 _ => Some(row.location),
             };
             match value {
-                Some(value) => names.add(label, value, matches!(operation, Meant::Set))?,
+                Some(value) => names.add(
+                    label,
+                    value,
+                    matches!(operation, Meant::Set | Meant::Choose(_)),
+                )?,
                 None => return Ok(None),
             }
         }
@@ -160,6 +182,7 @@ fn literal_address(operation: Meant, words: &[u16], index: usize) -> Option<usiz
     let second = words.get(1).copied().map(usize::from);
     match operation {
         Meant::Constants => words.get(index).copied().map(usize::from),
+        Meant::Shortest(_) => Some((first & 0o77) << 12 | second?),
         Meant::Instruction(code) => match (form_of(code), index) {
             (Form::Constant, _) => Some((first & 0o77) << 12 | second?),
             (Form::Indexed | Form::Both, 0) => second,
@@ -200,7 +223,7 @@ fn operands_of(
     words: &[u16],
 ) -> Result<Option<Vec<Operand>>, AllocError> {
     let mut operands = Vec::new(alloc);
-    let is_data = matches!(operation, Meant::Data);
+    let is_data = matches!(operation, Meant::Data | Meant::Pool(_));
     let is_literal = field.of(line).first() == Some(&b'=');
     let is_instruction = matches!(operation, Meant::Instruction(_));
     let mut parts = Parts::new(field, is_data || is_instruction && is_literal);
@@ -210,8 +233,16 @@ fn operands_of(
             Ok(None) => return Ok(Some(operands)),
             Err(_) => return Ok(None),
         };
-        let address = literal_address(operation, words, index);
-        match operand_of(alloc, names, part.of(line), is_data, address)? {
+        let text = part.of(line);
+        let found = match operation {
+            Meant::Bits => field_of(alloc, names, text)?,
+            Meant::Constants if text.is_empty() => Some(Operand::Single(Item::Nothing)),
+            _ => {
+                let address = literal_address(operation, words, index);
+                operand_of(alloc, names, text, is_data, address)?
+            }
+        };
+        match found {
             Some(operand) => operands.push(operand)?,
             None => return Ok(None),
         }

@@ -1,7 +1,7 @@
 //! The terms of operands, and the names that they have.
 use pp_meaning::{
     Atom, Cut, Expression, Factor, Item, Kind, Label, Linkage, Operand, Radix, Sign, Symbol, Term,
-    Text,
+    Text, Width,
 };
 use pp_source::{
     Number, code_of, counter_of, digits_of, end_of_name, find, is_blank, number_of, tail, text_at,
@@ -312,6 +312,48 @@ pub fn operand_of(
         (Some(item), Some(address)) => Ok(Some(Operand::Literal(address, item))),
         _ => Ok(None),
     }
+}
+
+/// Returns what the size of a field of VFD says: a number, a name or `*P`.
+fn width_of(alloc: Global, names: &Names, text: &[u8]) -> Result<Option<Width>, AllocError> {
+    if matches!(text, b"*P") {
+        return Ok(Some(Width::Rest));
+    }
+    if end_of_name(text, 0) == Some(text.len()) {
+        return Ok(names.index_of(text).map(Width::Named));
+    }
+    let Some(number) = number_of(text) else {
+        return Ok(None);
+    };
+    let (radix, letters) = match number.letter {
+        Some(b'B') => (Radix::B, 1),
+        Some(b'O') => (Radix::O, 1),
+        Some(_) => (Radix::D, 1),
+        None => (Radix::Plain, 0),
+    };
+    if number.digits.len().saturating_add(letters) != text.len() {
+        return Ok(None);
+    }
+    let digits = Vec::from_slice(alloc, number.digits)?;
+    Ok(Some(Width::Digits(digits, radix)))
+}
+
+/// Returns a field of VFD: its size, and its expression, which may be left out.
+pub fn field_of(alloc: Global, names: &Names, text: &[u8]) -> Result<Option<Operand>, AllocError> {
+    let Some(end) = find(text, 0, b'/') else {
+        return Ok(None);
+    };
+    let size = text.get(..end).unwrap_or(b"");
+    let Some(width) = width_of(alloc, names, size)? else {
+        return Ok(None);
+    };
+    let expression = tail(text, end.saturating_add(1));
+    let item = if expression.is_empty() {
+        Some(Item::Nothing)
+    } else {
+        item_of(alloc, names, expression, false)?
+    };
+    Ok(item.map(|item| Operand::Bits(width, item)))
 }
 
 /// Returns the terms of an operand, if they are known here.

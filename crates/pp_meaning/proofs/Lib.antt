@@ -1,3 +1,4 @@
+pub mod BitSteps
 pub mod Filling
 pub mod Folds
 pub mod LastNames

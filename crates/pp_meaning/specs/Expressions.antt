@@ -1,9 +1,12 @@
 -- What operands stand for. Each is given by its terms; specs/Lines.antt says how these are written.
 use Rattle.std.specs.Prelude.{ℕ, ℤ, pos, negsuc, ◌+◌, ◌-◌, ◌^◌, ◌%◌, ◌&&◌, ◌||◌, nat_le, nat_lt, not, Bool, true, false, Option, Some, None, List, [], ◌∷◌, slice_get, take, bit_xor, fold, if◌then◌else◌}
+use Rattle.std.specs.List.{list_all}
+use Rattle.std.specs.Prelude.{int_lt}
 use Rattle.std.specs.Prelude.{◌+ℤ◌, ◌-ℤ◌, ◌*ℤ◌, int_div}
 use Rattle.std.specs.Ordering.{int_eq}
 use Rattle.pp_meaning.specs.Numbers.{decimal_number, number_value}
 use Rattle.pp_meaning.specs.Texts.{text_number}
+use Rattle.pp_meaning.specs.declared.expressions.Base.TheVariants.{Decimal}
 use Rattle.pp_meaning.specs.declared.expressions.Atom.{Atom}
 use Rattle.pp_meaning.specs.declared.expressions.Atom.TheVariants.{Number, Name, Here, LocationCounter, OriginCounter, Nothing, Symbols, Shifted}
 use Rattle.pp_meaning.specs.declared.expressions.Expression.{Expression}
@@ -93,6 +96,41 @@ value symbols place _ = None
 -- The value by the names that are defined above.
 abbrev pub value_above : List Symbol → Place → Operand → Option ℤ
 value_above symbols place operand = value (take place.defined symbols) place operand
+
+-- The same, with decimal numbers.
+abbrev pub decimal_above : List Symbol → Place → Operand → Option ℤ
+decimal_above symbols place operand = value_above symbols (record place { base = Some Decimal }) operand
+
+-- Whether each name of an operand is defined above.
+abbrev pub is_atom_above : Place → Atom → Bool
+is_atom_above place (Name index) = nat_lt index place.defined
+is_atom_above place _ = true
+
+abbrev pub is_factor_above : Place → Factor → Bool
+is_factor_above place factor = is_atom_above place factor.atom
+
+abbrev pub is_term_above : Place → Term → Bool
+is_term_above place term = is_atom_above place term.atom && list_all (is_factor_above place) term.factors.items
+
+abbrev pub is_above : Place → Operand → Bool
+is_above place (Single (Sum x)) = list_all (is_term_above place) x.terms.items
+is_above place _ = false
+
+-- The greatest or the least of several numbers.
+abbrev pub better : Bool → ℤ → ℤ → ℤ
+better is_greatest a b = if is_greatest then (if int_lt a b then b else a) else (if int_lt b a then b else a)
+
+abbrev pub choose : Bool → ℤ → Option ℤ → Option ℤ
+choose is_greatest a None = None
+choose is_greatest a (Some b) = Some (better is_greatest a b)
+
+abbrev pub with_choice : List Symbol → Place → Bool → Option ℤ → Operand → Option ℤ
+with_choice symbols place is_greatest None x = None
+with_choice symbols place is_greatest (Some a) x = choose is_greatest a (value_above symbols place x)
+
+abbrev pub chosen : List Symbol → Place → Bool → List Operand → Option ℤ
+chosen symbols place is_greatest [] = None
+chosen symbols place is_greatest (x ∷ others) = fold (with_choice symbols place is_greatest) (value_above symbols place x) others
 
 -- ---- addresses
 

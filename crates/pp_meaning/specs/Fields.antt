@@ -5,9 +5,9 @@ use Rattle.pp_meaning.specs.Texts.{filled, is_ended, number_from_codes}
 use Rattle.pp_meaning.specs.declared.expressions.Atom.{Atom}
 use Rattle.pp_meaning.specs.declared.expressions.Atom.TheVariants.{Number}
 use Rattle.pp_meaning.specs.declared.expressions.Item.{Item}
-use Rattle.pp_meaning.specs.declared.expressions.Item.TheVariants.{Characters, Sum}
+use Rattle.pp_meaning.specs.declared.expressions.Item.TheVariants.{Characters, Nothing, Sum}
 use Rattle.pp_meaning.specs.declared.expressions.Operand.{Operand}
-use Rattle.pp_meaning.specs.declared.expressions.Operand.TheVariants.{Single, External, Literal as Named}
+use Rattle.pp_meaning.specs.declared.expressions.Operand.TheVariants.{Single, External, Literal as Named, Bits}
 use Rattle.pp_meaning.specs.declared.expressions.Place.{Place}
 use Rattle.pp_meaning.specs.declared.expressions.Radix.TheVariants.{Plain}
 use Rattle.pp_meaning.specs.declared.expressions.Sign.{Sign}
@@ -69,6 +69,7 @@ text_field bits text = if fits bits text then Some (number_from_codes 0 (filled 
 abbrev pub item_field : ℕ → List Symbol → Place → Item → Option ℕ
 item_field bits symbols place (Sum x) = then_field (2 ^ bits - 1) (are_ones x.terms.items) (sum symbols place x)
 item_field bits symbols place (Characters text) = text_field bits text
+item_field bits symbols place Nothing = None
 
 -- An operand as a number of so many bits. That of a literal is its address.
 abbrev pub operand_field : ℕ → List Symbol → Place → Operand → Option ℕ
@@ -76,3 +77,4 @@ operand_field bits symbols place (Single item) = item_field bits symbols place i
 operand_field bits symbols place (Named address item) = field (2 ^ bits - 1) false (pos address)
 operand_field bits symbols place (External letter index) =
     then_field (2 ^ bits - 1) false (named_value place index (slice_get symbols index))
+operand_field bits symbols place (Bits width item) = None

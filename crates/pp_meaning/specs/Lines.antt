@@ -12,9 +12,9 @@ use Rattle.pp_meaning.specs.declared.expressions.Base.TheVariants.{Octal, Decima
 use Rattle.pp_meaning.specs.declared.expressions.Expression.{Expression}
 use Rattle.pp_meaning.specs.declared.expressions.Factor.{Factor}
 use Rattle.pp_meaning.specs.declared.expressions.Item.{Item}
-use Rattle.pp_meaning.specs.declared.expressions.Item.TheVariants.{Characters, Sum}
+use Rattle.pp_meaning.specs.declared.expressions.Item.TheVariants.{Characters, Nothing as Null, Sum}
 use Rattle.pp_meaning.specs.declared.expressions.Operand.{Operand}
-use Rattle.pp_meaning.specs.declared.expressions.Operand.TheVariants.{Single, External, Literal as Named}
+use Rattle.pp_meaning.specs.declared.expressions.Operand.TheVariants.{Single, External, Literal as Named, Bits as Field}
 use Rattle.pp_meaning.specs.declared.expressions.Linkage.{Linkage}
 use Rattle.pp_meaning.specs.declared.expressions.Linkage.TheVariants.{S, X, Y}
 use Rattle.pp_meaning.specs.declared.expressions.Radix.{Radix}
@@ -23,10 +23,12 @@ use Rattle.pp_meaning.specs.declared.expressions.Sign.{Sign}
 use Rattle.pp_meaning.specs.declared.expressions.Sign.TheVariants.{Plus as Added, Minus as Subtracted, Differ}
 use Rattle.pp_meaning.specs.declared.expressions.Symbol.{Symbol}
 use Rattle.pp_meaning.specs.declared.expressions.Term.{Term}
+use Rattle.pp_meaning.specs.declared.expressions.Width.{Width}
+use Rattle.pp_meaning.specs.declared.expressions.Width.TheVariants.{Digits, Named as Width_name, Rest}
 use Rattle.pp_meaning.specs.declared.statements.Label.{Label}
 use Rattle.pp_meaning.specs.declared.statements.Label.TheVariants.{Empty, Plus, Minus, Named}
 use Rattle.pp_meaning.specs.declared.statements.Operation.{Operation}
-use Rattle.pp_meaning.specs.declared.statements.Operation.TheVariants.{Blank, Instruction, Constants, Data, Zeros, Space, Origin, Location, Equate, Set, SetBase, Deck, Display, End}
+use Rattle.pp_meaning.specs.declared.statements.Operation.TheVariants.{Blank, Instruction, Constants, Data, Zeros, Space, Origin, Location, Equate, Set, Choose, SetBase, Deck, Display, Bits, Position, Shortest, Pool, End}
 use Rattle.pp_meaning.specs.declared.statements.Statement.{Statement}
 use Rattle.pp_meaning.specs.declared.texts.Cut.{Cut}
 use Rattle.pp_meaning.specs.declared.texts.Cut.TheVariants.{Counted, Marked}
@@ -83,17 +85,24 @@ kind_letter Z = codes "Z"
 abbrev pub item_text : List Symbol → Item → List ℕ
 item_text symbols (Sum x) = sum_text symbols x
 item_text symbols (Characters text) = text_with (kind_letter text.kind) text
+item_text symbols Null = []
+
+abbrev pub width_text : List Symbol → Width → List ℕ
+width_text symbols (Digits digits radix) = digits.items ++ letter radix
+width_text symbols (Width_name index) = symbol_name (slice_get symbols index)
+width_text symbols Rest = codes "*P"
 
 abbrev pub external_letter : Linkage → List ℕ
 external_letter S = codes "S"
 external_letter X = codes "X"
 external_letter Y = codes "Y"
 
--- A literal is what its words are, after =. =X, =S and =Y are before a name.
+-- A literal is what its words are, after =. =X, =S and =Y are before a name. A field of VFD is its size, / and its expression.
 abbrev pub operand_text : List Symbol → Operand → List ℕ
 operand_text symbols (Single item) = item_text symbols item
 operand_text symbols (Named address item) = codes "=" ++ item_text symbols item
 operand_text symbols (External letter index) = codes "=" ++ external_letter letter ++ symbol_name (slice_get symbols index)
+operand_text symbols (Field width item) = width_text symbols width ++ codes "/" ++ item_text symbols item
 
 -- Operands have a comma between two.
 abbrev pub operands_text : List Symbol → List Operand → List ℕ
@@ -117,9 +126,14 @@ operation_name Origin = codes "ORG"
 operation_name Location = codes "LOC"
 operation_name (Equate is_sign) = if is_sign then codes "=" else codes "EQU"
 operation_name Set = codes "SET"
+operation_name (Choose is_greatest) = if is_greatest then codes "MAX" else codes "MIN"
 operation_name (SetBase base more) = codes "BASE"
 operation_name Deck = codes "PERIPH"
 operation_name Display = codes "DIS"
+operation_name Bits = codes "VFD"
+operation_name Position = codes "POS"
+operation_name (Shortest is_sum) = if is_sum then codes "ADK" else codes "LDK"
+operation_name (Pool address) = codes "LIT"
 operation_name End = codes "END"
 
 -- BASE has the beginning of a base's name, at least its first letter. DIS has a comma before its text.

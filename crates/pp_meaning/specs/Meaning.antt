@@ -1,11 +1,12 @@
 -- What the words of statements are.
-use Rattle.std.specs.Prelude.{◌≡◌, ℕ, ℤ, pos, negsuc, ◌+◌, ◌-◌, ◌*◌, ◌%◌, ◌==◌, ◌&&◌, nat_le, nat_lt, not, Bool, true, false, Option, Some, None, List, [], ◌∷◌, ◌++◌, length, replicate, slice_get, slice_set, fold, if◌then◌else◌}
+use Rattle.std.specs.Prelude.{◌≡◌, ℕ, ℤ, pos, negsuc, ◌+◌, ◌-◌, ◌*◌, ◌%◌, ◌==◌, ◌&&◌, nat_le, nat_lt, not, Bool, true, false, Option, Some, None, List, [], ◌∷◌, ◌++◌, length, replicate, take, slice_get, slice_set, fold, if◌then◌else◌}
 use Rattle.std.specs.Ordering.{int_eq}
 use Rattle.pp_notation.specs.Instructions.{form}
 use Rattle.pp_notation.specs.InstructionWords.{constant_words, one_word, then_distance}
 use Rattle.pp_notation.specs.declared.instructions.Form.{Form}
 use Rattle.pp_notation.specs.declared.instructions.Form.TheVariants.{Alone, D as OneField, Target, Constant, Indexed, Both}
-use Rattle.pp_meaning.specs.Expressions.{address, address_around, value, value_above}
+use Rattle.pp_meaning.specs.Bits.{bits_left, bits_of, with_bits, words_of_bits, zeros_before}
+use Rattle.pp_meaning.specs.Expressions.{address, address_around, chosen, decimal_above, is_above, value, value_above}
 use Rattle.pp_meaning.specs.Fields.{item_field, operand_field}
 use Rattle.pp_meaning.specs.Literals.{are_placed, index_of, is_at, words_of_literals}
 use Rattle.pp_meaning.specs.Texts.{display, text_words}
@@ -14,7 +15,7 @@ use Rattle.pp_meaning.specs.declared.expressions.Atom.TheVariants.{Number}
 use Rattle.pp_meaning.specs.declared.expressions.Base.{Base}
 use Rattle.pp_meaning.specs.declared.expressions.Base.TheVariants.{Decimal}
 use Rattle.pp_meaning.specs.declared.expressions.Item.{Item}
-use Rattle.pp_meaning.specs.declared.expressions.Item.TheVariants.{Characters, Sum}
+use Rattle.pp_meaning.specs.declared.expressions.Item.TheVariants.{Characters, Nothing, Sum}
 use Rattle.pp_meaning.specs.declared.expressions.Literal.{Literal}
 use Rattle.pp_meaning.specs.declared.expressions.Operand.{Operand}
 use Rattle.pp_meaning.specs.declared.expressions.Operand.TheVariants.{Single, Literal as Named_literal}
@@ -24,9 +25,9 @@ use Rattle.pp_meaning.specs.declared.expressions.Term.{Term}
 use Rattle.pp_meaning.specs.declared.instruction.Words.{Words}
 use Rattle.pp_meaning.specs.declared.statements.Image.{Image}
 use Rattle.pp_meaning.specs.declared.statements.Label.{Label}
-use Rattle.pp_meaning.specs.declared.statements.Label.TheVariants.{Empty, Named}
+use Rattle.pp_meaning.specs.declared.statements.Label.TheVariants.{Empty, Minus, Named}
 use Rattle.pp_meaning.specs.declared.statements.Operation.{Operation}
-use Rattle.pp_meaning.specs.declared.statements.Operation.TheVariants.{Blank, Instruction, Constants, Data, Zeros, Space, Origin, Location, Equate, Set, SetBase, Deck, Display, End}
+use Rattle.pp_meaning.specs.declared.statements.Operation.TheVariants.{Blank, Instruction, Constants, Data, Zeros, Space, Origin, Location, Equate, Set, Choose, SetBase, Deck, Display, Bits, Position, Shortest, Pool, End}
 use Rattle.pp_meaning.specs.declared.statements.State.{State}
 use Rattle.pp_meaning.specs.declared.statements.Statement.{Statement}
 
@@ -66,14 +67,24 @@ abbrev pub added : List ℕ → Option ℕ → Option (List ℕ)
 added words None = None
 added words (Some word) = Some (words ++ word ∷ [])
 
+-- Nothing between two commas of CON is zero.
+abbrev pub constant : List Symbol → Place → Operand → Option ℕ
+constant symbols place (Single Nothing) = Some 0
+constant symbols place x = operand_field 12 symbols place x
+
 abbrev pub with_constant : List Symbol → Place → Option (List ℕ) → Operand → Option (List ℕ)
 with_constant symbols place None x = None
-with_constant symbols place (Some words) x = added words (operand_field 12 symbols place x)
+with_constant symbols place (Some words) x = added words (constant symbols place x)
 
--- The words of CON.
+abbrev pub is_something : Option Operand → Bool
+is_something None = false
+is_something (Some (Single Nothing)) = false
+is_something (Some x) = true
+
+-- The words of CON. Something is behind the last comma.
 abbrev pub constants : List Symbol → Place → List Operand → Option (List ℕ)
 constants symbols place operands =
-    if length operands == 0 then None else fold (with_constant symbols place) (Some []) operands
+    if is_something (slice_get operands (length operands - 1)) then fold (with_constant symbols place) (Some []) operands else None
 
 abbrev pub is_digits : Atom → Bool
 is_digits (Number digits radix) = true
@@ -88,6 +99,7 @@ is_number _ = false
 abbrev pub datum : List Symbol → Place → Item → Option (List ℕ)
 datum symbols place (Sum x) = if is_number x.terms.items then added [] (item_field 12 symbols place (Sum x)) else None
 datum symbols place (Characters text) = text_words text
+datum symbols place Nothing = None
 
 abbrev pub joined : List ℕ → Option (List ℕ) → Option (List ℕ)
 joined words None = None
@@ -108,6 +120,31 @@ abbrev pub zeros : Option ℕ → Option (List ℕ)
 zeros None = None
 zeros (Some count) = Some (replicate count 0)
 
+-- The instructions of LDK and ADK: for a small number, for one with a minus, and for others.
+abbrev pub small_code : Bool → ℕ
+small_code is_sum = if is_sum then 0o16 else 0o14
+
+abbrev pub minus_code : Bool → ℕ
+minus_code is_sum = if is_sum then 0o17 else 0o15
+
+abbrev pub wide_code : Bool → ℕ
+wide_code is_sum = if is_sum then 0o21 else 0o20
+
+abbrev pub wide_words : List Symbol → Place → Bool → Operand → Option (List ℕ)
+wide_words symbols place is_sum x = constant_words (wide_code is_sum) (operand_field 18 symbols place x)
+
+abbrev pub sized_words : List Symbol → Place → Bool → Operand → Option ℤ → Option (List ℕ)
+sized_words symbols place is_sum x None = None
+sized_words symbols place is_sum x (Some (pos n)) =
+    if nat_le n 0o77 then one_word (small_code is_sum) (operand_field 6 symbols place x) else wide_words symbols place is_sum x
+sized_words symbols place is_sum x (Some (negsuc n)) =
+    if nat_lt n 0o77 then one_word (minus_code is_sum) (Some (n + 1)) else wide_words symbols place is_sum x
+
+-- LDK and ADK have one word if the number is small and each name in it is defined above.
+abbrev pub shortest : List Symbol → Place → Bool → Operand → Option (List ℕ)
+shortest symbols place is_sum x =
+    if is_above place x then sized_words symbols place is_sum x (value symbols place x) else wide_words symbols place is_sum x
+
 -- A statement with a label alone has no words.
 abbrev pub words_of : List Symbol → Place → Operation → List Operand → Option (List ℕ)
 words_of symbols place Blank [] = Some []
@@ -116,12 +153,14 @@ words_of symbols place Constants operands = constants symbols place operands
 words_of symbols place Data operands = data_words symbols place operands
 words_of symbols place Zeros (x ∷ []) = zeros (address (value_above symbols place x))
 words_of symbols place Display (Single (Characters text) ∷ []) = display text
+words_of symbols place (Shortest is_sum) (x ∷ []) = shortest symbols place is_sum x
 words_of symbols place _ operands = None
 
 -- ---- statements
 
 -- What there is so far: the counters, the base of numbers, how many symbols are defined, how many literals are named, the cell after the
--- highest one, the memory, the words in the order of their statements, and where a processor begins.
+-- highest one, the memory, the words in the order of their statements, how many bits of the last word are used, if VFD has not filled it,
+-- or 0, and where a processor begins.
 pub record Standing : Type 0 where
   pub location : ℕ
   pub origin : ℕ
@@ -131,6 +170,7 @@ pub record Standing : Type 0 where
   pub reach : ℕ
   pub memory : List (Option ℕ)
   pub words : List ℕ
+  pub used : ℕ
   pub start : Option ℕ
 
 abbrev pub place_of : Standing → Place
@@ -146,7 +186,13 @@ with_words s None = None
 with_words s (Some words) =
     let stored = fold store (s.origin, s.memory) words in
     if nat_le (length words) (0o10000 - s.origin)
-    then Some (record s { origin = stored.0; location = s.location + length words; memory = stored.1; words = s.words ++ words })
+    then Some (record s {
+      origin = stored.0;
+      location = s.location + length words;
+      memory = stored.1;
+      words = s.words ++ words;
+      used = if length words == 0 then s.used else 0;
+    })
     else None
 
 -- Whether a symbol stands for a number, which another SET may change or not.
@@ -171,7 +217,7 @@ cells_on cell (pos n) = Some (cell + n)
 cells_on cell (negsuc n) = if nat_le (n + 1) cell then Some (cell - (n + 1)) else None
 
 abbrev pub at : Standing → Option ℕ → Option ℕ → Option Standing
-at s (Some origin) (Some location) = Some (record s { origin = origin; location = location })
+at s (Some origin) (Some location) = Some (record s { origin = origin; location = location; used = 0 })
 at s _ _ = None
 
 abbrev pub moved : Standing → Option ℤ → Option Standing
@@ -199,6 +245,49 @@ abbrev pub ended : Standing → Option ℕ → Option Standing
 ended s None = None
 ended s (Some start) = Some (record s { start = Some start })
 
+-- A VFD without a label goes on in the word that the one before has not filled.
+abbrev pub goes_on : Standing → Label → Bool
+goes_on s Empty = not (s.used == 0)
+goes_on s Minus = not (s.used == 0)
+goes_on s label = false
+
+abbrev pub bits_used : ℕ → Option ℕ → List ℕ
+bits_used count None = []
+bits_used count (Some word) = take count (bits_of 12 word)
+
+-- The bits before those of a VFD, in the same word.
+abbrev pub bits_before : Standing → Label → List ℕ
+bits_before s label = if goes_on s label then bits_used s.used (slice_get s.words (length s.words - 1)) else []
+
+abbrev pub without_last : Standing → Standing
+without_last s = record s { origin = s.origin - 1; location = s.location - 1; words = take (length s.words - 1) s.words }
+
+abbrev pub opened : ℕ → Option Standing → Option Standing
+opened count None = None
+opened count (Some s) = Some (record s { used = if count == 0 then s.used else count % 12 })
+
+-- Bits in words. The word that was not full is written once more.
+abbrev pub put_bits : Standing → Label → Option (List ℕ) → Option Standing
+put_bits s label None = None
+put_bits s label (Some bits) =
+    opened (length bits) (with_words (if goes_on s label then without_last s else s) (Some (words_of_bits bits)))
+
+abbrev pub then_bits : List Symbol → Option Standing → Label → List Operand → Option Standing
+then_bits symbols None label operands = None
+then_bits symbols (Some s) label operands =
+    if length operands == 0 then None
+    else put_bits s label (fold (with_bits symbols (place_of s)) (Some (bits_before s label)) operands)
+
+abbrev pub with_zeros : List ℕ → Option ℕ → Option (List ℕ)
+with_zeros bits None = None
+with_zeros bits (Some count) = Some (bits ++ replicate count 0)
+
+abbrev pub then_position : List Symbol → Option Standing → Label → Operand → Option Standing
+then_position symbols None label x = None
+then_position symbols (Some s) label x =
+    let bits = bits_before s label in
+    put_bits s label (with_zeros bits (zeros_before (bits_left (length bits)) (decimal_above symbols (place_of s) x)))
+
 -- What there is after a statement.
 abbrev pub after : List Symbol → Standing → Label → Operation → List Operand → Option Standing
 after symbols s label Space (x ∷ []) = then_moved symbols (labelled symbols s label) x
@@ -208,6 +297,12 @@ after symbols s label Location (x ∷ []) =
     then_labelled symbols (at s (Some s.origin) (address (value_above symbols (place_of s) x))) label
 after symbols s (Named index) (Equate is_sign) (x ∷ []) = define symbols false s index (value_above symbols (place_of s) x)
 after symbols s (Named index) Set (x ∷ []) = define symbols true s index (value_above symbols (place_of s) x)
+after symbols s (Named index) (Choose is_greatest) operands = define symbols true s index (chosen symbols (place_of s) is_greatest operands)
+after symbols s label Bits operands = then_bits symbols (labelled symbols s label) label operands
+after symbols s label Position (x ∷ []) = then_position symbols (labelled symbols s label) label x
+after symbols s (Named index) (Pool address) operands = define symbols false s index (Some (pos address))
+after symbols s Empty (Pool address) operands = Some s
+after symbols s Minus (Pool address) operands = Some s
 after symbols s Empty (SetBase base more) [] = Some (record s { base = Some base })
 after symbols s Empty Deck [] = Some (record s { base = Some (deck_base s.base) })
 after symbols s Empty End [] = Some s
@@ -232,6 +327,17 @@ with_literal symbols literals (Some s) (Named_literal address item) =
     naming literals s address (index_of literals (datum symbols (place_of s) item))
 with_literal symbols literals (Some s) x = Some s
 
+-- LIT names the literal that has its words.
+abbrev pub with_pool : List Symbol → List Literal → Option Standing → Operation → List Operand → Option Standing
+with_pool symbols literals None operation operands = None
+with_pool symbols literals (Some s) (Pool address) operands =
+    naming literals s address (index_of literals (data_words symbols (place_of s) operands))
+with_pool symbols literals (Some s) operation operands = Some s
+
+abbrev pub with_all_literals : List Symbol → List Literal → Option Standing → Operation → List Operand → Option Standing
+with_all_literals symbols literals before operation operands =
+    with_pool symbols literals (fold (with_literal symbols literals) before operands) operation operands
+
 abbrev pub then_after : List Symbol → Option Standing → Statement → Option Standing
 then_after symbols None statement = None
 then_after symbols (Some s) statement = after symbols s statement.label statement.operation statement.operands.items
@@ -242,7 +348,7 @@ reached (Some s) = Some (record s { reach = if nat_lt s.reach s.origin then s.or
 
 abbrev pub follow : List Symbol → List Literal → Option Standing → Statement → Option Standing
 follow symbols literals before statement =
-    reached (then_after symbols (fold (with_literal symbols literals) before statement.operands.items) statement)
+    reached (then_after symbols (with_all_literals symbols literals before statement.operation statement.operands.items) statement)
 
 -- The literals are behind the highest cell.
 abbrev pub with_literals : List Literal → Option Standing → Option Standing
@@ -255,7 +361,7 @@ with_literals literals (Some s) =
 
 -- Before the first statement the memory is empty.
 abbrev pub first : Standing
-first = record { location = 0; origin = 0; base = None; defined = 0; literals = 0; reach = 0; memory = replicate 0o10000 None; words = []; start = None }
+first = record { location = 0; origin = 0; base = None; defined = 0; literals = 0; reach = 0; memory = replicate 0o10000 None; words = []; used = 0; start = None }
 
 abbrev pub performed : List Symbol → List Literal → List Statement → Option Standing
 performed symbols literals statements = fold (follow symbols literals) (Some first) statements
@@ -273,6 +379,7 @@ standing s = record {
   reach = s.reach;
   memory = s.memory.items;
   words = s.words.items;
+  used = s.used;
   start = s.start;
 }
 

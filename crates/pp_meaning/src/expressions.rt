@@ -1,6 +1,7 @@
 //! Expressions and what they stand for.
 ghost use Rattle.std.specs.Prelude.{◌≡◌, IfSome, Some, pos, fold, slice_get};
-ghost use Rattle.pp_meaning.specs.Expressions.{are_signed, sum, atom_value, is_current, is_plus, named_value, plus, shifted, product, times, value, value_above, with_factor, with_term};
+ghost use Rattle.std.specs.List.{list_all};
+ghost use Rattle.pp_meaning.specs.Expressions.{are_signed, better, choose, chosen, decimal_above, is_above, is_atom_above, is_factor_above, is_term_above, sum, atom_value, is_current, is_plus, named_value, plus, shifted, product, times, value, value_above, with_choice, with_factor, with_term};
 
 use crate::numbers::{product_of, shifted_by, sum_of, value_of};
 use crate::texts::{Text, number_of_text};
@@ -92,6 +93,19 @@ pub struct Expression {
 pub enum Item {
     Sum(Expression),
     Characters(Text),
+    /// What is between two commas with nothing between them, or behind the size of a field of VFD.
+    Nothing,
+}
+
+/// How many bits a field of VFD has.
+#[derive(Drop)]
+pub enum Width {
+    /// Digits and their letter. Without a letter they are decimal.
+    Digits(Vec<u8>, Radix),
+    /// The name at an index among the symbols.
+    Named(usize),
+    /// `*P`: the bits that the word has left.
+    Rest,
 }
 
 /// The letter before the name of a symbol that may be one of another program.
@@ -110,6 +124,8 @@ pub enum Operand {
     Literal(usize, Item),
     /// The name of the symbol at an index.
     External(Linkage, usize),
+    /// A field of VFD.
+    Bits(Width, Item),
 }
 
 /// Words that are named by what they are, from an address on.
@@ -254,4 +270,114 @@ pub fn value_by_names_above(symbols: &[Symbol], place: Place, operand: &Operand)
         return None;
     }
     value_of_operand(&symbols[..place.defined], place, operand)
+}
+
+/// Returns the value of an operand by the names above, whose numbers are decimal.
+pub fn decimal_by_names_above(symbols: &[Symbol], place: Place, operand: &Operand) -> Option<i64>
+    ensures { IfSome result (λ number. decimal_above symbols.now place operand.now ≡ Some number) }
+{
+    let place = Place {
+        base: Some(Base::Decimal),
+        ..place
+    };
+    value_by_names_above(symbols, place, operand)
+}
+
+/// Returns whether an atom is no name that is defined below.
+fn is_known_atom(place: Place, atom: &Atom) -> bool
+    ensures { result ≡ is_atom_above place atom.now }
+{
+    match atom {
+        Atom::Name(index) => *index < place.defined,
+        _ => true,
+    }
+}
+
+/// Returns whether no factor is a name that is defined below.
+fn are_known_factors(place: Place, factors: &[Factor]) -> bool
+    ensures { result ≡ list_all (is_factor_above place) factors.now }
+{
+    factors
+        .iter()
+        .all(|factor| is_known_atom(place, &factor.atom))
+}
+
+/// Returns whether a term has no name that is defined below.
+fn is_known_term(place: Place, term: &Term) -> bool
+    ensures { result ≡ is_term_above place term.now }
+{
+    is_known_atom(place, &term.atom) && are_known_factors(place, &term.factors)
+}
+
+fn are_known_terms(place: Place, terms: &[Term]) -> bool
+    ensures { result ≡ list_all (is_term_above place) terms.now }
+{
+    terms.iter().all(|term| is_known_term(place, term))
+}
+
+/// Returns whether an operand is an expression, each name of which is defined above.
+pub fn is_known_above(place: Place, operand: &Operand) -> bool
+    ensures { result ≡ is_above place operand.now }
+{
+    match operand {
+        Operand::Single(Item::Sum(x)) => are_known_terms(place, &x.terms),
+        _ => false,
+    }
+}
+
+/// Returns the greater or the lesser one of two numbers.
+fn better_of(is_greatest: bool, a: i64, b: i64) -> i64
+    ensures { result ≡ better is_greatest a b }
+{
+    let is_other = if is_greatest { a < b } else { b < a };
+    if is_other { b } else { a }
+}
+
+/// Returns the greater or the lesser one of a number and the value of an operand.
+fn with_one_choice(
+    symbols: &[Symbol],
+    place: Place,
+    is_greatest: bool,
+    number: i64,
+    operand: &Operand,
+) -> Option<i64>
+    ensures { IfSome result (λ after. with_choice symbols.now place is_greatest (Some number) operand.now ≡ Some after) }
+{
+    let other = value_by_names_above(symbols, place, operand)?;
+    Some(better_of(is_greatest, number, other))
+}
+
+/// Returns the greatest or the least of a number and the values of operands.
+fn best_of(
+    symbols: &[Symbol],
+    place: Place,
+    is_greatest: bool,
+    first: i64,
+    others: &[Operand],
+) -> Option<i64>
+    ensures { IfSome result (λ number. fold (with_choice symbols.now place is_greatest) (Some first) others.now ≡ Some number) }
+{
+    let mut best: i64 = first;
+    for operand in others {
+        best = with_one_choice(symbols, place, is_greatest, best, operand)?;
+    }
+    Some(best)
+}
+
+/// Returns the greatest or the least value of operands.
+pub fn chosen_value(
+    symbols: &[Symbol],
+    place: Place,
+    is_greatest: bool,
+    operands: &[Operand],
+) -> Option<i64>
+    ensures { IfSome result (λ number. chosen symbols.now place is_greatest operands.now ≡ Some number) }
+{
+    match operands {
+        [] => None,
+        [first, others @ ..] => {
+            let first = value_by_names_above(symbols, place, first)?;
+            best_of(symbols, place, is_greatest, first, others)
+        }
+    }
 }

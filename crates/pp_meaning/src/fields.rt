@@ -119,6 +119,7 @@ pub fn field_of_item(bits: u32, symbols: &[Symbol], place: Place, item: &Item) -
     match item {
         Item::Sum(x) => field_of_sum(bits, symbols, place, x),
         Item::Characters(text) => field_of_text(bits, text),
+        Item::Nothing => None,
     }
 }
 
@@ -133,6 +134,7 @@ fn wide_field_in(bits: u32, symbols: &[Symbol], place: Place, operand: &Operand)
             let number = name_value(symbols, place, *index)?;
             field_of(greatest(bits)?, false, number)
         }
+        Operand::Bits(..) => None,
     }
 }
 

@@ -4,9 +4,9 @@ ghost use Rattle.pp_notation.specs.Instructions.{form};
 ghost use Rattle.pp_notation.specs.InstructionWords.{constant_words, distance, one_word, then_distance};
 ghost use Rattle.pp_meaning.specs.Expressions.{address_around, value};
 ghost use Rattle.pp_meaning.specs.Fields.{operand_field};
-ghost use Rattle.pp_meaning.specs.Meaning.{distance_at, form_words, two_words, words_in};
+ghost use Rattle.pp_meaning.specs.Meaning.{distance_at, form_words, minus_code, shortest, sized_words, small_code, two_words, wide_code, wide_words, words_in};
 
-use crate::expressions::{Operand, Place, Symbol, value_of_operand};
+use crate::expressions::{Operand, Place, Symbol, is_known_above, value_of_operand};
 use crate::fields::field_in;
 use pp_notation::{Form, form_of};
 
@@ -16,6 +16,9 @@ const D: u32 = 6;
 const M: u32 = 12;
 
 const DM: u32 = 18;
+
+/// The greatest number that is d of LDK and ADK.
+const MOST: i64 = 0o77;
 
 /// Returns an address, around 0000 and 7777.
 fn address_of(number: i64) -> Option<usize>
@@ -130,4 +133,48 @@ pub fn instruction(
         }
         _ => None,
     }
+}
+
+/// Returns the words of LDC or ADC.
+fn wide(symbols: &[Symbol], place: Place, is_sum: bool, operand: &Operand) -> Option<Words>
+    ensures { IfSome result (λ words. wide_words symbols.now place is_sum operand.now ≡ Some (words_in words)) }
+{
+    let code = if is_sum { 0o21 } else { 0o20 };
+    constant(code, field_in(DM, symbols, place, operand))
+}
+
+/// Returns the words of LDK or ADK of a number that is known.
+fn sized(
+    symbols: &[Symbol],
+    place: Place,
+    is_sum: bool,
+    operand: &Operand,
+    number: i64,
+) -> Option<Words>
+    ensures { IfSome result (λ words. sized_words symbols.now place is_sum operand.now (Some number) ≡ Some (words_in words)) }
+{
+    if number > MOST || number < -MOST {
+        return wide(symbols, place, is_sum, operand);
+    }
+    if number < 0 {
+        return one(if is_sum { 0o17 } else { 0o15 }, Some((-number) as u32));
+    }
+    let d = field_in(D, symbols, place, operand);
+    one(if is_sum { 0o16 } else { 0o14 }, d)
+}
+
+/// Returns the words of LDK or ADK.
+pub fn short_instruction(
+    symbols: &[Symbol],
+    place: Place,
+    is_sum: bool,
+    operand: &Operand,
+) -> Option<Words>
+    ensures { IfSome result (λ words. shortest symbols.now place is_sum operand.now ≡ Some (words_in words)) }
+{
+    if !is_known_above(place, operand) {
+        return wide(symbols, place, is_sum, operand);
+    }
+    let number = value_of_operand(symbols, place, operand)?;
+    sized(symbols, place, is_sum, operand, number)
 }

@@ -1,6 +1,7 @@
 //! What the statements of a source mean: their words.
 #![tactic(auto)]
 
+mod bits;
 mod encoder;
 mod expressions;
 mod fields;
@@ -16,7 +17,7 @@ mod texts;
 pub use encoder::encode;
 pub use expressions::{
     Atom, Base, Expression, Factor, Item, Linkage, Literal, Operand, Place, Radix, Sign, Symbol,
-    Term,
+    Term, Width,
 };
 pub use program::program_of;
 pub use statements::{Image, Label, Operation, Refusal, State, Statement};

@@ -2,13 +2,13 @@
 ghost use Rattle.std.specs.Prelude.{◌≡◌, ◌∷◌, ◌++◌, [], codes, slice_get, IfOk, IfSome, IsTrue, OnOk, ◌&&◌, ◌==◌, ◌||◌, not, length, map, take, ◌+◌, true};
 ghost use Rattle.std.specs.List.{AllByRecursion, flat_map, list_all};
 ghost use Rattle.pp_meaning.specs.declared.statements.Operation.TheVariants.{Instruction};
-ghost use Rattle.pp_meaning.specs.Lines.{IsWritten, atom_text, base_name, begins_blank, external_letter, factor_text, follows_text, is_blank, is_comment, is_cut, is_gap, is_margin, is_wide, item_text, kind_letter, label_text, letter, line_text, operand_text, operands_text, operation_name, sign_text, sum_text, symbol_name, term_text, variable};
+ghost use Rattle.pp_meaning.specs.Lines.{IsWritten, atom_text, base_name, begins_blank, external_letter, factor_text, follows_text, is_blank, is_comment, is_cut, is_gap, is_margin, is_wide, item_text, kind_letter, label_text, letter, line_text, operand_text, operands_text, operation_name, sign_text, sum_text, symbol_name, term_text, variable, width_text};
 ghost use Rattle.pp_notation.specs.DisplayCode.{symbol};
 ghost use Rattle.pp_meaning.specs.Numbers.{decimal_number};
 ghost use Rattle.pp_meaning.specs.Texts.{has_all, text_with};
 
 use crate::expressions::{
-    Atom, Base, Expression, Factor, Item, Linkage, Operand, Radix, Sign, Symbol, Term,
+    Atom, Base, Expression, Factor, Item, Linkage, Operand, Radix, Sign, Symbol, Term, Width,
 };
 use crate::numbers::decimal_value;
 use crate::statements::{Label, Operation, Refusal, Statement};
@@ -164,6 +164,21 @@ fn put_item(
     match item {
         Item::Sum(x) => put_sum(alloc, out, symbols, x),
         Item::Characters(text) => put_text(out, letter_of_text(text.kind), text),
+        Item::Nothing => Ok(()),
+    }
+}
+
+/// Writes how many bits a field of VFD has.
+fn put_width(out: &mut Vec<u8>, symbols: &[Symbol], width: &Width) -> Result<(), AllocError>
+    ensures { OnOk result (out.new.items ≡ out.old.items ++ width_text symbols.now width.now) }
+{
+    match width {
+        Width::Digits(digits, radix) => {
+            out.extend_from_slice(digits)?;
+            out.extend_from_slice(letter_of(*radix))
+        }
+        Width::Named(index) => out.extend_from_slice(name_at(symbols, *index)),
+        Width::Rest => out.extend_from_slice(b"*P"),
     }
 }
 
@@ -197,6 +212,11 @@ fn put_operand(
             out.push(b'=')?;
             out.extend_from_slice(letter_of_name(*linkage))?;
             out.extend_from_slice(name_at(symbols, *index))
+        }
+        Operand::Bits(width, item) => {
+            put_width(out, symbols, width)?;
+            out.push(b'/')?;
+            put_item(alloc, out, symbols, item)
         }
     }
 }
@@ -306,9 +326,16 @@ fn name_of_operation(operation: Operation) -> Option<&'static [u8]>
         Operation::Equate(true) => Some(b"="),
         Operation::Equate(false) => Some(b"EQU"),
         Operation::Set => Some(b"SET"),
+        Operation::Choose(true) => Some(b"MAX"),
+        Operation::Choose(false) => Some(b"MIN"),
         Operation::SetBase(..) => Some(b"BASE"),
         Operation::Deck => Some(b"PERIPH"),
         Operation::Display => Some(b"DIS"),
+        Operation::Bits => Some(b"VFD"),
+        Operation::Position => Some(b"POS"),
+        Operation::Shortest(true) => Some(b"ADK"),
+        Operation::Shortest(false) => Some(b"LDK"),
+        Operation::Pool(_) => Some(b"LIT"),
         Operation::End => Some(b"END"),
     }
 }

@@ -1,17 +1,20 @@
 //! Statements, and what they do.
-ghost use Rattle.std.specs.Prelude.{◌≡◌, ℕ, List, ◌∷◌, ◌++◌, ◌+◌, ◌≤◌, IfOk, IfSome, OnOk, Some, None, [], pos, fold, length, replicate, slice_get};
-ghost use Rattle.pp_meaning.specs.Expressions.{address, value_above};
+ghost use Rattle.std.specs.Prelude.{◌≡◌, ℕ, List, ◌∷◌, ◌++◌, ◌+◌, ◌-◌, ◌≤◌, ◌==◌, IfOk, IfSome, OnOk, Some, None, [], pos, fold, if◌then◌else◌, length, not, replicate, slice_get, true};
+ghost use Rattle.pp_meaning.specs.Bits.{with_bits};
+ghost use Rattle.pp_meaning.specs.Expressions.{address, chosen, value_above};
 ghost use Rattle.pp_meaning.specs.Fields.{item_field};
 ghost use Rattle.pp_meaning.specs.Literals.{index_of};
-ghost use Rattle.pp_meaning.specs.Meaning.{IsAssembled, after, assembled, at, cells_on, constants, data_words, datum, define, deck_base, ended, follow, is_number, is_symbol, labelled, moved, naming, performed, place_of, reached, standing, store, then_words, with_constant, with_datum, with_literal, with_literals, with_words, words_in, words_of, zeros};
+ghost use Rattle.pp_meaning.specs.Meaning.{IsAssembled, after, assembled, at, bits_before, cells_on, constant, constants, data_words, datum, define, deck_base, ended, follow, goes_on, is_number, is_something, is_symbol, labelled, moved, naming, opened, performed, put_bits, place_of, reached, standing, store, then_bits, then_position, then_words, with_all_literals, with_constant, with_datum, with_literal, with_literals, with_pool, without_last, with_words, words_in, words_of, zeros};
 ghost use Rattle.pp_meaning.specs.declared.statements.Label.TheVariants.{Empty};
-ghost use Rattle.pp_meaning.specs.declared.statements.Operation.TheVariants.{Deck, End, Location, Origin, Space};
+ghost use Rattle.pp_meaning.specs.declared.statements.Operation.TheVariants.{Bits, Deck, End, Location, Origin, Pool, Position, Space};
 
+use crate::bits::{bits_of_fields, bits_used_of, left_after, words_with_bits, zeros_up_to};
 use crate::expressions::{
-    Atom, Base, Item, Literal, Operand, Place, Symbol, Term, value_by_names_above,
+    Atom, Base, Item, Literal, Operand, Place, Symbol, Term, chosen_value, decimal_by_names_above,
+    value_by_names_above,
 };
 use crate::fields::{field_in, field_of_item};
-use crate::instruction::{Words, instruction};
+use crate::instruction::{Words, instruction, short_instruction};
 use crate::literals::{find, follow_one_another, is_literal_at, words_in};
 use crate::texts::{words_of_data, words_of_display};
 use std::alloc::{AllocError, AllocFailed, Global};
@@ -78,12 +81,22 @@ pub enum Operation {
     Equate(bool),
     /// SET.
     Set,
+    /// MAX, or MIN.
+    Choose(bool),
     /// BASE with the first letter of a base's name, and so many more.
     SetBase(Base, u8),
     /// PERIPH.
     Deck,
     /// DIS.
     Display,
+    /// VFD.
+    Bits,
+    /// POS.
+    Position,
+    /// ADK, or LDK.
+    Shortest(bool),
+    /// LIT, with the address of its literal.
+    Pool(usize),
     /// END.
     End,
 }
@@ -117,6 +130,8 @@ pub struct State {
     pub reach: usize,
     pub memory: Vec<Option<u32>>,
     pub words: Vec<u32>,
+    /// How many bits of the last word are used, if VFD has not filled it, or 0.
+    pub used: usize,
     pub start: Option<u32>,
 }
 
@@ -126,6 +141,26 @@ pub struct Image {
     pub memory: Vec<Option<u32>>,
     pub words: Vec<u32>,
     pub start: Option<u32>,
+}
+
+/// Returns a word of CON.
+fn word_of_constant(symbols: &[Symbol], place: Place, operand: &Operand) -> Option<u32>
+    ensures { IfSome result (λ word. constant symbols.now place operand.now ≡ Some word) }
+{
+    match operand {
+        Operand::Single(Item::Nothing) => Some(0),
+        _ => field_in(WORD, symbols, place, operand),
+    }
+}
+
+/// Returns whether there is something behind the last comma.
+fn ends_in_something(operands: &[Operand]) -> bool
+    ensures { result ≡ is_something (slice_get operands.now (length operands.now - 1)) }
+{
+    match operands.get(operands.len().saturating_sub(1)) {
+        None | Some(Operand::Single(Item::Nothing)) => false,
+        Some(_) => true,
+    }
 }
 
 /// Returns the words of CON, one for each operand.
@@ -139,7 +174,7 @@ fn words_of_constants(
 {
     let mut words = Vec::new(alloc);
     for operand in operands {
-        match field_in(WORD, symbols, place, operand) {
+        match word_of_constant(symbols, place, operand) {
             Some(word) => words.push(word)?,
             None => return Ok(None),
         }
@@ -147,7 +182,7 @@ fn words_of_constants(
     Ok(Some(words))
 }
 
-/// Returns the words of CON, which has an operand.
+/// Returns the words of CON, which ends in an operand.
 fn some_constants(
     alloc: Global,
     symbols: &[Symbol],
@@ -156,7 +191,7 @@ fn some_constants(
 ) -> Result<Option<Vec<u32>>, AllocError>
     ensures { IfOk result (λ made. IfSome made (λ words. constants symbols.now place operands.now ≡ Some words.items)) }
 {
-    if operands.is_empty() {
+    if !ends_in_something(operands) {
         return Ok(None);
     }
     words_of_constants(alloc, symbols, place, operands)
@@ -199,6 +234,7 @@ fn words_of_datum(
 {
     match item {
         Item::Characters(text) => words_of_data(alloc, text),
+        Item::Nothing => Ok(None),
         Item::Sum(x) => {
             if !are_number(&x.terms) {
                 return Ok(None);
@@ -321,6 +357,10 @@ fn words_at(
         (Operation::Display, [Operand::Single(Item::Characters(text))]) => words_of_display(
             alloc, text,
         ),
+        (Operation::Shortest(is_sum), [x]) => match short_instruction(symbols, place, is_sum, x) {
+            Some(words) => Ok(Some(listed(alloc, words)?)),
+            None => Ok(None),
+        },
         _ => Ok(None),
     }
 }
@@ -421,7 +461,174 @@ impl State {
         self.words.extend_from_slice(words)?;
         self.origin = put(&mut self.memory, self.origin, words);
         self.location = location;
+        if !words.is_empty() {
+            self.used = 0;
+        }
         Ok(Some(()))
+    }
+
+    /// Returns whether a VFD goes on in the last word.
+    fn goes_on(&self, label: Label) -> bool
+        ensures { result ≡ goes_on (standing self.now) label }
+    {
+        match label {
+            Label::Empty | Label::Minus => self.used != 0,
+            _ => false,
+        }
+    }
+
+    /// Returns the bits before those of a VFD, in the same word.
+    fn bits_before(&self, alloc: Global, label: Label) -> Result<Option<Vec<u8>>, AllocError>
+        ensures { IfOk result (λ made. IfSome made (λ bits. bits.items ≡ bits_before (standing self.now) label)) }
+    {
+        if !self.goes_on(label) {
+            return Ok(Some(Vec::new(alloc)));
+        }
+        match self.words.get(self.words.len().saturating_sub(1)) {
+            Some(word) => bits_used_of(alloc, *word, self.used),
+            None => Ok(None),
+        }
+    }
+
+    /// Takes the last word away, which is to be written once more.
+    fn take_last(&mut self) -> Option<()>
+        ensures { IfSome result (λ done. without_last (standing self.old) ≡ standing self.new) }
+    {
+        let origin = self.origin.checked_sub(1)?;
+        let location = self.location.checked_sub(1)?;
+        let count = self.words.len().checked_sub(1)?;
+        self.words.truncate(count);
+        self.origin = origin;
+        self.location = location;
+        Some(())
+    }
+
+    /// Goes back to the last word, if a VFD goes on in it.
+    fn go_back(&mut self, label: Label) -> Option<()>
+        ensures { IfSome result (λ done. (if goes_on (standing self.old) label then without_last (standing self.old) else standing self.old) ≡ standing self.new) }
+    {
+        if self.goes_on(label) {
+            return self.take_last();
+        }
+        Some(())
+    }
+
+    /// Keeps how many bits of the last word are used.
+    fn open_after(&mut self, count: usize)
+        ensures { opened count (Some (standing self.old)) ≡ Some (standing self.new) }
+    {
+        if count != 0 {
+            self.used = count % WORD as usize;
+        }
+    }
+
+    /// Puts bits into words from the origin on, or from the word that is not full.
+    fn put_bits(
+        &mut self,
+        alloc: Global,
+        label: Label,
+        bits: &[u8],
+    ) -> Result<Option<()>, AllocError>
+        ensures { IfOk result (λ made. IfSome made (λ done. put_bits (standing self.old) label (Some bits.now) ≡ Some (standing self.new))) }
+    {
+        let Some(words) = words_with_bits(alloc, bits)? else {
+            return Ok(None);
+        };
+        if self.go_back(label).is_none() || self.put_words(&words)?.is_none() {
+            return Ok(None);
+        }
+        self.open_after(bits.len());
+        Ok(Some(()))
+    }
+
+    /// Returns the bits of the fields of a VFD, and those before them in the same word.
+    fn bits_with(
+        &self,
+        alloc: Global,
+        symbols: &[Symbol],
+        label: Label,
+        operands: &[Operand],
+    ) -> Result<Option<Vec<u8>>, AllocError>
+        ensures { IfOk result (λ made. IfSome made (λ bits. fold (with_bits symbols.now (place_of (standing self.now))) (Some (bits_before (standing self.now) label)) operands.now ≡ Some bits.items)) }
+    {
+        match self.bits_before(alloc, label)? {
+            Some(before) => bits_of_fields(alloc, symbols, self.place(), &before, operands),
+            None => Ok(None),
+        }
+    }
+
+    /// VFD, behind its label.
+    fn put_fields(
+        &mut self,
+        alloc: Global,
+        symbols: &[Symbol],
+        label: Label,
+        operands: &[Operand],
+    ) -> Result<Option<()>, AllocError>
+        ensures { IfOk result (λ made. IfSome made (λ done. then_bits symbols.now (Some (standing self.old)) label operands.now ≡ Some (standing self.new))) }
+    {
+        if operands.is_empty() {
+            return Ok(None);
+        }
+        match self.bits_with(alloc, symbols, label, operands)? {
+            Some(bits) => self.put_bits(alloc, label, &bits),
+            None => Ok(None),
+        }
+    }
+
+    /// VFD.
+    fn fields(
+        &mut self,
+        alloc: Global,
+        symbols: &[Symbol],
+        label: Label,
+        operands: &[Operand],
+    ) -> Result<Option<()>, AllocError>
+        ensures { IfOk result (λ made. IfSome made (λ done. after symbols.now (standing self.old) label Bits operands.now ≡ Some (standing self.new))) }
+    {
+        if self.label(symbols, label).is_none() {
+            return Ok(None);
+        }
+        self.put_fields(alloc, symbols, label, operands)
+    }
+
+    /// POS, behind its label.
+    fn put_zeros(
+        &mut self,
+        alloc: Global,
+        symbols: &[Symbol],
+        label: Label,
+        operand: &Operand,
+    ) -> Result<Option<()>, AllocError>
+        ensures { IfOk result (λ made. IfSome made (λ done. then_position symbols.now (Some (standing self.old)) label operand.now ≡ Some (standing self.new))) }
+    {
+        let Some(mut bits) = self.bits_before(alloc, label)? else {
+            return Ok(None);
+        };
+        let Some(number) = decimal_by_names_above(symbols, self.place(), operand) else {
+            return Ok(None);
+        };
+        let Some(count) = zeros_up_to(left_after(bits.len()), number) else {
+            return Ok(None);
+        };
+        bits.extend_from_slice(&vec![in alloc; 0u8; count]?)?;
+        self.put_bits(alloc, label, &bits)
+    }
+
+    /// POS.
+    fn position(
+        &mut self,
+        alloc: Global,
+        symbols: &[Symbol],
+        label: Label,
+        operand: &Operand,
+    ) -> Result<Option<()>, AllocError>
+        ensures { IfOk result (λ made. IfSome made (λ done. after symbols.now (standing self.old) label Position (operand.now ∷ []) ≡ Some (standing self.new))) }
+    {
+        if self.label(symbols, label).is_none() {
+            return Ok(None);
+        }
+        self.put_zeros(alloc, symbols, label, operand)
     }
 
     /// Moves both counters by so many cells.
@@ -432,6 +639,7 @@ impl State {
         let location = cell_on(self.location, number)?;
         self.origin = origin;
         self.location = location;
+        self.used = 0;
         Some(())
     }
 
@@ -451,6 +659,7 @@ impl State {
         let cell = address_above(symbols, self.place(), operand)?;
         self.origin = cell;
         self.location = cell;
+        self.used = 0;
         self.label(symbols, label)
     }
 
@@ -459,6 +668,7 @@ impl State {
         ensures { IfSome result (λ done. after symbols.now (standing self.old) label Location (operand.now ∷ []) ≡ Some (standing self.new)) }
     {
         self.location = address_above(symbols, self.place(), operand)?;
+        self.used = 0;
         self.label(symbols, label)
     }
 
@@ -474,6 +684,40 @@ impl State {
     {
         let number = value_by_names_above(symbols, self.place(), operand)?;
         self.define(symbols, index, is_set, number)
+    }
+
+    /// MAX and MIN.
+    fn choose(
+        &mut self,
+        symbols: &[Symbol],
+        index: usize,
+        is_greatest: bool,
+        operands: &[Operand],
+    ) -> Option<()>
+        ensures { IfSome result (λ done. define symbols.now true (standing self.old) index (chosen symbols.now (place_of (standing self.old)) is_greatest operands.now) ≡ Some (standing self.new)) }
+    {
+        let number = chosen_value(symbols, self.place(), is_greatest, operands)?;
+        self.define(symbols, index, true, number)
+    }
+
+    /// Gives the label of LIT the address of its literal.
+    fn pool(
+        &mut self,
+        symbols: &[Symbol],
+        label: Label,
+        address: usize,
+        operands: &[Operand],
+    ) -> Option<()>
+        ensures { IfSome result (λ done. after symbols.now (standing self.old) label (Pool address) operands.now ≡ Some (standing self.new)) }
+    {
+        match label {
+            Label::Empty | Label::Minus => Some(()),
+            Label::Plus => None,
+            Label::Named(index) => {
+                let number = i64::try_from(address).ok()?;
+                self.define(symbols, index, false, number)
+            }
+        }
     }
 
     /// PERIPH.
@@ -533,6 +777,15 @@ impl State {
                 symbols, index, false, x,
             )),
             (Label::Named(index), Operation::Set, [x]) => Ok(self.equate(symbols, index, true, x)),
+            (Label::Named(index), Operation::Choose(is_greatest), _) => Ok(self.choose(
+                symbols,
+                index,
+                is_greatest,
+                operands,
+            )),
+            (_, Operation::Bits, _) => self.fields(alloc, symbols, label, operands),
+            (_, Operation::Position, [x]) => self.position(alloc, symbols, label, x),
+            (_, Operation::Pool(address), _) => Ok(self.pool(symbols, label, address, operands)),
             (Label::Empty, Operation::SetBase(base, _), []) => {
                 self.base = Some(base);
                 Ok(Some(()))
@@ -550,7 +803,8 @@ impl State {
                 | Operation::Constants
                 | Operation::Data
                 | Operation::Zeros
-                | Operation::Display,
+                | Operation::Display
+                | Operation::Shortest(_),
                 _,
             ) => { self.fill(alloc, symbols, label, operation, operands) }
             _ => Ok(None),
@@ -617,6 +871,60 @@ impl State {
         Ok(Some(()))
     }
 
+    /// Notes that the literal at an address is named, whose words are those of DATA.
+    fn name_data(
+        &mut self,
+        alloc: Global,
+        symbols: &[Symbol],
+        literals: &[Literal],
+        address: usize,
+        operands: &[Operand],
+    ) -> Result<Option<()>, AllocError>
+        ensures { IfOk result (λ made. IfSome made (λ done. naming literals.now (standing self.old) address (index_of literals.now (data_words symbols.now (place_of (standing self.old)) operands.now)) ≡ Some (standing self.new))) }
+    {
+        match some_data(alloc, symbols, self.place(), operands)? {
+            Some(words) => Ok(self.name_literal(literals, address, &words)),
+            None => Ok(None),
+        }
+    }
+
+    /// Notes the literal of LIT.
+    fn note_pool(
+        &mut self,
+        alloc: Global,
+        symbols: &[Symbol],
+        literals: &[Literal],
+        operation: Operation,
+        operands: &[Operand],
+    ) -> Result<Option<()>, AllocError>
+        ensures { IfOk result (λ made. IfSome made (λ done. with_pool symbols.now literals.now (Some (standing self.old)) operation operands.now ≡ Some (standing self.new))) }
+    {
+        match operation {
+            Operation::Pool(address) => self.name_data(alloc, symbols, literals, address, operands),
+            _ => Ok(Some(())),
+        }
+    }
+
+    /// Notes the literals of a statement.
+    fn note_literals(
+        &mut self,
+        alloc: Global,
+        symbols: &[Symbol],
+        literals: &[Literal],
+        operation: Operation,
+        operands: &[Operand],
+    ) -> Result<Option<()>, AllocError>
+        ensures { IfOk result (λ made. IfSome made (λ done. with_all_literals symbols.now literals.now (Some (standing self.old)) operation operands.now ≡ Some (standing self.new))) }
+    {
+        if self
+            .note_operands(alloc, symbols, literals, operands)?
+            .is_none()
+        {
+            return Ok(None);
+        }
+        self.note_pool(alloc, symbols, literals, operation, operands)
+    }
+
     /// Keeps the cell after the highest one.
     fn reach_on(&mut self)
         ensures { reached (Some (standing self.old)) ≡ Some (standing self.new) }
@@ -637,17 +945,17 @@ impl State {
         ensures { IfOk result (λ made. IfSome made (λ done. follow symbols.now literals.now (Some (standing self.old)) statement.now ≡ Some (standing self.new))) }
     {
         let operands = &statement.operands;
-        if self
-            .note_operands(alloc, symbols, literals, operands)?
-            .is_none()
-        {
-            return Ok(None);
-        }
         let Statement {
             label,
             operation,
             ..
         } = statement;
+        if self
+            .note_literals(alloc, symbols, literals, *operation, operands)?
+            .is_none()
+        {
+            return Ok(None);
+        }
         if self
             .perform(alloc, symbols, *label, *operation, operands)?
             .is_none()
@@ -708,6 +1016,7 @@ fn perform_all(
         reach: 0,
         memory,
         words: Vec::new(alloc),
+        used: 0,
         start: None,
     };
     let mut index: usize = 0;
