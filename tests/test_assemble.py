@@ -13,6 +13,7 @@ from .support import TOP, Case, add_tests, blocks, names_of_codes, needs_library
 
 from pp6600.language.assembling import deck, panel
 from pp6600.language.decks import texts_of
+from pp6600.language.given import Given
 from pp6600.language.listing import ListingSymbols
 from pp6600.language.program import LOCAL, assembled
 
@@ -134,7 +135,7 @@ class Decks(Case):
     def test_read_back(self):
         """A listing with blocks and fields of bits is checked, and has the same words."""
         lines = read("tests", "programs", "decks", "scope-style.pp").splitlines()
-        texts = texts_of(DECKS, lines)
+        texts = texts_of(Given(DECKS), lines)
         found, symbols = assembled(lines, texts), ListingSymbols(listing(lines, texts))
         self.assertEqual({address: cell.word for address, cell in found.cells.items()},
                          {address: word for address, (word, _) in symbols.listing.cells.items()})

@@ -280,7 +280,9 @@ enum {
 /* The calls below need no session. *count: the bytes of the text that they write; what is in `into` behind them is as it was. ROOM: `into` has
  * room for fewer than *count bytes, and is as it was. */
 
-/* A common deck, which a source reads by XTEXT or *CALL: its name, in letters of either case, and its lines. */
+/* A common deck, which a source reads by XTEXT or *CALL: its name, in letters of either case, and its lines. If its name begins with the word
+ * SYSTEM and a blank, as "SYSTEM PPTEXT", it is a system text: it is assembled before the source, which has its symbols, macros, micros and
+ * names of OPSYN, and it makes no word and no row. */
 typedef struct {
     const uint8_t *name;
     size_t name_bytes;
@@ -294,7 +296,8 @@ uint32_t pp6600_assemble(const uint8_t *source, size_t source_bytes, uint32_t fo
     size_t *messages);
 
 /* The same of a source with common decks; of two with one name the first counts. A message about a line of a deck is about the line of the
- * source that reads it. */
+ * source that reads it. Of two system texts with a symbol of one name the last counts. A message about a line of a system text is at line 1,
+ * column 1 of the source, and its text has the line's number and the name of the system text. */
 uint32_t pp6600_assemble_with(const uint8_t *source, size_t source_bytes, const pp6600_text *texts, size_t text_count, uint32_t form,
     uint8_t *into, size_t room, size_t *count, size_t *messages);
 

@@ -155,7 +155,7 @@ export declare class Session {
 export declare class Assembler {
   constructor(module: Module);
   /** Returns the lines that a source makes: by "assemble" those of a FORM, by "assemble_with" the same with common decks, each a name and its
-   *  lines, by "load_lines" those that load it into a processor, 0 to 9. */
+   *  lines, and with system texts, whose names begin with "SYSTEM ", by "load_lines" those that load it into a processor, 0 to 9. */
   written(call: "assemble" | "assemble_with" | "load_lines", source: string, number: number, decks?: [string, string][]):
     { lines: string[]; faults: number };
 }

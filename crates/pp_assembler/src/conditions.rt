@@ -111,7 +111,12 @@ impl Pass {
                 .is_some_and(|seen| seen.is_set),
             b"MIC" => self.vocabulary.micro_of(name).is_some(),
             b"ABS" => true,
-            b"REL" | b"EXT" | b"COM" | b"LCM" | b"REG" | b"SST" => false,
+            b"SST" => self
+                .scope
+                .symbols
+                .seen(name)
+                .is_some_and(|seen| seen.is_system),
+            b"REL" | b"EXT" | b"COM" | b"LCM" | b"REG" => false,
             _ => return Err(Stop::At(attribute.first, Fault::new(Wording::AttributeWanted))),
         };
         Ok(has != (word.first() == Some(&b'-')))

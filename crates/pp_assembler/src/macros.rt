@@ -3,8 +3,8 @@ use crate::blocks::name_of_block;
 use crate::pass::Pass;
 use pp_source::{
     Argument, Call, Fault, Field, Here, Line, Lines, Macro, Meaning, Opening, Operation, Outcome,
-    Span, Statement, Stop, Wording, cut, end_of_name, length_without_blanks, operation_of,
-    split_nested,
+    Span, Statement, Stop, Wording, cut, end_of_name, is_enclosed, length_without_blanks,
+    operation_of, split_nested,
 };
 use pp_statements::too_many_statements;
 use std::alloc::{AllocError, Global};
@@ -31,9 +31,11 @@ struct Operand {
 
 impl Operand {
     fn new(line: &[u8], column: usize, end: usize) -> Self {
-        let text = match Field::new(column, end).of(line) {
-            [b'(', .., b')'] => Field::new(column.saturating_add(1), end.saturating_sub(1)),
-            _ => Field::new(column, end),
+        let whole = Field::new(column, end);
+        let text = if is_enclosed(whole.of(line)) {
+            Field::new(column.saturating_add(1), end.saturating_sub(1))
+        } else {
+            whole
         };
         Operand { column, text }
     }

@@ -303,6 +303,7 @@ fn statement_of(
         location,
         operation: name,
         operand,
+        ..
     } = fields;
     let Some((operands, field)) = variable_of(alloc, names, line, operation, operand, words)? else {
         return Ok(None);

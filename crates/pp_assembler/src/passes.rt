@@ -64,7 +64,9 @@ pub fn assemble_with(alloc: Global, source: &[u8], texts: &[Text]) -> Result<Ass
     let mut pass = last_pass(alloc, &mut lines, &decks)?;
     let readings = readings_of(alloc, &lines, &decks, &mut pass)?;
     let found = encode_performed(alloc, &lines, &pass)?;
-    if let Found::Refused(message) = &found {
+    if let Found::Refused(message) = &found
+        && !has_system(&decks)
+    {
         pass.scope.messages.push(*message)?;
     }
     assembly_of(
@@ -78,6 +80,11 @@ pub fn assemble_with(alloc: Global, source: &[u8], texts: &[Text]) -> Result<Ass
         found,
         &spans,
     )
+}
+
+/// Returns whether there is a system text.
+fn has_system(decks: &Decks) -> bool {
+    decks.all.iter().any(|deck| deck.is_system())
 }
 
 /// What is known of the lines of a source.

@@ -45,13 +45,14 @@ fn deck_with(decks: &Decks, name: &[u8]) -> Option<Span> {
     Some(decks.all.get(decks.find(name)?)?.lines)
 }
 
-/// Adds the lines of a deck, which have the number and the call of the line that reads it.
-fn copy_deck(lines: &mut Lines, deck: Span, number: u32, call: Call) -> Outcome {
+/// Adds the lines of a deck, which have the number, the call and the system text of the line that reads it.
+fn copy_deck(lines: &mut Lines, deck: Span, reader: Line, call: Call) -> Outcome {
     for index in deck.first..deck.end {
         let line = Here::new(lines, index).line;
         lines.all.push(Line {
-            number,
+            number: reader.number,
             call: Some(call),
+            system: reader.system,
             ..line
         })?;
     }
@@ -117,7 +118,7 @@ impl Pass {
             name: here.span_of(name),
             is_deck: true,
         };
-        let number = here.line.number;
+        let reader = here.line;
         let first = lines.all.len();
         let size = deck.end.saturating_sub(deck.first);
         self.readings.push(Reading {
@@ -126,7 +127,7 @@ impl Pass {
             first,
         })?;
         self.push_run(Span::new(first, first.saturating_add(size)), 1, 0)?;
-        copy_deck(lines, deck, number, call)
+        copy_deck(lines, deck, reader, call)
     }
 
     /// Copies the lines of RMT with a name, which are then no longer kept.

@@ -2,8 +2,8 @@
 use crate::pass::Pass;
 use crate::remote::name_after_call;
 use pp_source::{
-    Decks, Field, Here, Join, Line, Lines, Message, Operation, Origin, Outcome, Span, Statement,
-    Stop, Wording, operation_of, statement_of,
+    Decks, FIRST_OF_COMMENTS, Field, Here, Join, Line, Lines, Message, Operation, Origin, Outcome,
+    Span, Statement, Stop, Wording, operation_of, statement_of,
 };
 use pp_statements::{MOST_STATEMENTS, is_known, too_many_statements};
 
@@ -55,18 +55,41 @@ impl Pass {
         let source = lines.source;
         self.run_all(lines, decks, Span::new(0, source.first))?;
         self.scope.rows.clear();
-        self.run_all(lines, decks, source)?;
-        if !self.scope.has_ended {
-            match self.all_remote(lines) {
-                Ok(rest) => self.run_all(lines, decks, rest)?,
-                Err(stop) => self.stopped(lines, stop)?,
+        for index in 0..decks.all.len() {
+            if let Some(text) = decks.system_text(index) {
+                self.run_text(lines, decks, text)?;
+                self.end_system()?;
             }
         }
+        self.scope.symbols.begin_source();
+        self.run_text(lines, decks, source)?;
         if self.scope.has_ended {
             return Ok(());
         }
         let ended = self.scope.end_unit(&Here::new(lines, self.at));
         ended.or_else(|stop| self.stopped(lines, stop))
+    }
+
+    /// Performs the lines of a text, and at its end those of RMT.
+    fn run_text(&mut self, lines: &mut Lines, decks: &Decks, text: Span) -> Result<(), Ending> {
+        self.run_all(lines, decks, text)?;
+        if self.scope.has_ended {
+            return Ok(());
+        }
+        match self.all_remote(lines) {
+            Ok(rest) => self.run_all(lines, decks, rest),
+            Err(stop) => self.stopped(lines, stop),
+        }
+    }
+
+    /// Ends a system text, of which the names, macros and micros stay.
+    fn end_system(&mut self) -> Result<(), Ending> {
+        self.vocabulary.remote.clear();
+        self.vocabulary.comments = FIRST_OF_COMMENTS;
+        match self.scope.end_system() {
+            Ok(()) => Ok(()),
+            Err(_) => Err(Ending::NoMemory),
+        }
     }
 
     /// Performs lines, and those that they make.

@@ -44,24 +44,8 @@ pub fn message_text(alloc: Global, known: Known, message: &Message) -> Result<Ve
         out: Vec::new(alloc),
     };
     writer.fault(message.fault)?;
-    if let Some(
-        Line {
-            call: Some(call),
-            text,
-            ..
-        },
-    ) = line
-    {
-        writer.text(if call.is_deck {
-            b" (in the common deck "
-        } else {
-            b" (in the macro "
-        })?;
-        writer.text(call.name.of(&known.lines.capitals))?;
-        writer.text(b": ")?;
-        let text = stripped(text.of(&known.lines.text));
-        writer.text(text.get(..MOST_SHOWN).unwrap_or(text))?;
-        writer.text(b")")?;
+    if let Some(line) = line {
+        writer.origin(line)?;
     }
     let Writer { out, .. } = writer;
     Ok(out)
@@ -91,6 +75,37 @@ impl Writer<'_> {
             rest = after;
         }
         self.text(rest.as_bytes())
+    }
+
+    /// Writes from where a line is that is not in the source, and its text.
+    fn origin(&mut self, line: Line) -> Result<(), AllocError> {
+        let Line {
+            number,
+            text,
+            call,
+            system,
+            ..
+        } = line;
+        let lines = self.known.lines;
+        if !system.is_empty() {
+            self.text(b" (in line ")?;
+            put_decimal(self.alloc, &mut self.out, number)?;
+            self.text(b" of the system text ")?;
+            self.text(system.of(&lines.text))?;
+        } else if let Some(call) = call {
+            self.text(if call.is_deck {
+                b" (in the common deck "
+            } else {
+                b" (in the macro "
+            })?;
+            self.text(call.name.of(&lines.capitals))?;
+        } else {
+            return Ok(());
+        }
+        self.text(b": ")?;
+        let text = stripped(text.of(&lines.text));
+        self.text(text.get(..MOST_SHOWN).unwrap_or(text))?;
+        self.text(b")")
     }
 
     fn argument(&mut self, argument: Argument) -> Result<(), AllocError> {

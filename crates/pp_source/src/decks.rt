@@ -1,4 +1,4 @@
-//! Common decks: texts that XTEXT and *CALL read by their names.
+//! Common decks: texts that XTEXT and *CALL read by their names. A text may also be one of a system, which is assembled before the source.
 ghost use Rattle.std.specs.Prelude.{◌≡◌, ◌++◌, ◌∷◌, [], IfOk, map};
 ghost use Rattle.std.specs.Char.{to_ascii_uppercase};
 ghost use Rattle.pp_source.specs.Decks.{first_named, is_named, name_of};
@@ -8,29 +8,46 @@ use crate::scan::{is_empty, is_space, length_without_blanks, tail};
 use crate::spans::Span;
 use std::alloc::{AllocError, Global};
 
-/// A common deck, or the symbols and macros of a system: its name, in letters of either case, and its text.
+/// What is before the name of a system text, in letters of either case. No line names such a deck: a name that it reads has no blank.
+const SYSTEM: &[u8; 7] = b"SYSTEM ";
+
+/// A common deck: its name, in letters of either case, and its text. With the word SYSTEM and a blank before its name it is a system text,
+/// whose names and macros the source has.
 #[derive(Clone, Copy)]
 pub struct Text<'a> {
     pub name: &'a [u8],
     pub lines: &'a [u8],
 }
 
-/// A deck whose lines have been read.
+/// A common deck, or a system text, whose lines have been read.
 #[derive(Drop)]
 pub struct Deck {
-    /// In capitals.
+    /// In capitals, of a system text after the word SYSTEM and a blank.
     pub name: Vec<u8>,
     /// Where its lines are, of all lines.
     pub lines: Span,
 }
 
-/// The decks that a source may read.
+/// The texts that a source has: the decks that it may read, and system texts.
 #[derive(Drop)]
 pub struct Decks {
     pub all: Vec<Deck>,
 }
 
+impl<'a> Text<'a> {
+    /// Returns the name of a system text, or `None` of a common deck.
+    pub fn system_name(self) -> Option<&'a [u8]> {
+        let (word, name) = self.name.split_at_checked(SYSTEM.len())?;
+        (word.eq_ignore_ascii_case(SYSTEM) && !name.is_empty()).then_some(name)
+    }
+}
+
 impl Deck {
+    /// Returns whether it is a system text, which no line can read.
+    pub fn is_system(&self) -> bool {
+        self.name.len() > SYSTEM.len() && self.name.starts_with(SYSTEM.as_slice())
+    }
+
     /// Returns whether this is the name of the deck, in capitals.
     fn is_named(&self, name: &[u8]) -> bool
         ensures { result ≡ is_named name.now self.now }
@@ -48,8 +65,15 @@ impl Decks {
         }
     }
 
+    /// Returns whether there is no deck that a line may read.
     pub fn is_empty(&self) -> bool {
-        self.all.is_empty()
+        self.all.iter().all(|deck| deck.is_system())
+    }
+
+    /// Returns the lines of the system text with an index, if it is one.
+    pub fn system_text(&self, index: usize) -> Option<Span> {
+        let deck = self.all.get(index)?;
+        deck.is_system().then_some(deck.lines)
     }
 
     /// Adds a deck, whose lines are these of all lines.
@@ -97,7 +121,7 @@ fn is_endx(line: &[u8]) -> bool {
 }
 
 /// Returns how many of the first lines name a deck in a library: a line with a word alone, and then maybe COMMON.
-fn lines_of_name(text: &[u8], spans: &[Span]) -> usize {
+pub fn lines_of_name(text: &[u8], spans: &[Span]) -> usize {
     match spans {
         [name, ..] if !is_word(without_returns(name.of(text))) => 0,
         [_, kind, ..] if matches!(without_returns(kind.of(text)), b"COMMON") => 2,

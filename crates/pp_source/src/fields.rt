@@ -15,6 +15,8 @@ pub struct Statement {
     pub location: Field,
     pub operation: Field,
     pub operand: Field,
+    /// The column, from 0, from which on there are comments.
+    pub comments: usize,
 }
 
 /// How lines are cut.
@@ -160,6 +162,7 @@ pub fn statement_of(
         location,
         operation,
         operand,
+        comments: vocabulary.comments,
     }))
 }
 

@@ -30,8 +30,11 @@ impl<'a> Here<'a> {
         self.line.read.part(part.first, part.end)
     }
 
-    /// Returns the line and the column, from 1, of a column of the line, from 0.
+    /// Returns the line and the column, from 1, of a column of the line, from 0. A system text is before the first column of the source.
     pub fn place_of(&self, column: usize) -> (u32, usize) {
+        if !self.line.system.is_empty() {
+            return (1, 1);
+        }
         let (number, before, first) = match self.line.call {
             Some(call) => (self.line.number, column, call.column.saturating_add(1)),
             None => match self.joins.iter().rev().find(|join| join.column <= column) {
@@ -50,6 +53,7 @@ impl<'a> Here<'a> {
 
     /// Returns a message of the line that is the last one.
     pub fn last_message(&self, fault: Fault) -> Message {
-        Message::new(self.line.number, 1, usize::MAX, fault)
+        let (number, _) = self.place_of(0);
+        Message::new(number, 1, usize::MAX, fault)
     }
 }

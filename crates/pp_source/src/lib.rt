@@ -28,7 +28,7 @@ pub use numbers::{Number, counter_of, decoded, number_of, product, shifted};
 pub use openings::Opening;
 pub use operations::{Elsewhere, OPERATIONS, Operation, is_operation, operation_of};
 pub use orders::Order;
-pub use replacing::{split, split_nested};
+pub use replacing::{is_enclosed, split, split_nested};
 pub use scan::{
     after_blanks, cut, digits_of, end_of_word, find, is_alphanumeric, is_blank, is_empty,
     length_without_blanks, next_where, tail,

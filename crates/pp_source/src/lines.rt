@@ -1,9 +1,9 @@
-//! The statements of a source and of its common decks: their lines, each with those that continue it, and those that SUBR makes.
+//! The statements of a source and of the texts that it may read: their lines, each with those that continue it, and those that SUBR makes.
 ghost use Rattle.std.specs.Prelude.{◌≡◌, IfOk, map};
 ghost use Rattle.pp_source.specs.Decks.{AreOf};
 ghost use Rattle.pp_source.specs.Places.{length_of, line_lengths};
 
-use crate::decks::{Decks, Text, up_to_endx};
+use crate::decks::{Decks, Text, lines_of_name, up_to_endx};
 use crate::scan::{in_columns, is_empty, length_without_blanks, tail};
 use crate::spans::Span;
 use std::alloc::{AllocError, Global};
@@ -41,7 +41,7 @@ pub struct Call {
 /// A line with those that continue it, or a line that another one made.
 #[derive(Clone, Copy, Default)]
 pub struct Line {
-    /// The number of its first line, from 1.
+    /// The number of its first line, from 1, in the source or in its system text.
     pub number: u32,
     /// Where its text is, as the listing has it.
     pub text: Span,
@@ -50,9 +50,11 @@ pub struct Line {
     /// Where its joins are.
     pub joins: Span,
     pub call: Option<Call>,
+    /// Where the name of its system text is, in the text of all lines. It is empty if the line is of no such text.
+    pub system: Span,
 }
 
-/// The lines of a source and of its common decks, with their text and the same in capitals.
+/// The lines of a source and of the texts that it may read, with their text and the same in capitals.
 #[derive(Drop)]
 pub struct Lines {
     pub text: Vec<u8>,
@@ -61,7 +63,7 @@ pub struct Lines {
     pub all: Vec<Line>,
     /// The lines of the source.
     pub source: Span,
-    /// How many lines no other one made: those of SUBR, of the source and of its decks.
+    /// How many lines no other one made: those of SUBR, of the source and of its texts.
     pub own: usize,
 }
 
@@ -138,9 +140,11 @@ impl Lines {
         Ok(Span::new(first, self.joins.len()))
     }
 
-    fn add_line(&mut self, number: u32, bytes: &[u8]) -> Result<(), AllocError> {
+    /// Adds a line, which may be of a system text with a name.
+    fn add_line(&mut self, number: u32, system: Span, bytes: &[u8]) -> Result<(), AllocError> {
         let mut line = Line::default();
         line.number = number;
+        line.system = system;
         line.joins = Span::new(self.joins.len(), self.joins.len());
         self.add(line, bytes)?;
         Ok(())
@@ -191,10 +195,17 @@ impl Lines {
         Ok(())
     }
 
-    /// Adds the lines of a text, each with those that continue it, and returns where they are.
-    fn add_lines(&mut self, source: &[u8], spans: &[Span]) -> Result<Span, AllocError> {
+    /// Adds the lines of a text, each with those that continue it, and returns where they are. So many lines are before them; the text
+    /// may be one of a system, with a name.
+    fn add_lines(
+        &mut self,
+        source: &[u8],
+        spans: &[Span],
+        before: u32,
+        system: Span,
+    ) -> Result<Span, AllocError> {
         let first = self.all.len();
-        let mut number: u32 = 0;
+        let mut number = before;
         for span in spans {
             number = number.saturating_add(1);
             let mut bytes = without_returns(span.of(source));
@@ -203,17 +214,27 @@ impl Lines {
             }
             match self.continued(first) {
                 Some(last) if bytes.first() == Some(&b',') => self.join(number, last, bytes)?,
-                _ => self.add_line(number, bytes)?,
+                _ => self.add_line(number, system, bytes)?,
             }
         }
         Ok(Span::new(first, self.all.len()))
     }
 
-    /// Adds the lines of a common deck, and returns where they are.
-    fn add_deck(&mut self, alloc: Global, text: &[u8]) -> Result<Span, AllocError> {
+    /// Adds the lines of a common deck, or of a system text with a name, and returns where they are.
+    fn add_deck(&mut self, alloc: Global, text: &[u8], system: Span) -> Result<Span, AllocError> {
         let text = without_mark(text);
         let spans = cut_lines(alloc, text)?;
-        self.add_lines(text, up_to_endx(text, &spans))
+        let before = u32::try_from(lines_of_name(text, &spans)).unwrap_or(0);
+        self.add_lines(text, up_to_endx(text, &spans), before, system)
+    }
+
+    /// Adds the name of a text, if it is one of a system, to the text of all lines, and returns where it is.
+    fn add_name(&mut self, text: Text) -> Result<Span, AllocError> {
+        let first = self.text.len();
+        if let Some(name) = text.system_name() {
+            self.add_text(name)?;
+        }
+        Ok(Span::new(first, self.text.len()))
     }
 }
 
@@ -251,7 +272,7 @@ pub fn cut_lines(alloc: Global, source: &[u8]) -> Result<Vec<Span>, AllocError>
     Ok(spans)
 }
 
-/// Returns the lines of SUBR, those of a source and those of its common decks, each with those that continue it, and the decks.
+/// Returns the lines of SUBR, those of a source and those of its texts, each with those that continue it, and these texts.
 pub fn read_lines(
     alloc: Global,
     source: &[u8],
@@ -262,14 +283,15 @@ pub fn read_lines(
 {
     let mut lines = Lines::new(alloc);
     for line in &SUBR {
-        lines.add_line(0, line)?;
+        lines.add_line(0, Span::none(), line)?;
     }
-    lines.source = lines.add_lines(source, spans)?;
+    lines.source = lines.add_lines(source, spans, 0, Span::none())?;
     let mut decks = Decks::new(alloc);
     for index in 0..texts.len() {
-        let Text { name, lines: text } = texts[index];
-        let read = lines.add_deck(alloc, text)?;
-        decks.add(alloc, name, read)?;
+        let text = texts[index];
+        let system = lines.add_name(text)?;
+        let read = lines.add_deck(alloc, text.lines, system)?;
+        decks.add(alloc, text.name, read)?;
     }
     lines.own = lines.all.len();
     Ok((lines, decks))

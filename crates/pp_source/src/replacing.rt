@@ -28,11 +28,31 @@ pub fn split_nested(kept: &[u8], list: Span) -> (Span, Option<Span>) {
         depth == 0 && *symbol == b','
     });
     let others = (end < text.len()).then_some(list.part(end.saturating_add(1), text.len()));
-    let item = match Span::new(0, end).of(text) {
-        [b'(', .., b')'] => list.part(1, end.saturating_sub(1)),
-        _ => list.part(0, end),
+    let item = if is_enclosed(Span::new(0, end).of(text)) {
+        list.part(1, end.saturating_sub(1))
+    } else {
+        list.part(0, end)
     };
     (item, others)
+}
+
+/// Returns whether a text is in parentheses: the first one has its end in the last one.
+pub fn is_enclosed(text: &[u8]) -> bool {
+    let [b'(', inner @ .., b')'] = text else {
+        return false;
+    };
+    let mut depth: u32 = 1;
+    for symbol in inner {
+        match symbol {
+            b'(' => depth = depth.saturating_add(1),
+            b')' => depth = depth.saturating_sub(1),
+            _ => {}
+        }
+        if depth == 0 {
+            return false;
+        }
+    }
+    true
 }
 
 impl Vocabulary {
@@ -60,10 +80,11 @@ impl Vocabulary {
         };
         let mut values = self.values.iter();
         let own = values.find(|own| self.text_of(own.name) == name)?;
-        match value {
-            [b'(', value @ .., b')'] => Some((own.name, value)),
-            value => Some((own.name, value)),
-        }
+        let value = match value {
+            [b'(', inner @ .., b')'] if is_enclosed(value) => inner,
+            value => value,
+        };
+        Some((own.name, value))
     }
 
     /// Gives the next item of each list to its name.

@@ -20,6 +20,8 @@ pub struct Definition {
     pub is_set: bool,
     /// By EQU *.
     pub is_here: bool,
+    /// By a system text.
+    pub is_system: bool,
 }
 
 impl Definition {
@@ -102,6 +104,29 @@ impl Symbols {
             symbol.before = symbol.seen.take();
         }
         self.qualifiers.clear();
+    }
+
+    /// Ends a system text: the names that are known are those of a system.
+    pub fn end_system(&mut self) {
+        for symbol in &mut self.all {
+            if let Some(seen) = &mut symbol.seen {
+                seen.is_system = true;
+            }
+        }
+        self.qualifiers.clear();
+    }
+
+    /// Begins the source. A name that it has itself, as the pass before has found, is no longer that of a system; but one of SET is, up to
+    /// the first SET of the source.
+    pub fn begin_source(&mut self) {
+        for symbol in &mut self.all {
+            if let Some(own) = symbol.before
+                && !own.is_system
+                && !own.is_set
+            {
+                symbol.seen = None;
+            }
+        }
     }
 
     /// Returns whether each name stands for the same as in the pass before.
@@ -207,7 +232,7 @@ impl Symbols {
             return Ok(());
         };
         if let Some(old) = symbol.seen
-            && !(definition.is_set && old.is_set)
+            && !(definition.is_set && old.is_set || old.is_system)
         {
             let fault = Fault::new(Wording::DefinedTwice);
             return Err(fault.part(field).decimal(old.line).at(field.first));

@@ -138,7 +138,7 @@ impl Wording {
                 "POS takes 0 to {} (decimal), the bits that the word has left, not {}",
             Wording::BaseWanted =>
                 "BASE takes OCTAL, DECIMAL, MIXED or, after one of these, *; not {}",
-            Wording::OperandWanted => "{} wants an operand; in column 30 or later is a comment",
+            Wording::OperandWanted => "{} wants an operand; in column {} or later is a comment",
             Wording::OneOperandTaken => "{} takes one operand",
             Wording::SpaceGoesBack => "warning: BSS goes back by {} (octal) cells",
             Wording::OriginInBlock => "warning: ORG in the block {} goes on in the nominal block",
@@ -158,7 +158,7 @@ impl Wording {
             Wording::WarningFilledTwice => "warning: cell {} is filled by line {} (decimal) too",
             Wording::FilledTwice => "cell {} is filled by line {} (decimal) too",
             Wording::TakesButComment =>
-                "{} takes {}; what begins in column 30 or later is a comment",
+                "{} takes {}; what begins in column {} or later is a comment",
             Wording::Takes => "{} takes {}",
             Wording::NoNumberOrText => "{} is no number or text; CON takes expressions",
             Wording::FollowsText => "{} follows the text",

@@ -10,8 +10,9 @@ use pp_source::{
 /// Returns that an operation has no operand, if it has none.
 pub fn wants_operand(statement: Statement) -> Outcome {
     if statement.operand.is_empty() {
-        let text = Wording::OperandWanted;
-        return Err(Stop::of(text, statement.operation));
+        let fault = Fault::new(Wording::OperandWanted).part(statement.operation);
+        let column = statement.comments.saturating_add(1);
+        return Err(fault.count(column).at(statement.operation.first));
     }
     Ok(())
 }

@@ -170,5 +170,6 @@ fn operands_of(here: &Here, statement: Statement, code: u8) -> Outcome<FirstPart
     });
     let first_left = found.parts.get(most).filter(|_| found.count > most);
     let column = first_left.unwrap_or(&name).first;
-    Err(fault.part(name).with(Argument::Text(takes)).at(column))
+    let fault = fault.part(name).with(Argument::Text(takes));
+    Err(fault.count(statement.comments.saturating_add(1)).at(column))
 }

@@ -122,6 +122,31 @@ impl Scope {
         Ok(scope)
     }
 
+    /// Ends a system text, of which the names stay and no words.
+    pub fn end_system(&mut self) -> Result<(), AllocError> {
+        self.symbols.end_system();
+        self.restart_blocks()?;
+        self.base = None;
+        self.bases.clear();
+        self.is_deck = false;
+        self.has_name = false;
+        self.has_ended = false;
+        self.has_more = false;
+        self.forget_words();
+        Ok(())
+    }
+
+    /// Forgets the words of a text, and what the listing has of it. It has no warnings.
+    fn forget_words(&mut self) {
+        self.wrong_from = None;
+        self.over_from = None;
+        self.made = 0;
+        self.units.clear();
+        self.words.clear();
+        self.rows.clear();
+        self.warnings.clear();
+    }
+
     /// Returns whether each name and each block is as in the pass before.
     pub fn has_settled(&self) -> bool {
         self.symbols.have_settled() && self.blocks.have_settled(&self.symbols.text)

@@ -149,6 +149,13 @@ impl Scope {
         self.enter(nominal)
     }
 
+    /// Begins the first program again.
+    pub fn restart_blocks(&mut self) -> Result<(), AllocError> {
+        self.blocks.unit = 0;
+        self.blocks.placed.clear();
+        self.begin_unit(b"")
+    }
+
     /// Ends a program: the literals are after the nominal block, and then come the others as USE named them.
     pub fn end_unit(&mut self, here: &Here) -> Outcome {
         self.use_block(b"")?;

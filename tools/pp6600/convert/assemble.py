@@ -3,7 +3,7 @@
 import sys
 
 from ..language.assembling import assembled_lines
-from ..language.symbol_options import add_texts
+from ..language.symbol_options import add_texts, texts_given
 from ..shell.command_line import Parser, bytes_of, processor, write_lines
 
 DESCRIPTION = """Assembles a program of a peripheral processor, in COMPASS notation, and writes a line for each word: its address
@@ -17,7 +17,7 @@ WRONG = 1
 
 
 def main() -> int:
-    parser = Parser(DESCRIPTION, "[--set N | --listing | --panel | --deck | --words] [--text DIR] [--unit NAME] FILE")
+    parser = Parser(DESCRIPTION, "[--set N | --listing | --panel | --deck | --words] [--text DIR] [--system FILE] [--unit NAME] FILE")
     group = parser.add_mutually_exclusive_group()
     group.add_argument("--set", metavar="N", type=processor, help="SET lines for processor N, and SET P if END says where it begins")
     parser.add_forms(FORMS, group)
@@ -26,7 +26,7 @@ def main() -> int:
     parser.add_argument("file", nargs="?", metavar="FILE", help="the source; without it, standard input is the source")
     asked = parser.parse()
     form = asked.form or ("words" if asked.set is None else "set")
-    made = assembled_lines(bytes_of(asked.file), asked.file, form, asked.set or 0, asked.text, asked.unit)
+    made = assembled_lines(bytes_of(asked.file), asked.file, form, asked.set or 0, texts_given(asked), asked.unit)
     if made.complaints:
         print(*made.complaints, sep="\n", file=sys.stderr)
     if made.is_wrong:

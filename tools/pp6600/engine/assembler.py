@@ -20,7 +20,7 @@ LEAST_ROOM = 1 << 16  # bytes
 
 
 class Text(NamedTuple):
-    """A common deck: its name in capitals, and its lines."""
+    """A common deck: its name in capitals, and its lines. After the word SYSTEM and a blank the name is that of a system text."""
 
     name: bytes
     lines: bytes
@@ -47,7 +47,8 @@ class Assembler:
             call.restype = c_uint32
 
     def text(self, source: bytes, form: int, texts: Sequence[Text] = ()) -> Tuple[bytes, int]:
-        """Returns what is written of a source in a form, and how many faults the source has. It may name common decks."""
+        """Returns what is written of a source in a form, and how many faults the source has. It may have common decks and system
+        texts."""
         messages, of_source = c_size_t(), (source, c_size_t(len(source)))
         given = (CommonDeck * len(texts))(*(CommonDeck(name, len(name), lines, len(lines)) for name, lines in texts))
         text = self._written("assemble_with", 4 * len(source), *of_source, given, c_size_t(len(texts)), *checked("assemble_with", form),

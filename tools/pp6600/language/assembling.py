@@ -9,6 +9,7 @@ from ..shell.ending import shown_text
 from ..shell.text_files import lines_in, lines_of, named
 from .cells import in_rows
 from .decks import texts_of
+from .given import Given
 from .listing import without_mark
 from .program import Program, Unit, assembled, complaints_of, source_of, units_of, written
 from .sources import set_lines
@@ -24,11 +25,11 @@ class Assembled(NamedTuple):
     lines: Sequence[str]
 
 
-def assembled_lines(data: bytes, path: Optional[str], form: str, processor: int, decks: Optional[str], name: Optional[str]) -> Assembled:
-    """Assembles the source of a file, with the folder of its common decks, if it has some. The lines are those of a form and, if they load
-    the program, for a processor; of the unit with a name, if there is one."""
+def assembled_lines(data: bytes, path: Optional[str], form: str, processor: int, given: Given, name: Optional[str]) -> Assembled:
+    """Assembles the source of a file, which has the given texts. The lines are those of a form and, if they load the program, for a
+    processor; of the unit with a name, if there is one."""
     lines = without_mark(lines_in(data, path))
-    texts = texts_of(decks, lines)
+    texts = texts_of(given, lines)
     complaints, faults = complaints_of(lines, texts)
     return Assembled([shown_text(f"{named(path)}:{complaint}") for complaint in complaints], faults > 0,
                      [] if faults else lines_of_form(lines, texts, form, processor, name))

@@ -16,6 +16,7 @@ from ..shell.ending import shown_text
 from ..shell.text_files import named, read_lines
 from .cells import lines_of_cells
 from .decks import texts_of
+from .given import Given
 from .listing import Listing, is_printed, without_mark
 from .notation import CODES, TAB
 from .program import FilledCell, ListingRow, Program, Unit, assembled
@@ -97,13 +98,13 @@ class Source(AddressNames):
         return self.literals.get(address) or super().name(address, farthest)
 
     @classmethod
-    def of_file(cls, path: str, decks: Optional[str] = None) -> "Source":
-        """Returns the source in a file, with common decks in a folder, or the one that a printed listing has; of FILE#NAME the unit with
-        this name is loaded."""
+    def of_file(cls, path: str, given: Given = Given()) -> "Source":
+        """Returns the source in a file, which has the given texts, or the one that a printed listing has; of FILE#NAME the unit with this
+        name is loaded."""
         file, _, unit = path.rpartition("#")
         path, unit = (file, unit) if file and not os.path.exists(path) else (path, "")
         lines = source_lines(path)
-        program = program_of(Listing.of_file(path)) if is_printed(lines) else assembled(lines, texts_of(decks, lines))
+        program = program_of(Listing.of_file(path)) if is_printed(lines) else assembled(lines, texts_of(given, lines))
         if program.faults:
             raise Faults(complaints(path, program))
         program = program.unit(unit) if unit else program

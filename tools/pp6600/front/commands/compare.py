@@ -4,7 +4,7 @@ from argparse import Namespace
 from typing import Any, Iterator, List, Optional, Sequence, Set, Tuple, Union
 
 from ...engine.interface import P
-from ...language.symbol_options import add_files, add_symbols, symbols_from, symbols_of
+from ...language.symbol_options import add_files, add_symbols, symbols_from, symbols_of, texts_given
 from ...language.versions import Versions, address_name
 from ...run.forms import PROCESSORS
 from ...run.names import AllSymbols
@@ -152,7 +152,7 @@ def other_symbols(asked: Namespace) -> AllSymbols:
     """Returns the symbols and sources of the second run: its own, and for the other processors those of the first one."""
     own = of_its_own(asked)
     listings, sources = ([one for one in pairs if processor(one[0]) not in own] for pairs in (asked.symbols, asked.source))
-    return symbols_from([*listings, *asked.other_symbols], [*sources, *asked.other_source], asked.text)
+    return symbols_from([*listings, *asked.other_symbols], [*sources, *asked.other_source], texts_given(asked))
 
 
 def main() -> int:

@@ -6,6 +6,7 @@ from typing import Any, Callable, Dict, Iterable, List, Optional, Tuple
 from ...devices.options import device_of
 from ...engine.choose import default_engine
 from ...failure import Failure
+from ...language.given import Given
 from ...language.symbol_options import symbols_from
 from ...run.device import DeviceFailure
 from ...run.forms import PROCESSORS
@@ -158,7 +159,8 @@ class Adapter(Requests):
         words += [word for name in OPTIONS if name in given for word in (f"--{name}", given[name])]
         number = processor(given["processor"]) if "processor" in given else None
         lines = script_lines(given["script"]) if "script" in given else []
-        symbols = symbols_from(pairs(arguments, "symbols"), pairs(arguments, "sources"), given.get("text"))
+        systems = [str(path) for path in of_kind(list, arguments, "systems", "list")]
+        symbols = symbols_from(pairs(arguments, "symbols"), pairs(arguments, "sources"), Given(given.get("text"), systems))
         devices = [device_of(str(text)) for text in of_kind(list, arguments, "devices", "list")]
         own, machine = OwnSources(symbols), MachineWithDevices(words, devices) if devices else MachineWithoutDevices(words)
         self.end_simulator()
