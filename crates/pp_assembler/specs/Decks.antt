@@ -1,13 +1,20 @@
 -- The common decks that a source reads.
-use Rattle.std.specs.Prelude.{ℕ, ◌≡◌, ◌<◌, List, [], Option, Some, None, length, drop, slice_get}
+use Rattle.std.specs.Prelude.{ℕ, ◌≡◌, ◌==◌, ◌<◌, ◌||◌, Bool, true, false, Any, List, [], Option, Some, None, codes, length, drop, position, slice_get}
 use Rattle.std.specs.List.{AllByRecursion}
+use Rattle.std.specs.Option.{is_some}
+use Rattle.std.specs.Cmp.Lexicographic.{pointwise}
 use Rattle.pp_notation.specs.Columns.{between}
 use Rattle.pp_source.specs.Decks.{AreOf, first_named}
 use Rattle.pp_source.specs.declared.decks.Deck.{Deck}
 use Rattle.pp_source.specs.declared.decks.Text.{Text}
 use Rattle.pp_source.specs.declared.lines.Line.{Line}
 use Rattle.pp_source.specs.declared.lines.Lines.{Lines}
+use Rattle.pp_source.specs.declared.vocabulary.Macro.{Macro}
+use Rattle.pp_source.specs.declared.vocabulary.Meaning.{Meaning}
+use Rattle.pp_source.specs.declared.vocabulary.Vocabulary.{Vocabulary}
+use Rattle.pp_statements.specs.declared.scope.Row.{Row}
 use Rattle.pp_assembler.specs.Meaning.{read_at}
+use Rattle.pp_assembler.specs.Naming.{deck_name}
 use Rattle.pp_assembler.specs.declared.program.Assembly.{Assembly}
 use Rattle.pp_assembler.specs.declared.readings.Reading.{Reading}
 
@@ -20,6 +27,7 @@ HasOne (Some one) P = P one
 abbrev pub IsCopy : Line → Line → Type 0
 IsCopy own copy = (own.text ≡ copy.text) × (own.read ≡ copy.read)
 
+-- The lines at a place of two lists have the same text.
 abbrev pub IsCopied : List Line → List Line → ℕ → Type 0
 IsCopied own copies at = HasOne (slice_get own at) (λ one. HasOne (slice_get copies at) (IsCopy one))
 
@@ -31,6 +39,7 @@ AreCopies own copies = (at : ℕ) → at < length own → IsCopied own copies at
 abbrev pub name_read : Lines → Reading → List ℕ
 name_read lines reading = between (read_at lines reading.statement) reading.name.first reading.name.end
 
+-- The lines of a deck, if there is one.
 abbrev pub lines_of : Lines → Option Deck → List Line
 lines_of lines None = []
 lines_of lines (Some deck) = between lines.all.items deck.lines.first deck.lines.end
@@ -45,7 +54,34 @@ IsReading lines decks reading =
     HasOne (first_named (name_read lines reading) decks)
     (λ index. AreCopies (deck_lines lines decks index) (drop reading.first lines.all.items))
 
--- The decks are those of the texts that were given, and the lines that the source took from them are theirs.
+-- Whether a name that is kept is XTEXT.
+abbrev pub is_xtext : List ℕ → ℕ → ℕ → Bool
+is_xtext text first end = pointwise ◌==◌ (between text first end) (codes "XTEXT")
+
+abbrev pub has_macro : List ℕ → List Macro → Bool
+has_macro text macros = is_some (position (λ one. is_xtext text one.name.first one.name.end) macros)
+
+abbrev pub has_synonym : List ℕ → List Meaning → Bool
+has_synonym text synonyms = is_some (position (λ one. is_xtext text one.name.first one.name.end) synonyms)
+
+-- Whether a macro, or OPSYN, has given another meaning to XTEXT.
+abbrev pub is_taken : Vocabulary → Bool
+is_taken words = has_macro words.text.items words.macros.items || has_synonym words.text.items words.synonyms.items
+
+-- Whether there is a deck with a name. None is without a name.
+abbrev pub is_deck : List Deck → List ℕ → Bool
+is_deck decks [] = false
+is_deck decks name = is_some (first_named name decks)
+
+-- A line that is performed, and reads a deck, has taken its lines.
+abbrev pub IsRead : Lines → List Deck → Vocabulary → List Reading → Row → Type 0
+IsRead lines decks words readings row =
+    row.is_performed ≡ true → is_deck decks (deck_name (is_taken words) (read_at lines row.statement)) ≡ true →
+    Any (λ reading. reading.statement ≡ row.statement) readings
+
+-- The decks are those of the texts that were given, the lines that the source took from them are theirs, and each line that reads a deck has
+-- taken lines.
 abbrev pub AreRead : List Text → Assembly → Type 0
 AreRead texts made =
     AreOf texts made.decks.all.items × AllByRecursion (IsReading made.lines made.decks.all.items) made.readings.items
+    × AllByRecursion (IsRead made.lines made.decks.all.items made.vocabulary made.readings.items) made.rows.items

@@ -6,6 +6,7 @@ mod conditions;
 mod macros;
 mod meaning;
 mod micros;
+mod naming;
 mod pass;
 mod passes;
 mod program;

@@ -2,7 +2,7 @@
 ghost use Rattle.std.specs.Prelude.{[], All, IfOk, IfSome, List, map};
 ghost use Rattle.std.specs.List.{AllByRecursion};
 ghost use Rattle.pp_notation.specs.Cells.{IsProgram, IsStart};
-ghost use Rattle.pp_assembler.specs.Decks.{AreRead, IsReading};
+ghost use Rattle.pp_assembler.specs.Decks.{AreRead, IsRead, IsReading};
 ghost use Rattle.pp_assembler.specs.Meaning.{AreMeant, IsFound, IsMeant};
 ghost use Rattle.pp_source.specs.Decks.{AreOf};
 ghost use Rattle.pp_source.specs.declared.decks.Text.{Text as DeckText};
@@ -13,12 +13,12 @@ ghost use Rattle.pp_source.specs.Places.{IsOfLine, length_of, line_lengths};
 use crate::meaning::{Found, encode_performed};
 use crate::pass::Pass;
 use crate::program::{Assembly, Performed};
-use crate::readings::{Reading, are_readings};
+use crate::readings::{Reading, are_read, are_readings};
 use crate::running::Ending;
 use pp_complaints::{Known, complaints};
 use pp_notation::{Program, Slot, program_of};
 use pp_source::{
-    Decks, Fault, Lines, Message, Span, Symbols, Text, Wording, cut_lines, read_lines,
+    Decks, Fault, Lines, Message, Span, Symbols, Text, Vocabulary, Wording, cut_lines, read_lines,
 };
 use pp_statements::{Blocks, Scope, Unit};
 use std::alloc::{AllocError, Global};
@@ -56,7 +56,7 @@ pub fn assemble_with(alloc: Global, source: &[u8], texts: &[Text]) -> Result<Ass
     ensures warnings { IfOk result (λ made. All (IsOfLine (line_lengths source.now)) made.warnings.items) }
     // The words are what the statements mean.
     ensures meaning { IfOk result IsMeant }
-    // What the source took from decks are the lines of the first one with each name.
+    // Each line that reads a deck has taken the lines of the first one with its name.
     ensures decks { IfOk result (AreRead texts.now) }
 {
     let spans = cut_lines(alloc, source)?;
@@ -69,17 +69,18 @@ pub fn assemble_with(alloc: Global, source: &[u8], texts: &[Text]) -> Result<Ass
     {
         pass.scope.messages.push(*message)?;
     }
-    assembly_of(
-        alloc,
-        Read {
-            lines,
-            decks,
-            readings,
-        },
-        pass,
-        found,
-        &spans,
-    )
+    let Pass {
+        scope,
+        vocabulary,
+        ..
+    } = pass;
+    let read = Read {
+        lines,
+        decks,
+        readings,
+        vocabulary,
+    };
+    assembly_of(alloc, read, scope, found, &spans)
 }
 
 /// Returns whether there is a system text.
@@ -93,23 +94,32 @@ struct Read {
     lines: Lines,
     decks: Decks,
     readings: Vec<Reading>,
+    vocabulary: Vocabulary,
 }
 
-/// Returns what a pass has taken from common decks. If that is not their lines, a message says so.
+/// Returns what a pass has taken from common decks. If that is not their lines, or a line that reads one has taken none, a message says so,
+/// and there are no rows.
 fn readings_of(
     alloc: Global,
     lines: &Lines,
     decks: &Decks,
     pass: &mut Pass,
 ) -> Result<Vec<Reading>, AllocError>
-    ensures { IfOk result (λ readings. AllByRecursion (IsReading lines.now decks.now.all.items) readings.items) }
+    ensures taken { IfOk result (λ readings. AllByRecursion (IsReading lines.now decks.now.all.items) readings.items) }
+    ensures read { IfOk result (λ readings.
+        AllByRecursion (IsRead lines.now decks.now.all.items pass.new.vocabulary readings.items) pass.new.scope.rows.items) }
 {
     let readings = replace(&mut pass.readings, Vec::new(alloc));
-    if are_readings(lines, decks, &readings) {
+    if are_readings(lines, decks, &readings)
+        && are_read(lines, decks, &pass.vocabulary, &readings, &pass.scope.rows)
+    {
         return Ok(readings);
     }
-    let message = Message::new(1, 1, usize::MAX, Fault::new(Wording::NotEncoded));
-    pass.scope.messages.push(message)?;
+    if pass.scope.messages.is_empty() {
+        let message = Message::new(1, 1, usize::MAX, Fault::new(Wording::NotEncoded));
+        pass.scope.messages.push(message)?;
+    }
+    pass.scope.rows = Vec::new(alloc);
     Ok(Vec::new(alloc))
 }
 
@@ -151,53 +161,21 @@ fn next_pass(alloc: Global, pass: Pass) -> Result<Pass, AllocError> {
 fn assembly_of(
     alloc: Global,
     read: Read,
-    pass: Pass,
+    scope: Scope,
     found: Found,
     spans: &[Span],
 ) -> Result<Assembly, AllocError>
     ensures messages { IfOk result (λ made. All (IsOfLine (map length_of spans.now)) made.messages.items) }
     ensures warnings { IfOk result (λ made. All (IsOfLine (map length_of spans.now)) made.warnings.items) }
-    ensures meaning { IsFound read.lines pass.scope.rows.items found → IfOk result IsMeant }
+    ensures meaning { IsFound read.lines scope.rows.items found → IfOk result IsMeant }
     ensures decks { (texts : List DeckText) → AreOf texts read.decks.all.items →
-        AllByRecursion (IsReading read.lines read.decks.all.items) read.readings.items → IfOk result (AreRead texts) }
+        AllByRecursion (IsReading read.lines read.decks.all.items) read.readings.items →
+        AllByRecursion (IsRead read.lines read.decks.all.items read.vocabulary read.readings.items) scope.rows.items →
+        IfOk result (AreRead texts) }
 {
-    let Pass {
-        scope,
-        vocabulary,
-        ..
-    } = pass;
-    let Read {
-        lines,
-        decks,
-        readings,
-    } = read;
-    let Scope {
-        mut units,
-        cells,
-        start,
-        words: passed,
-        symbols,
-        rows,
-        messages: wrong,
-        warnings: noticed,
-        ..
-    } = scope;
-    let first = first_program(alloc, &mut units, &cells, start)?;
-    let (program, words, meaning) = output_of(found, first, passed);
-    let made = Assembly {
-        program,
-        meaning,
-        others: units,
-        lines,
-        decks,
-        readings,
-        symbols,
-        vocabulary,
-        words,
-        rows,
-        messages: Vec::new(alloc),
-        warnings: Vec::new(alloc),
-    };
+    let wrong = Vec::from_slice(alloc, &scope.messages)?;
+    let noticed = Vec::from_slice(alloc, &scope.warnings)?;
+    let made = without_messages(alloc, read, scope, found)?;
     let messages = match made.meaning {
         Some(_) => Vec::new(alloc),
         None => complaints(alloc, known_of(&made), &wrong, spans)?,
@@ -207,6 +185,47 @@ fn assembly_of(
         messages,
         warnings,
         ..made
+    })
+}
+
+/// Returns what a pass has made, without its messages.
+fn without_messages(
+    alloc: Global,
+    read: Read,
+    scope: Scope,
+    found: Found,
+) -> Result<Assembly, AllocError>
+    ensures decks { (texts : List DeckText) → AreOf texts read.decks.all.items →
+        AllByRecursion (IsReading read.lines read.decks.all.items) read.readings.items →
+        AllByRecursion (IsRead read.lines read.decks.all.items read.vocabulary read.readings.items) scope.rows.items →
+        IfOk result (AreRead texts) }
+    ensures meaning { IsFound read.lines scope.rows.items found →
+        IfOk result (λ made. IfSome made.meaning (AreMeant made.lines made.rows.items made.program made.words.items)) }
+{
+    let Scope {
+        mut units,
+        cells,
+        start,
+        words: passed,
+        symbols,
+        rows,
+        ..
+    } = scope;
+    let first = first_program(alloc, &mut units, &cells, start)?;
+    let (program, words, meaning) = output_of(found, first, passed);
+    Ok(Assembly {
+        program,
+        meaning,
+        others: units,
+        lines: read.lines,
+        decks: read.decks,
+        readings: read.readings,
+        symbols,
+        vocabulary: read.vocabulary,
+        words,
+        rows,
+        messages: Vec::new(alloc),
+        warnings: Vec::new(alloc),
     })
 }
 

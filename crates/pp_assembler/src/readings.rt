@@ -1,10 +1,16 @@
 //! The common decks that a source reads, and whether the lines that it took from them are theirs.
-ghost use Rattle.std.specs.Prelude.{◌≡◌, IsTrue, drop};
+ghost use Rattle.std.specs.Prelude.{◌≡◌, Any, IsTrue, drop, position};
 ghost use Rattle.std.specs.List.{AllByRecursion};
 ghost use Rattle.pp_notation.specs.Columns.{between};
-ghost use Rattle.pp_assembler.specs.Decks.{AreCopies, IsCopied, IsReading, deck_lines, name_read};
+ghost use Rattle.pp_assembler.specs.Decks.{AreCopies, IsCopied, IsRead, IsReading, deck_lines, has_macro, has_synonym, is_deck, is_taken, is_xtext, name_read};
+ghost use Rattle.pp_assembler.specs.Meaning.{read_at};
 
-use pp_source::{Decks, Field, Line, Lines, Span};
+use crate::naming::deck_name;
+use pp_source::{Decks, Field, Line, Lines, Macro, Meaning, Span, Vocabulary};
+use pp_statements::Row;
+
+/// The operation that reads a deck.
+const XTEXT: &[u8; 5] = b"XTEXT";
 
 /// A line that reads a common deck, by XTEXT or *CALL.
 #[derive(Clone, Copy)]
@@ -41,14 +47,21 @@ fn deck_lines<'a>(lines: &'a Lines, decks: &Decks, index: usize) -> &'a [Line]
     }
 }
 
+/// Returns the line at an index, as it is read.
+fn read_line(lines: &Lines, index: usize) -> &[u8]
+    ensures { result.now ≡ read_at lines.now index }
+{
+    match lines.all.get(index) {
+        Some(line) => line.read.of(&lines.capitals),
+        None => b"",
+    }
+}
+
 /// Returns the name that a line reads.
 fn name_of(lines: &Lines, reading: Reading) -> &[u8]
     ensures { result.now ≡ name_read lines.now reading }
 {
-    match lines.all.get(reading.statement) {
-        Some(line) => reading.name.of(line.read.of(&lines.capitals)),
-        None => reading.name.of(b""),
-    }
+    reading.name.of(read_line(lines, reading.statement))
 }
 
 /// Returns whether the lines at an index of two lists have the same text.
@@ -98,6 +111,99 @@ pub fn are_readings(lines: &Lines, decks: &Decks, readings: &[Reading]) -> bool
 {
     for reading in readings {
         if !is_reading(lines, decks, *reading) {
+            return false;
+        }
+    }
+    true
+}
+
+/// Returns the index of the first macro with the name XTEXT.
+fn place_of_macro(text: &[u8], macros: &[Macro]) -> Option<usize>
+    ensures { result ≡ position (λ one. is_xtext text.now one.name.first one.name.end) macros.now }
+{
+    macros.iter().position(|one| is_xtext(text, one.name))
+}
+
+/// Returns whether a macro has the name XTEXT, or had it.
+fn has_macro(text: &[u8], macros: &[Macro]) -> bool
+    ensures { result ≡ has_macro text.now macros.now }
+{
+    place_of_macro(text, macros).is_some()
+}
+
+/// Returns the index of the first synonym with the name XTEXT.
+fn place_of_synonym(text: &[u8], synonyms: &[Meaning]) -> Option<usize>
+    ensures { result ≡ position (λ one. is_xtext text.now one.name.first one.name.end) synonyms.now }
+{
+    synonyms.iter().position(|one| is_xtext(text, one.name))
+}
+
+/// Returns whether OPSYN has given another meaning to XTEXT.
+fn has_synonym(text: &[u8], synonyms: &[Meaning]) -> bool
+    ensures { result ≡ has_synonym text.now synonyms.now }
+{
+    place_of_synonym(text, synonyms).is_some()
+}
+
+/// Returns whether a macro, or OPSYN, has given another meaning to XTEXT.
+fn is_taken(words: &Vocabulary) -> bool
+    ensures { result ≡ is_taken words.now }
+{
+    has_macro(&words.text, &words.macros) || has_synonym(&words.text, &words.synonyms)
+}
+
+/// Returns whether a kept name is XTEXT.
+fn is_xtext(text: &[u8], name: Span) -> bool
+    ensures { result ≡ is_xtext text.now name.first name.end }
+{
+    name.of(text) == XTEXT.as_slice()
+}
+
+/// Returns whether there is a deck with a name.
+fn is_deck(decks: &Decks, name: &[u8]) -> bool
+    ensures { result ≡ is_deck decks.now.all.items name.now }
+{
+    !name.is_empty() && decks.find(name).is_some()
+}
+
+/// Returns whether a line has taken lines from a deck.
+fn has_reading(readings: &[Reading], statement: usize) -> bool
+    ensures { IsTrue result → Any (λ reading. reading.statement ≡ statement) readings.now }
+{
+    readings
+        .iter()
+        .any(|reading| reading.statement == statement)
+}
+
+/// Returns whether the line of a row, if it is performed and reads a deck, has taken lines.
+fn is_read(
+    lines: &Lines,
+    decks: &Decks,
+    words: &Vocabulary,
+    readings: &[Reading],
+    row: &Row,
+) -> bool
+    ensures { IsTrue result → IsRead lines.now decks.now.all.items words.now readings.now row.now }
+{
+    if !row.is_performed {
+        return true;
+    }
+    let name = deck_name(is_taken(words), read_line(lines, row.statement));
+    !is_deck(decks, name) || has_reading(readings, row.statement)
+}
+
+/// Returns whether each line that is performed and reads a deck has taken lines.
+pub fn are_read(
+    lines: &Lines,
+    decks: &Decks,
+    words: &Vocabulary,
+    readings: &[Reading],
+    rows: &[Row],
+) -> bool
+    ensures { IsTrue result → AllByRecursion (IsRead lines.now decks.now.all.items words.now readings.now) rows.now }
+{
+    for row in rows {
+        if !is_read(lines, decks, words, readings, row) {
             return false;
         }
     }

@@ -1,8 +1,11 @@
 -- What the assembler writes for C.
-use Rattle.std.specs.Prelude.{◌≡◌, ◌≢◌, ℕ, ◌<◌, ◌≤◌, ◌==◌, ◌⊎◌, All, AllPairs, List, Some, ◌++◌, flat_map, if◌then◌else◌, length}
+use Rattle.std.specs.Prelude.{◌≡◌, ◌≢◌, ℕ, ◌<◌, ◌≤◌, ◌==◌, ◌⊎◌, All, AllPairs, List, [], Some, ◌++◌, flat_map, map, if◌then◌else◌, length}
 use Rattle.pp_notation.specs.Cells.{IsCell, IsProgram, IsStart}
 use Rattle.pp_listing.specs.Listing.{listed_row}
 use Rattle.pp_source.specs.Places.{IsOfLine, line_lengths}
+use Rattle.pp_source.specs.declared.decks.Text.{Text}
+use Rattle.pp_assembler.specs.Decks.{AreRead}
+use Rattle.pp_library.specs.declared.assembling.CommonDeck.{CommonDeck}
 use Rattle.pp_disassembly.specs.SourceText.{source_text}
 use Rattle.pp_disassembly.specs.Statements.{addressed, assembled, cells_of}
 use Rattle.pp_listing.specs.Rows.{known_row, program_lines, unit_lines}
@@ -22,13 +25,18 @@ pub record AssembleOuts : Type 0 where
   pub count : ℕ
   pub messages : ℕ
 
--- What the assembler promises of a source: the program's cells and its start are those of a memory, and each message and warning is about
--- a place of the source.
-pub record IsAssembly (source : List ℕ) (made : Assembly) : Type 0 where
+-- A text of C as the assembler has it.
+abbrev pub text_of : CommonDeck → Text
+text_of deck = record { name = deck.name; lines = deck.lines }
+
+-- What the assembler promises of a source: the program's cells and its start are those of a memory, each message and warning is about a
+-- place of the source, and each line that reads a common deck has taken the lines of the first one with its name.
+pub record IsAssembly (source : List ℕ) (given : List CommonDeck) (made : Assembly) : Type 0 where
   pub program : IsProgram made.program.cells.items
   pub start : IsStart made.program.start
   pub messages : All (IsOfLine (line_lengths source)) made.messages.items
   pub warnings : All (IsOfLine (line_lengths source)) made.warnings.items
+  pub decks : AreRead (map text_of given) made
 
 -- What is written of an assembled source in a form: what is wrong with it, its words, its listing, the numbers of its lines, its names, all that
 -- is known of its rows, or the words of each of its programs.
@@ -43,16 +51,16 @@ form_text form made =
     else program_lines made.program ++ flat_map unit_lines made.others.items)))))
 
 -- The source was assembled. The text, its length and the number of faults are those of one assembly.
-pub record IsWritten (source : List ℕ) (form : ℕ) (before after : AssembleOuts) (result : ℕ) : Type 0 where
+pub record IsWritten (source : List ℕ) (given : List CommonDeck) (form : ℕ) (before after : AssembleOuts) (result : ℕ) : Type 0 where
   pub made : Assembly
-  pub assembly : IsAssembly source made
+  pub assembly : IsAssembly source given made
   pub text : PutsText (form_text form made) before.into after.into after.count result
   pub messages : after.messages ≡ length made.messages.items
 
 -- The text is written (DONE), or there is no room for it (ROOM), or there is no such form (REFUSED), or memory ran out.
-abbrev pub Assembles : List ℕ → ℕ → AssembleOuts → AssembleOuts → ℕ → Type 0
-Assembles source form before after result =
-    ((form ≤ UNITS) × IsWritten source form before after result)
+abbrev pub Assembles : List ℕ → List CommonDeck → ℕ → AssembleOuts → AssembleOuts → ℕ → Type 0
+Assembles source given form before after result =
+    ((form ≤ UNITS) × IsWritten source given form before after result)
     ⊎ (((UNITS < form) × OnlyReturns REFUSED before after result)
     ⊎ ((form ≤ UNITS) × OnlyReturns NO_MEMORY before after result))
 
@@ -60,7 +68,7 @@ Assembles source form before after result =
 -- session, and then each cell has its word, P is where the program begins, if it says so, and nothing else is changed.
 pub record IsLoading (source : List ℕ) (processor : ℕ) (before after : AssembleOuts) (result : ℕ) : Type 0 where
   pub made : Assembly
-  pub assembly : IsAssembly source made
+  pub assembly : IsAssembly source [] made
   pub no_faults : length made.messages.items ≡ 0
   pub text : List ℕ
   pub loads : Loads text (start_list processor made.program.start ++ cell_list processor made.program.cells.items)
@@ -70,7 +78,7 @@ pub record IsLoading (source : List ℕ) (processor : ℕ) (before after : Assem
 -- The source was assembled, and has faults: only their number is written.
 pub record HasFaults (source : List ℕ) (before after : AssembleOuts) (result : ℕ) : Type 0 where
   pub made : Assembly
-  pub assembly : IsAssembly source made
+  pub assembly : IsAssembly source [] made
   pub faults : 0 < length made.messages.items
   pub refused : result ≡ REFUSED
   pub outs : after ≡ record before { messages = length made.messages.items }

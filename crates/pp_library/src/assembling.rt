@@ -1,8 +1,9 @@
 //! The assembler and the disassembler for C.
-ghost use Rattle.pp_library.specs.Assembling.{Assembles, Disassembles, LoadsLines, form_text};
+ghost use Rattle.pp_assembler.specs.Decks.{AreRead};
+ghost use Rattle.pp_library.specs.Assembling.{Assembles, Disassembles, LoadsLines, form_text, text_of};
 ghost use Rattle.pp_notation.specs.Cells.{IsProgram, IsStart};
 ghost use Rattle.pp_source.specs.Places.{IsOfLine, line_lengths};
-ghost use Rattle.std.specs.Prelude.{◌≡◌, ◌≢◌, ◌↔◌, All, AllPairs, Any, IfOk, IsTrue};
+ghost use Rattle.std.specs.Prelude.{◌≡◌, ◌≢◌, ◌↔◌, [], All, AllPairs, Any, IfOk, IsTrue, map};
 
 use crate::status::{NO_MEMORY, REFUSED};
 use crate::texts::put_text;
@@ -15,7 +16,8 @@ use pp_loading::load_lines;
 use pp_notation::{Cell, are_cells};
 use std::alloc::{AllocError, Global};
 
-/// A common deck as C has it: its name, in letters of either case, and its lines.
+/// A common deck as C has it: its name, in letters of either case, and its lines. With the word SYSTEM and a blank before its name it is a
+/// system text.
 #[repr(C)]
 #[derive(Clone, Copy)]
 pub struct CommonDeck<'a> {
@@ -57,7 +59,9 @@ fn text_of(alloc: Global, made: &Assembly, form: u32) -> Result<Vec<u8>, AllocEr
 }
 
 /// Returns common decks as the assembler has them.
-fn texts_of<'a>(alloc: Global, decks: &[CommonDeck<'a>]) -> Result<Vec<Text<'a>>, AllocError> {
+fn texts_of<'a>(alloc: Global, decks: &[CommonDeck<'a>]) -> Result<Vec<Text<'a>>, AllocError>
+    ensures { IfOk result (λ texts. texts.items ≡ map text_of decks.now) }
+{
     let mut texts = Vec::new(alloc);
     for deck in decks {
         texts.push(Text {
@@ -78,6 +82,7 @@ fn assembled_with(
     ensures start { IfOk result (λ made. IsStart made.program.start) }
     ensures messages { IfOk result (λ made. All (IsOfLine (line_lengths source.now)) made.messages.items) }
     ensures warnings { IfOk result (λ made. All (IsOfLine (line_lengths source.now)) made.warnings.items) }
+    ensures decks { IfOk result (AreRead (map text_of decks.now)) }
 {
     let texts = texts_of(alloc, decks)?;
     assemble_with(alloc, source, &texts)
@@ -115,14 +120,14 @@ pub extern "C" fn pp6600_assemble(
     count: &mut usize,
     messages: &mut usize,
 ) -> u32
-    ensures { Assembles source.now form
+    ensures { Assembles source.now [] form
         (record { into = into.old; count = count.old; messages = messages.old })
         (record { into = into.new; count = count.new; messages = messages.new }) result }
 {
     pp6600_assemble_with(alloc, source, &[], form, into, count, messages)
 }
 
-/// Assembles a source with common decks, and writes what `pp6600_assemble` does.
+/// Assembles a source with common decks and system texts, and writes what `pp6600_assemble` does.
 #[unsafe(no_mangle)]
 pub extern "C" fn pp6600_assemble_with(
     alloc: Global,
@@ -133,7 +138,7 @@ pub extern "C" fn pp6600_assemble_with(
     count: &mut usize,
     messages: &mut usize,
 ) -> u32
-    ensures { Assembles source.now form
+    ensures { Assembles source.now decks.now form
         (record { into = into.old; count = count.old; messages = messages.old })
         (record { into = into.new; count = count.new; messages = messages.new }) result }
 {

@@ -13,9 +13,6 @@ without_messages P messages (Some performed) none meant = (meant, none)
 pub returns-clause-meaning : goal.returns-clause-meaning
 returns-clause-meaning c found =
     elim c.match-made.branch [
-      | in-Some w ↦
-          without_messages (AreMeant c.args.read.lines c.args.pass.scope.rows.items c.output_of-program.result.0 c.output_of-program.result.1.items)
-          c.match-made.messages.items c.output_of-program.result.2 (search rules)
-          (c.output_of-program.ensures c.args.read.lines c.args.pass.scope.rows.items found)
+      | in-Some w ↦ without_messages _ _ _ (search rules) (c.in_ok-made.ensures.meaning found)
       | in-None+in_ok-messages-in-None w ↦ rw w.in-None.is (search rules)
     ]

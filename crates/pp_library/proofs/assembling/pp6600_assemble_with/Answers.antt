@@ -12,6 +12,7 @@ returns c = inl (
       start = c.in-Ok.ensures.start;
       messages = c.in-Ok.ensures.messages;
       warnings = c.in-Ok.ensures.warnings;
+      decks = c.in-Ok.ensures.decks;
     };
     text = puts_same _ _ _ _ _ _ (c.as_slice.ensures.value ∙ c.in-Ok-text_of.ensures) c.put_text.ensures;
     messages = c.len.ensures ∙ c.in-Ok.made.messages.ok.0;

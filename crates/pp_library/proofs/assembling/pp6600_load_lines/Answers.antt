@@ -16,6 +16,7 @@ returns-then-faults-gt0 c =
           start = c.in-Ok.ensures.start;
           messages = c.in-Ok.ensures.messages;
           warnings = c.in-Ok.ensures.warnings;
+          decks = c.in-Ok.ensures.decks;
         };
         faults = omega arith;
         refused = refl;
@@ -35,6 +36,7 @@ returns c =
           start = c.in-Ok.ensures.start;
           messages = c.in-Ok.ensures.messages;
           warnings = c.in-Ok.ensures.warnings;
+          decks = c.in-Ok.ensures.decks;
         };
         no_faults = omega arith;
         text = c.in-Ok-load_lines.text.items;
