@@ -74,7 +74,7 @@ is_deck decks [] = false
 is_deck decks name = is_some (first_named name decks)
 
 -- A line that is performed, and reads a deck, has taken its lines.
-abbrev pub IsRead : Lines → List Deck → Vocabulary → List Reading → Row → Type 0
+unfoldable pub IsRead : Lines → List Deck → Vocabulary → List Reading → Row → Type 0
 IsRead lines decks words readings row =
     row.is_performed ≡ true → is_deck decks (deck_name (is_taken words) (read_at lines row.statement)) ≡ true →
     Any (λ reading. reading.statement ≡ row.statement) readings

@@ -176,6 +176,7 @@ fn has_reading(readings: &[Reading], statement: usize) -> bool
 }
 
 /// Returns whether the line of a row, if it is performed and reads a deck, has taken lines.
+#[tactic(auto, unfolding(crate::specs::Decks::IsRead))]
 fn is_read(
     lines: &Lines,
     decks: &Decks,
