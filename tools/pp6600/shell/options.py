@@ -141,9 +141,10 @@ def simulator(asked: argparse.Namespace) -> List[str]:
     return [asked.program, *option_words(asked)]
 
 
-def option_words(asked: argparse.Namespace, files: Mapping[str, str] = {}) -> List[str]:
-    """Returns the simulator's options that are given, with their values, or with other names of files."""
-    return [word for name in OPTIONS if (value := getattr(asked, name)) is not None for word in (f"--{name}", files.get(name, value))]
+def option_words(asked: argparse.Namespace, others: Optional[Mapping[str, str]] = None) -> List[str]:
+    """Returns the simulator's options that are given, with their values, or with others in their place."""
+    given = {name: value for name in OPTIONS if (value := getattr(asked, name)) is not None}
+    return [word for name, value in given.items() for word in (f"--{name}", (others or {}).get(name, value))]
 
 
 def arguments(description: str, usage: Optional[str] = None) -> Parser:
