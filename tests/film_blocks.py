@@ -25,9 +25,9 @@ import shlex
 import time
 
 from tests.cases import encoded, files_in, marked, part, stored_blocks, text_of
-from tests.films import PageCase, shown_film
+from tests.films import PageCase, class_page, shown_film
 from tests.panels import keys_in
-from tests.support import TOP, run, write
+from tests.support import TOP, write
 
 PATIENCE = 120  # seconds for what a page comes to show
 LINE = re.compile(r"((?:let|do) |\$ |> ?|[\w. ]+\| ?|)(.*)")
@@ -81,8 +81,7 @@ class BlockCase(PageCase):
         if kind == "shown":
             self.page = shown_film(words[0])
         elif kind == "class":
-            self.page = self.path("class.html")
-            self.assertEqual(0, run("exercises/hand-out", self.page).status)
+            self.page = class_page()
         else:
             named = [word for word in words if word[0] == "<" and word[1:] in self.files]
             begun = "".join(self.files[word[1:]] for word in named)

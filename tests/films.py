@@ -20,7 +20,7 @@ import zlib
 
 from tests.browser import PATIENCE, Browser, found
 from tests.generator import BUSY, Maker
-from tests.support import TOP, Case, read, tool, tool_here
+from tests.support import TOP, Case, read, run, tool, tool_here
 
 from pp6600 import Console
 from pp6600.front.film.joining import joined
@@ -53,6 +53,16 @@ def shown_film(name):
     done = tool("film", *options, "--title", name.replace("-", " "), "-o", path, script=text_of(*files))
     if done.status:
         raise RuntimeError(done.err)
+    return path
+
+
+@functools.cache
+def class_page():
+    """Makes the page of a class, and returns its path."""
+    path = os.path.join(ROOM.name, "class.html")
+    done = run("exercises/hand-out", path)
+    if done != (f"hand-out: {path} has 8 exercises\n", "", 0):
+        raise RuntimeError(done)
     return path
 
 
@@ -126,6 +136,15 @@ class FilmCase(Case):
         return path
 
 
+@functools.cache
+def shared_browser():
+    """Returns the browser that all tests of a module share; None if there is none here."""
+    browser = Browser(found()) if found() else None
+    if browser:
+        atexit.register(browser.end)
+    return browser
+
+
 class PageCase(FilmCase):
     """Tests of a page in a browser. Without one they are skipped, or look at the film alone if a browser is not all they need."""
 
@@ -135,10 +154,7 @@ class PageCase(FilmCase):
     @classmethod
     def setUpClass(cls):
         super().setUpClass()
-        path = found()
-        if path:
-            cls.browser = Browser(path)
-            cls.addClassCleanup(cls.browser.end)
+        cls.browser = shared_browser()
 
     def setUp(self):
         super().setUp()

@@ -1,5 +1,5 @@
 """Tests that the artefacts of dist/ for other machines and other programs answer as the program does, byte for byte: the rows of test_scripts,
-the sessions of the pages, the stored cases, and 60 random sessions. What can't run here is skipped, and said. Those for Windows are in
+the sessions of the pages, the stored cases, and 30 random sessions. What can't run here is skipped, and said. Those for Windows are in
 test_windows.
 
 PP6600_ARTEFACTS names another folder than dist/."""
@@ -36,7 +36,7 @@ from pp6600.engine.plain.program import read_options, read_words
 TARGETS, CLIENTS = os.path.join(TOP, "targets"), os.path.join(TOP, "tests", "artefacts")
 WEB = os.path.join(TOP, "tools", "pp6600", "front", "film", "web")
 HEADER = os.path.join(TOP, "crates", "pp_library", "pp6600.h")
-RANDOM = 60
+RANDOM = 30
 CORES = len(os.sched_getaffinity(0))
 SONAME = "libpp6600.so.1"  # what is linked with a shared library asks for this name
 WARNINGS = "-Wall -Wextra -Wconversion -Wsign-conversion -Werror".split()

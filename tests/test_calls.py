@@ -18,7 +18,7 @@ from pp6600.run.session import Session
 from pp6600.shell.script import performed
 
 setUpModule = needs_library
-SEED, COUNT = map(int, os.environ.get("PP6600_CALLS", "70:250").split(":"))
+SEED, COUNT = map(int, os.environ.get("PP6600_CALLS", "70:130").split(":"))
 LJM, RJM, CELLS = 0o01, 0o02, 0o10000
 WAITING = range(0o70, 0o100)  # codes that may wait
 LAST = 0o377  # cell that a program may have

@@ -37,7 +37,7 @@ class Package(Case):
         names = [name for name in os.listdir(TOOLS) if "." not in name and os.path.isfile(os.path.join(TOOLS, name))]
         for name in names:
             self.assertEqual(read(TOOLS, names[0]), read(TOOLS, name), name)
-        for path in glob.glob(os.path.join(TOP, "*", "scripts", "*.py")):
+        for path in glob.glob(os.path.join(TOP, "*", "scripts", "[!_]*.py")):
             folder, name = os.path.split(path)
             self.assertEqual(read("share", "deb"), read(os.path.dirname(folder), name[:-len(".py")]), name)
         scripts = re.findall(r'^pp6600-(\S+) = "pp6600.__main__:launch"$', read("pyproject.toml"), re.M)

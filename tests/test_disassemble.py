@@ -15,7 +15,7 @@ from pp6600.engine.assembler import COMPLAINTS, WORDS
 from pp6600.language.program import written
 
 setUpModule = needs_library
-SEED, COUNT = map(int, os.environ.get("PP6600_WINDOWS", "0:1200").split(":"))
+SEED, COUNT = map(int, os.environ.get("PP6600_WINDOWS", "0:600").split(":"))
 WHOLE = 200  # windows for each whole memory
 
 

@@ -5,8 +5,8 @@ import os
 import re
 
 from tests.film_blocks import BLOCKS, BlockCase
-from tests.films import DEVICES, PageCase, about, random_session, shown_film
-from tests.support import add_tests, read, run
+from tests.films import DEVICES, PageCase, about, class_page, random_session, shown_film
+from tests.support import add_tests, read
 
 from pp6600.front.keys import ROWS
 
@@ -69,11 +69,12 @@ class Screens(PageCase):
         folder = os.environ.get("SCREENS") or self.folder
         os.makedirs(folder, exist_ok=True)
         for width, height in self.SIZES:
+            self.browser.look(width, height)
+            self.browser.open(path, address)
             for look in looks:
+                self.value(f"page.hands.look({look!r})")
                 for dark in (False, True):
                     self.browser.look(width, height, dark=dark)
-                    self.browser.open(path, address)
-                    self.value(f"page.hands.look({look!r})")
                     self.browser.wait_for("!page.session.client.isBusy")
                     self.value("new Promise((done) => requestAnimationFrame(() => setTimeout(done, 50)))")
                     picture = os.path.join(folder, f"{name}-{look}-{width}{'-dark' if dark else ''}.png")
@@ -88,6 +89,4 @@ class Screens(PageCase):
         self.pictures("film", shown_film("overwritten-loader"), "#turn=405&place=M+0+106", ("debug", "projector"))
 
     def test_class(self):
-        path = self.path("class.html")
-        self.assertEqual(0, run("exercises/hand-out", path).status)
-        self.pictures("class", path, "", ("class",))
+        self.pictures("class", class_page(), "", ("class",))

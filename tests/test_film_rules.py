@@ -8,7 +8,7 @@ import re
 import unittest
 
 from tests import firefox
-from tests.films import FilmCase, PageCase, shown_film
+from tests.films import FilmCase, PageCase, class_page, shown_film
 from tests.support import TOP, read, run, write
 
 COUNTER = "SET M 0 100 1405 3420 300\nSET P 0 100\nSTEP 100\n"  # LDN 5, STD 20, UJN 0
@@ -248,11 +248,6 @@ class Solve(PageCase):
 
     SOURCE = "          BASE   OCTAL\n          ORG    100\n START    LDD    20\n          ADD    21\n          STD    22\n          UJN    *\n          END    START\n"
 
-    def page(self):
-        path = self.path("class.html")
-        self.assertEqual((f"hand-out: {path} has 8 exercises\n", "", 0), run("exercises/hand-out", path))
-        return path
-
     def js(self, text):
         return self.value(f"(async () => {{ {BEGIN} {text} }})()")
 
@@ -264,7 +259,7 @@ class Solve(PageCase):
                 self.assertAlmostEqual(float(size), os.path.getsize(self.path(name)) / 1e6, delta=0.1 * float(size))
 
     def test_solve(self):
-        path = self.page()
+        path = class_page()
         self.browser.open(path)
         solved = self.js(f"""editor.edit({json.dumps(self.SOURCE)}); await editor.load(); await exercises.check(); const at = store.state.checked;
           moves.moveTo(0); await exercises.check(); const before = store.state.checked;
@@ -281,13 +276,13 @@ class Solve(PageCase):
 
     def test_an_untouched_session_is_not_kept(self):
         """Else it would be the latest, in the place of one in which something was done."""
-        self.browser.open(self.page())
+        self.browser.open(class_page())
         self.assertEqual([0, 1], self.js("""const count = () => Object.keys(localStorage).filter((key) => key.includes(" session ")).length;
           await exercises.goTo("exchange"); await exercises.goTo("first-program"); const before = count();
           await session.type(["STEP 1"]); await exercises.goTo("exchange"); return [before, count()]"""))
 
     def test_tasks_need_no_shell(self):
-        self.browser.open(self.page())
+        self.browser.open(class_page())
         for name, task in self.value("page.store.state.exercises.map(({ name, task }) => [name, task])"):
             with self.subTest(name):
                 self.assertNotRegex(task, r"tools/|check-exercise|exercises/|\bfile\b")
@@ -296,7 +291,7 @@ class Solve(PageCase):
 
     def test_check(self):
         """Each exercise is not solved as it was handed out, and solved by its solution; the check is that of check-exercise."""
-        self.browser.open(self.page())
+        self.browser.open(class_page())
         for name in self.value("page.store.state.exercises.map(({ name }) => name)"):
             folder = os.path.join(TOP, "exercises", name, "solution")
             parts = {part: read(folder, part) for part in ("script", "panel") if os.path.exists(os.path.join(folder, part))}
@@ -309,7 +304,7 @@ class Solve(PageCase):
 
     def test_handed_in(self):
         """What the page saves is what grade takes: a script, a link, and the page with all that was worked on."""
-        self.browser.open(self.page())
+        self.browser.open(class_page())
         self.browser.save_into(self.folder)
         link = self.js("""await session.type(["SET M 0 100 3020 3121 3422 300", "STEP 7", "SET A 0 1", "BACK 1"]); await exercises.check();
           return (await m_page_files.linkTo({ script: session.scriptToSave() }, "moment=3"))""")
@@ -323,14 +318,14 @@ class Solve(PageCase):
 
     def test_a_panel(self):
         """In exercise 7 the answer is the panel."""
-        self.browser.open(self.page())
+        self.browser.open(class_page())
         panel = read("exercises", "dead-start-from-cards", "solution", "panel")
         found = self.js(f"""await exercises.goTo("dead-start-from-cards"); store.change({{ panelText: {json.dumps(panel)} }}); await exercises.again(); await exercises.check();
           const right = store.state.checked.wrong.length; store.change({{ panelText: "1 2 3" }}); await exercises.again(); return [right, store.state.said.text, names()]""")
         self.assertEqual([0, "a panel is twelve words of four octal digits", ["dead-start-from-cards", "begun again"]], found)
 
     def test_a_dropped_answer_on_the_projector(self):
-        self.browser.open(self.page())
+        self.browser.open(class_page())
         found = self.js("""hands.look("projector"); await idle(); await sharing.takeFiles([new File(["* EXERCISE exchange\\nSTEP 3\\n"], "ada.txt")], false); await idle();
           return [store.state.look, store.state.exercise, turn(), document.querySelector(".projected").textContent.slice(0, 9)]""")
         self.assertEqual(["projector", "exchange", "3", "Exchange."], found)

@@ -23,7 +23,7 @@ from pp6600.run.session import Session
 from pp6600.run.turn import places_of_setting
 from pp6600.shell.command_line import arguments
 
-SEEDS = "100 40"  # of the random sessions: the first, and how many
+SEEDS = "100 25"  # of the random sessions: the first, and how many
 OPTIONS = ("--central", "32", "--panel", f"{EXAMPLES}/dead-start/panel", "--deck", f"{EXAMPLES}/read-a-deck/deck")
 # An exchange and what moves P of the central processor, at the end of central memory too; a block past its end; a return address of zero.
 EXCHANGE = ["SET C 1 12345670123456701234", "SET M 0 100 1400 2600 2700 2077 7776 2600 2700 300", "SET P 0 100", "STEP 200", "BACK 20",
@@ -160,7 +160,7 @@ class Truth(Case):
         return turns
 
 
-SEARCHED = "500 24"  # of the sessions in which conditions are looked for: the first, and how many
+SEARCHED = "500 16"  # of the sessions in which conditions are looked for: the first, and how many
 TESTS = ("P {n} = {p}", "A {n} != 0", "A {n} > 7", "Q {n} <= 3", "A {n} < 100", "M {n} 20 >= 1", "P {n} outside 100 117", "A {n} inside 1 77", "M {n} 20 changes", "P {n} changes",
          "M {n} 0 177 is written", "A {n} is written", "C 0 is written", "H {c} is F", "H {c} changes state", "PP {n} waits", "PP {n} performs {p}", "PP {n} in a block",
          "PP {n} not in a block")

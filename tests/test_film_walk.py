@@ -20,7 +20,7 @@ from pp6600.run.turn import NAMES
 
 MOMENTS, EARLY = 8, 100  # of each run: so many of all its moments are compared, and so many of the first ones
 ALWAYS = (3, 0o31)  # in these the clock is read, and in the handshake the question goes out
-SEEDS = "0 9"  # of the random sessions: the first, and how many
+SEEDS = "0 6"  # of the random sessions: the first, and how many
 WALKED = (
     ((), "examples/handshake/script"), (("--deck", "examples/overwritten-loader/deck"), "examples/overwritten-loader/script"),
     (("--panel", "examples/dead-start/panel"), "examples/dead-start/script"), ((), "examples/print-a-page/script"),

@@ -4,6 +4,7 @@
 """
 
 import contextlib
+import functools
 import glob
 import os
 import random
@@ -18,7 +19,7 @@ from pp6600.language.program import assembled
 
 setUpModule = needs_library
 LISTINGS = [text.splitlines() for text in re.findall("<<END\n(.*?)^END$", read("tests", "sessions", "printed-listings.txt"), re.M | re.S)]
-SEED, COUNT = map(int, os.environ.get("PP6600_ERRORS", "70:150").split(":"))
+SEED, COUNT = map(int, os.environ.get("PP6600_ERRORS", "70:80").split(":"))
 WORDS_OF_LINE = 2
 PAGE = 20  # lines
 
@@ -96,8 +97,9 @@ class Errors(Case):
     def words(lines):
         return {address: word for address, (word, _) in Listing(lines).cells.items()}
 
-    @classmethod
-    def good(cls):
+    @staticmethod
+    @functools.cache
+    def good():
         """Returns listings in each style, with their words, which are those of the source."""
         found = []
         for source in sources():
@@ -143,13 +145,13 @@ class Errors(Case):
                     self.assertRaises(Failure, Listing, [*lines[:number], changed, *lines[number + 1:]])
 
     def check_each_digit(self, source, first, last):
-        """Checks that each other digit in some columns of the listing of a source is found, or makes no difference."""
+        """Checks that a digit in some columns of the listing of a source of which one bit is another is found, or makes no difference."""
         lines = listing(source)
         wanted = self.words(lines)
         for number, line in enumerate(lines):
             for at in [at for at in range(first, min(last, len(line))) if line[at] in "01234567"]:
-                for digit in set("01234567") - {line[at]}:
-                    changed = f"{line[:at]}{digit}{line[at + 1:]}"
+                for bit in (1, 2, 4):
+                    changed = f"{line[:at]}{int(line[at]) ^ bit}{line[at + 1:]}"
                     with contextlib.suppress(Failure):
                         self.assertEqual(wanted, self.words([*lines[:number], changed, *lines[number + 1:]]), changed)
 

@@ -1,7 +1,7 @@
 """The program against a second opinion: random sessions are run by the program and by pp6600-python, and all that is
 written is compared byte for byte.
 
-    PP6600_RANDOM=SEED:COUNT   runs COUNT sessions from seed SEED on; SEED:1 repeats one. The default is 0:1000
+    PP6600_RANDOM=SEED:COUNT   runs COUNT sessions from seed SEED on; SEED:1 repeats one. The default is 0:700
 
 The first difference ends the run. Its session is made small and kept in a folder that is named. With -v each test
 ends with how often each instruction, case, form of a line, error and fault has occurred; by default each must occur.
@@ -171,7 +171,7 @@ class RandomSessions(Case):
         self.assertEqual([name for name in expected if not seen[name]], [])
 
     def test_sessions(self):
-        seed, count = map(int, os.environ.get('PP6600_RANDOM', '0:1000').split(':'))
+        seed, count = map(int, os.environ.get('PP6600_RANDOM', '0:700').split(':'))
         for number in range(seed, seed + count):
             self.compare(f'PP6600_RANDOM={number}:1', Maker(number).session())
         self.check_seen([] if 'PP6600_RANDOM' in os.environ else EXPECTED)

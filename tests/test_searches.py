@@ -16,7 +16,7 @@ from pp6600.engine.interface import CHANGES, INSIDE, OUTSIDE, PERFORMS, WAITS, W
 from pp6600.failure import Failure
 from pp6600.run.conditions import joined
 
-SEED, COUNT = map(int, os.environ.get("PP6600_SEARCHES", "0:150").split(":"))
+SEED, COUNT = map(int, os.environ.get("PP6600_SEARCHES", "0:80").split(":"))
 CELLS = [4096 * number + address for number in range(10) for address in range(0o200)]
 REGISTERS = [*range(flat.A, flat.STATES + 24), flat.CLOCK]  # which change more often than cells
 PLACES = [*REGISTERS, *CELLS[::7], flat.SLOT, flat.CENTRAL, flat.CENTRAL + 1]

@@ -1,7 +1,7 @@
 """What the tools find in runs, against a look at the machine after each action: turns at which something comes to be so, changes,
 traces, states and differences.
 
-    PP6600_SEEK=SEED:COUNT   tries COUNT random sessions from seed SEED on; the default is 0:6
+    PP6600_SEEK=SEED:COUNT   tries COUNT random sessions from seed SEED on; the default is 0:4
 """
 
 import os
@@ -12,7 +12,7 @@ from tests.generator import LOOPS, Maker
 from tests.oracle import Timeline
 from tests.support import Case, add_tests, program, tool
 
-FIRST, COUNT = map(int, os.environ.get("PP6600_SEEK", "0:6").split(":"))
+FIRST, COUNT = map(int, os.environ.get("PP6600_SEEK", "0:4").split(":"))
 CELLS = 0o347  # of the cells from 0 on, which programs of LOOPS use
 PARTS = ("P {n} = {p}", "P {n} outside 100 {p}", "P {n} != {p}", "A {n} > 5", "Q {n} changes", "M {n} 20 = 1", "M {n} {p} changes",
          "M {n} 0 27 changes", "H 1 is {s}", "H 2 is {s}", "H 1 > 3", "H 14 = {a}", "H 14 changes", "PP {n} waits",

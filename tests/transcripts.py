@@ -1,11 +1,11 @@
 """Transcripts: commands of a shell and what they write, standard error too, in one folder.
 
 A line that begins with $ is a command, and the lines from <<END to END are its own; the others are what it writes. A line that begins
-with # is a note; `# needs NAME ..` names commands, and
-modules of Python as module:NAME and a machine as machine:NAME, without which the transcript is skipped. `at-terminal COMMAND` runs a command at a
-terminal. The name of the folder is left out of what is written, as is that of the repository.
+with # is a note; `# needs NAME ..` names commands, and modules of Python as module:NAME and a machine as machine:NAME, without which what
+follows is skipped. `at-terminal COMMAND` runs a command at a terminal. The name of the folder is left out of what is written, as is that of the repository.
 """
 
+import functools
 import glob
 import importlib.util
 import os
@@ -98,20 +98,20 @@ class TranscriptCase(Case):
     """Tests of transcripts, each in a folder of its own."""
 
     def check(self, path):
-        text = read(path)
-        for names in re.findall("^# needs (.*)$", text, re.M):
+        before, *parts = re.split("^# needs (.*)$", read(path), flags=re.M)
+        for names, text in zip(["", *parts[::2]], [before, *parts[1::2]]):
             missing = [name for name in names.split() if not is_here(name)]
             if missing:
                 self.skipTest(f"{', '.join(missing)} is not here")
-        begin, *parts = COMMAND.split(re.sub("^#.*\n|^\n", "", text, flags=re.M))
-        self.assertEqual("", begin)
-        shell = self.shell()
-        for command, wanted in zip(parts[::2], parts[1::2]):
-            with self.subTest(command):
-                self.assertEqual(wanted, self.written(shell, command))
+            begin, *commands = COMMAND.split(re.sub("^#.*\n|^\n", "", text, flags=re.M))
+            self.assertEqual("", begin)
+            for command, wanted in zip(commands[::2], commands[1::2]):
+                with self.subTest(command):
+                    self.assertEqual(wanted, self.written(self.shell, command))
 
+    @functools.cached_property
     def shell(self):
-        """Returns a shell in the folder of the test, where the repository's parts are."""
+        """A shell in the folder of the test, where the repository's parts are."""
         for name in ("examples", "exercises", "tests", "tools"):
             os.symlink(os.path.join(TOP, name), self.path(name))
         os.symlink(program(), self.path("pp6600"))

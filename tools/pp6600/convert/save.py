@@ -67,4 +67,4 @@ def main() -> int:
         write_bytes(BINARY[asked.form](words))
     else:
         write_lines(LINES[asked.form](number, first, words))
-    return script.status()
+    return script.refusals.status()

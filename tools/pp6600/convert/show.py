@@ -19,7 +19,7 @@ def main() -> int:
     lines, status = symbols_of(asked).loading(script_lines(asked.script)), 0
     if asked.turn is not None:
         script = performed(words, lines)
-        lines, status = list(script.tape.lines(Position(0), script.tape.after_turn(asked.turn))), script.status()
+        lines, status = list(script.tape.lines(Position(0), script.tape.after_turn(asked.turn))), script.refusals.status()
     run = Session(words)
     status |= show_lines(run, lines, asked.stop)
     return max(run.end(), status)

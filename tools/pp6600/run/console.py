@@ -71,10 +71,6 @@ class Console:
         """Performs lines of a script, and yields the answer to each."""
         return map(self.ask, lines)
 
-    def ask_all(self, lines: Iterable[str]) -> List[str]:
-        """Returns the lines of the answers to all lines, one after the other."""
-        return self.engine.answers("".join(f"{line}\n" for line in lines))
-
     def demand(self, line: str) -> List[str]:
         """Returns the answer to a line that must not be refused."""
         answer = self.ask(line)

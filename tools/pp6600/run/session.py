@@ -174,7 +174,7 @@ class Session(Console):
 
     def _perform_lines(self, lines: List[str]) -> List[str]:
         """Performs lines of the tape. Returns the lines of their answers."""
-        answers = self.ask_all(lines)
+        answers = self.engine.answers("".join(f"{line}\n" for line in lines))
         if refusal := refused(answers):
             raise Failure(f"the simulator answers {refusal} to what it has performed before")
         if not self.is_search:

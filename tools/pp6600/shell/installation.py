@@ -6,6 +6,7 @@ installation is read from its list. Nothing but Python's standard library is use
 from __future__ import annotations
 
 import contextlib
+import functools
 import os
 import re
 import shutil
@@ -61,6 +62,7 @@ def part(path: str) -> Manifest:
     return {path: read(whole)} if os.path.isfile(whole) else {f"{path}/{name}": entry for name, entry in files_below(whole).items()}
 
 
+@functools.lru_cache(maxsize=None)
 def manual_pages() -> Manifest:
     """Returns the manual pages of a checkout."""
     with tempfile.TemporaryDirectory() as room:

@@ -4,7 +4,7 @@ import argparse
 import re
 import sys
 from functools import partial
-from typing import Any, Callable, Dict, List, Mapping, NamedTuple, NoReturn, Optional, Sequence
+from typing import Any, Callable, List, Mapping, NamedTuple, NoReturn, Optional, Sequence
 
 from ..engine.choice import version
 from ..engine.choose import default_engine
@@ -138,16 +138,13 @@ def words_after(words: List[str], most: int, what: str) -> List[Any]:
 
 def simulator(asked: argparse.Namespace) -> List[str]:
     """Returns the words of the simulator: the program and its options."""
-    return [asked.program, *in_words(given_options(asked))]
+    return [asked.program, *option_words(asked)]
 
 
-def given_options(asked: argparse.Namespace) -> Dict[str, str]:
-    """Returns the simulator's options that are given, with their values."""
-    return {name: value for name in OPTIONS if (value := getattr(asked, name)) is not None}
-
-
-def in_words(options: Mapping[str, str]) -> List[str]:
-    return [word for name, value in options.items() for word in (f"--{name}", value)]
+def option_words(asked: argparse.Namespace, others: Optional[Mapping[str, str]] = None) -> List[str]:
+    """Returns the simulator's options that are given, with their values, or with others in their place."""
+    given = {name: value for name in OPTIONS if (value := getattr(asked, name)) is not None}
+    return [word for name, value in given.items() for word in (f"--{name}", (others or {}).get(name, value))]
 
 
 def arguments(description: str, usage: Optional[str] = None) -> Parser:

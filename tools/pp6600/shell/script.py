@@ -91,9 +91,6 @@ class Script:
         """The actions in effect: neither refused nor taken back. Watches are left out."""
         return self.history.in_effect().without_watches()
 
-    def status(self) -> int:
-        return self.refusals.status()
-
 
 class WithoutTurns(Console):
     """A simulator that makes no turns: for a script of which nothing counts but which lines are refused and what is in effect at its end."""

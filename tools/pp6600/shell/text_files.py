@@ -2,7 +2,7 @@
 
 import os
 import sys
-from typing import Iterable, Iterator, List, Optional
+from typing import Iterator, List, Optional
 
 from ..failure import Failure
 from .ending import shown_text
@@ -16,21 +16,16 @@ def bytes_of(path: Optional[str]) -> bytes:
     """Returns the bytes of a file, or of standard input if there is no path. Fails if there are more than MOST_BYTES."""
     if path is None and sys.stdin is None:
         raise Failure("standard input is closed or a folder: name a file, or give the text over a pipe")
+    size, found = 0, []
     try:
         with open(path, "rb") if path is not None else sys.stdin.buffer as file:
-            return whole(iter(lambda: file.read(PIECE), b""), path)
+            while piece := file.read(PIECE):
+                size += len(piece)
+                if size > MOST_BYTES:
+                    raise Failure(f"can't read {named(path)}: it has more than {MOST_BYTES} (decimal) bytes")
+                found.append(piece)
     except OSError as error:
         raise Failure(f"can't read {named(path)}: {error.strerror}") from error
-
-
-def whole(pieces: Iterable[bytes], path: Optional[str]) -> bytes:
-    """Returns the pieces of a file as one."""
-    size, found = 0, []
-    for piece in pieces:
-        size += len(piece)
-        if size > MOST_BYTES:
-            raise Failure(f"can't read {named(path)}: it has more than {MOST_BYTES} (decimal) bytes")
-        found.append(piece)
     return b"".join(found)
 
 

@@ -110,4 +110,4 @@ def main() -> int:
         write_lines(last_turns(run, asked.turns, symbols))
     else:
         write_lines(place_changes(run, place, symbols), "NO CHANGE")
-    return script.status()
+    return script.refusals.status()

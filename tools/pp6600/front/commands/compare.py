@@ -33,7 +33,7 @@ class Side:
     def __init__(self, words: Sequence[str], lines: Sequence[str], symbols: Any = AllSymbols()) -> None:
         self.symbols = symbols
         script = performed(words, symbols.loading(lines))
-        self.run, self.status = Session.of_tape(words, script.tape), script.status
+        self.run, self.status = Session.of_tape(words, script.tape), script.refusals.status
         self.turns = self.run.tape.turns
 
     def at(self, turn: int, has_settings: bool = True) -> Session:

@@ -81,4 +81,4 @@ def main() -> int:
     done = performed(words, numbered(symbols.loading(script_lines(script))), devices_of(asked))
     most_steps = None if asked.all else asked.depth
     write_lines(origin_lines(words, done.tape, place, asked.turn, most_steps, asked.addresses, symbols, asked.why))
-    return done.status()
+    return done.refusals.status()

@@ -206,4 +206,4 @@ def main() -> int:
     else:
         write_lines(last_lines(asked, run, tracer, first, last))
     run.close()
-    return script.status()
+    return script.refusals.status()

@@ -62,4 +62,4 @@ def main() -> int:
     run.close()
     if not is_found:
         write("NONE")
-    return script.status() or int(not is_found)
+    return script.refusals.status() or int(not is_found)

@@ -188,4 +188,4 @@ def main() -> int:
         print("waits: searching; this takes minutes with the simulator in Python", file=sys.stderr, flush=True)
     write_lines(waits(run, symbols), "NO PROCESSOR WAITS", at_once=True)
     run.close()
-    return script.status()
+    return script.refusals.status()

@@ -1,0 +1,1 @@
+"""What the commands of the folder above do, each in a module of its name."""
