@@ -145,13 +145,13 @@ class Errors(Case):
                     self.assertRaises(Failure, Listing, [*lines[:number], changed, *lines[number + 1:]])
 
     def check_each_digit(self, source, first, last):
-        """Checks that a digit in some columns of the listing of a source of which one bit is another is found, or makes no difference."""
+        """Checks that each other digit in some columns of the listing of a source is found, or makes no difference."""
         lines = listing(source)
         wanted = self.words(lines)
         for number, line in enumerate(lines):
             for at in [at for at in range(first, min(last, len(line))) if line[at] in "01234567"]:
-                for bit in (1, 2, 4):
-                    changed = f"{line[:at]}{int(line[at]) ^ bit}{line[at + 1:]}"
+                for digit in set("01234567") - {line[at]}:
+                    changed = f"{line[:at]}{digit}{line[at + 1:]}"
                     with contextlib.suppress(Failure):
                         self.assertEqual(wanted, self.words([*lines[:number], changed, *lines[number + 1:]]), changed)
 
