@@ -22,7 +22,8 @@ static void assembler(void) {
     for (uint32_t form = 0; form < 7; form++) pp6600_assemble((const uint8_t *)SOURCE, sizeof SOURCE - 1, form, text, ROOM, &count, &used);
     pp6600_load_lines((const uint8_t *)"  LDN 5\n", 8, 3, text, ROOM, &count, &used);
     const pp6600_text deck = {(const uint8_t *)"A", 1, (const uint8_t *)SOURCE, sizeof SOURCE - 1};
-    pp6600_assemble_with((const uint8_t *)"          XTEXT  A\n", 19, &deck, 1, PP6600_ROWS, text, ROOM, &count, &used);
+    const pp6600_text texts[] = {{(const uint8_t *)"SYSTEM B", 8, (const uint8_t *)SOURCE, sizeof SOURCE - 1}, deck};
+    pp6600_assemble_with((const uint8_t *)"          XTEXT  A\n", 19, texts, 2, PP6600_ROWS, text, ROOM, &count, &used);
     pp6600_disassemble(cells, 4, &entry, 1, text, ROOM, &count);
 }
 
