@@ -11,12 +11,12 @@ printer_joined = record { device = printer-device; others = no-laws; apart = λ 
 pub reader_joined : AreJoined reader_model (on printer_model no_devices)
 reader_joined = record {
   device = reader-device;
-  others = on-laws printer_model no_devices printer-device no-laws;
+  others = on-laws printer_model no_devices printer_joined;
   apart = λ m c n others. refl;
 }
 
 pub all-laws : AreDevices all_model
-all-laws = on-laws reader_model (on printer_model no_devices) reader-device reader_joined.others
+all-laws = on-laws reader_model (on printer_model no_devices) reader_joined
 
 pub same-devices : (size : ℕ) (m m' : Machine) → IsShaped size m →
     IsShaped size m' → ((p : Place) → Has size p → number m p ≡ number m' p) →

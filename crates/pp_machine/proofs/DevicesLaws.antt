@@ -1,12 +1,15 @@
 -- What holds of the devices of a machine, from the laws of each.
-use Rattle.std.proofs.Common.{ℕ, false, ◌+◌, ◌≡◌, ◌≤◌, ◌∙◌, [], ◌∷◌, ◌++◌, None, length, ap, arith, refl}
+use Rattle.std.proofs.Common.{ℕ, false, ◌+◌, ◌≡◌, ◌≤◌, ◌∙◌, [], ◌∷◌, ◌++◌, None, length, ap, arith, refl, subst, sym}
 use Rattle.std.proofs.lemmas.List.{length-append}
+use Rattle.pp_machine.proofs.ChannelMasks.{has-other, has-own}
 use Rattle.pp_machine.proofs.DeviceLaws.{lifted, lifted-old_values, not_at, watches-kept}
 use Rattle.pp_machine.proofs.{Parts.one-performed, Prelude.length-renamed, Prelude.lookup-append, Prelude.OnRecords, Prelude.Place}
 use Rattle.pp_machine.proofs.Prelude.{IsAttached, IsDevice, of_device, DeviceModel, DeviceView, device_old_values, device_pairs}
 use Rattle.pp_machine.proofs.Prelude.{device_place, device_step_writes, over_device, view_of, with_view, AreDevices, AreOnChannels}
+use Rattle.pp_machine.proofs.Prelude.{AreIdle, AreJoined, ChannelNumbers, attached, with_channels}
 use Rattle.pp_machine.proofs.Prelude.{DevicesModel, FitsOn, no_devices, on, setup-over, ArePerformed, Machine, over}
 use Rattle.pp_machine.proofs.Prelude.{put, Writes, first_of_two, renamed, Has, HasAll, lookup, same_place, AllPlaces-append}
+use Rattle.pp_machine.specs.Inner.{ChannelMasks.AreInactive, ChannelMasks.mask_with, Devices.OnNumbers}
 
 -- a list of other places does not have a place
 not_among : {P : Type 0} (name : P → Place) (ws : Writes P) (p : Place) →
@@ -46,6 +49,7 @@ pub no-laws : AreDevices no_devices
 no-laws = record {
   channels = λ m n. refl;
   apart = λ m n channels. refl;
+  idle = λ m n channels quiet. tt;
   watches = λ s. tt;
   writes_has = λ size s ok. tt;
   pairs_has = λ size r s ok fits. tt;
@@ -54,7 +58,13 @@ no-laws = record {
 }
 
 module _ {Numbers Own Record Others Records : Type 0} (d : DeviceModel Numbers Own Record)
-    (o : DevicesModel Others Records) (device : IsDevice d) (others : AreDevices o) where
+    (o : DevicesModel Others Records) (joined : AreJoined d o) where
+  device : IsDevice d
+  device = joined.device
+
+  others : AreDevices o
+  others = joined.others
+
   on-pairs_has : (size : ℕ) (r : OnRecords Record Records) (s : Machine) → AreOnChannels (d.channel s.setup ∷ o.channels s.setup) →
       FitsOn d o r s → HasAll size (device_pairs d r.channel r.own ++ o.pairs r.others)
   on-pairs_has size r s ok f =
@@ -65,11 +75,30 @@ module _ {Numbers Own Record Others Records : Type 0} (d : DeviceModel Numbers O
   on-at_most r = let here = length-renamed (device_place d r.channel) (d.pairs r.own) in
       simp length-append (omega (arith, device.at_most r.own, others.at_most r.others))
 
+  on-idle : (m : Machine) (n : OnNumbers Numbers Others) (channels : ChannelNumbers) →
+      AreInactive (mask_with (o.mask n.others) n.channel) channels.states → AreIdle (on d o).parts (attached (on d o) m n channels)
+  on-idle m n channels quiet =
+      let s = attached (on d o) m n channels in
+      let bare = with_channels m channels in
+      let on_channel : d.channel s.setup ≡ n.channel =
+      ap (λ (t : Machine). d.channel t.setup) (sym (joined.apart bare n.channel n.device n.others))
+      ∙ device.attached.got_channel _ n.channel n.device in
+      let its_channels : s.channels ≡ channels =
+      others.channels _ n.others ∙ device.attached.channels bare n.channel n.device in
+      let own = quiet n.channel (has-own (o.mask n.others) n.channel) in
+      let after = others.idle (d.attach m n.channel n.device) n.others channels
+      (λ c on. quiet c (has-other (o.mask n.others) n.channel c on)) in (
+        ap (renamed (device_place d (d.channel s.setup)))
+            (device.idle (view_of d (d.channel s.setup) s) (rw (on_channel, its_channels) own)),
+        subst (λ t. AreIdle o.parts (o.attach t n.others)) (device.attached.apart m n.channel n.device channels) after,
+      )
+
   pub on-laws : AreDevices (on d o)
   on-laws = record {
     channels = λ m n. others.channels (d.attach m n.channel n.device) n.others ∙ device.attached.channels m n.channel n.device;
     apart = λ m n channels. others.apart (d.attach m n.channel n.device) n.others channels
         ∙ ap (λ s. o.attach s n.others) (device.attached.apart m n.channel n.device channels);
+    idle = on-idle;
     watches = λ s. (keeps d device.attached s, others.watches (over s (device_step_writes d s)));
     writes_has = λ size s ok. (
       device.writes_has size (d.channel s.setup) (view_of d (d.channel s.setup) s) ok.0,

@@ -1,4 +1,5 @@
 pub mod AllDevices
+pub mod ChannelMasks
 pub mod ChannelRanges
 pub mod DeviceLaws
 pub mod DeviceSteps

@@ -8,7 +8,7 @@ ghost use Rattle.pp_machine.specs.Ranges.{channel_count};
 
 mod all;
 
-use crate::channel::ChannelState;
+use crate::channel_mask::mask_with;
 use crate::channels::Channels;
 use crate::device::Device;
 use crate::olds::Old;
@@ -27,21 +27,27 @@ pub trait Devices: Drop {
     /// What the steps write, what the undo records have, and where a machine has the devices.
     ghost model: { DevicesModel Self Self.Records };
 
+    /// Returns the mask of the devices' channels.
+    fn mask(&self) -> u16
+        ensures { result ≡ model.mask self.now };
+
     /// Returns whether the channel of a device is active. If none is, the devices do nothing.
     fn are_called(&self, channels: &Channels) -> bool
         ensures { result ≡ false → (m : Machine) → AreIdle model.parts (attached model m self.now channels.now) };
 
     /// Makes one step of each device, one after another, and returns the undo records.
     fn step(&mut self, channels: &mut Channels) -> Self::Records
-        ensures { (m : Machine) →
-            AreStepped model (attached model m self.old channels.old) (attached model m self.new channels.new) result };
+        ensures steps { (m : Machine) →
+            AreStepped model (attached model m self.old channels.old) (attached model m self.new channels.new) result }
+        ensures keeps_mask { model.mask self.new ≡ model.mask self.old };
 
     /// Undoes a step of each device, the last one first. The records must fit the devices, as they do right after the
     /// `step` that returned them.
     fn undo(&mut self, back: &Self::Records, channels: &mut Channels)
         requires fits { (m : Machine) × model.Fits back.now (attached model m self.old channels.old) }
         ensures undoes { (m : Machine) →
-            attached model m self.new channels.new ≡ over (attached model m self.old channels.old) (model.pairs back.now) };
+            attached model m self.new channels.new ≡ over (attached model m self.old channels.old) (model.pairs back.now) }
+        ensures keeps_mask { model.mask self.new ≡ model.mask self.old };
 
     /// Returns the old number of a place, or `None` if no record has that place.
     fn was(back: &Self::Records, place: &Place) -> Option<u64>
@@ -63,6 +69,8 @@ pub struct NoDevices;
 #[derive(Drop)]
 pub struct On<D: Device, R: Devices> {
     channel: u8,
+    /// The mask of the channels of this device and of those after it.
+    mask: u16,
     device: D,
     others: R,
 }
@@ -76,7 +84,8 @@ pub struct OnRecords<D, R> {
 }
 
 impl<D: Device, R: Devices> Model for On<D, R> {
-    ghost use Rattle.std.specs.Prelude.{◌<◌};
+    ghost use Rattle.std.specs.Prelude.{◌≡◌, ◌<◌};
+    ghost use Rattle.pp_machine.specs.Inner.ChannelMasks.{mask_with};
     ghost use Rattle.pp_machine.specs.Inner.Devices.{AreJoined, OnNumbers};
     ghost use Rattle.pp_machine.specs.Ranges.{channel_count};
 
@@ -84,7 +93,8 @@ impl<D: Device, R: Devices> Model for On<D, R> {
 
     ghost view = { λ o. record { channel = o.channel; device = o.device; others = o.others } };
 
-    ghost invariant = { λ o. (o.channel < channel_count) × AreJoined D.model R.model };
+    ghost invariant = { λ o. (o.channel < channel_count) × AreJoined D.model R.model
+        × (o.mask ≡ mask_with (R.model.mask o.others) o.channel) };
 }
 
 impl<D: Device, R: Devices> On<D, R> {
@@ -96,6 +106,7 @@ impl<D: Device, R: Devices> On<D, R> {
     {
         On {
             channel,
+            mask: mask_with(others.mask(), channel),
             device,
             others,
         }
@@ -133,6 +144,11 @@ impl Devices for NoDevices {
     ghost model = { no_devices };
 
     #[inline(always)]
+    fn mask(&self) -> u16 {
+        0
+    }
+
+    #[inline(always)]
     fn are_called(&self, _channels: &Channels) -> bool {
         false
     }
@@ -162,11 +178,13 @@ impl<D: Device, R: Devices> Devices for On<D, R> {
     ghost model = { on D.model R.model };
 
     #[inline(always)]
+    fn mask(&self) -> u16 {
+        self.mask
+    }
+
+    #[inline(always)]
     fn are_called(&self, channels: &Channels) -> bool {
-        match channels.get(self.channel).state {
-            ChannelState::Inactive => self.others.are_called(channels),
-            _ => true,
-        }
+        channels.is_one_active(self.mask)
     }
 
     #[inline(always)]

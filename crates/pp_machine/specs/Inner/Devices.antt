@@ -4,7 +4,8 @@ use Rattle.std.specs.List.{AllByRecursion}
 use Rattle.pp_machine.specs.Inner.Attached.{IsDevice, of_device, with_channels}
 use Rattle.pp_machine.specs.Prelude.{ChannelNumbers, Machine, Setup, over, lookup, HasAll, Writes, Place}
 use Rattle.pp_machine.specs.Inner.Device.{DeviceModel, device_pairs, device_step_writes, view_of}
-use Rattle.pp_machine.specs.Inner.PartWrites.{ArePerformed, EachPart}
+use Rattle.pp_machine.specs.Inner.ChannelMasks.{AreInactive, mask_with}
+use Rattle.pp_machine.specs.Inner.PartWrites.{AreIdle, ArePerformed, EachPart}
 use Rattle.pp_machine.specs.{Parts.Part, declared.devices.OnRecords.OnRecords, declared.devices.NoDevices.NoDevices}
 
 -- a device on its channel, and the devices after it
@@ -18,6 +19,8 @@ pub record DevicesModel (Numbers Records : Type 0) : Type 1 where
   -- the channels that they are on, and a machine with the devices replaced
   pub channels : Setup → List ℕ
   pub attach : Machine → Numbers → Machine
+  -- these channels as a mask
+  pub mask : Numbers → ℕ
   -- the steps of the devices
   pub parts : List Part
   -- the old values that their undo records have, how many at most, and when the records can be undone
@@ -36,7 +39,15 @@ AreDistinct (c ∷ cs) = AllByRecursion (λ k. c ≢ k) cs × AreDistinct cs
 
 -- no device
 abbrev pub no_devices : DevicesModel NoDevices NoDevices
-no_devices = record { channels = λ s. []; attach = λ m n. m; parts = []; pairs = λ r. []; most = 0; Fits = λ r s. Unit {0} }
+no_devices = record {
+  channels = λ s. [];
+  attach = λ m n. m;
+  mask = λ n. 0;
+  parts = [];
+  pairs = λ r. [];
+  most = 0;
+  Fits = λ r s. Unit {0};
+}
 
 module _ {Numbers Own Record Others Records : Type 0} (d : DeviceModel Numbers Own Record) (o : DevicesModel Others Records) where
   -- each device's record fits the machine that it is put back into, the last one first
@@ -50,6 +61,7 @@ module _ {Numbers Own Record Others Records : Type 0} (d : DeviceModel Numbers O
   on = record {
     channels = λ s. d.channel s ∷ o.channels s;
     attach = λ m n. o.attach (d.attach m n.channel n.device) n.others;
+    mask = λ n. mask_with (o.mask n.others) n.channel;
     parts = device_step_writes d ∷ o.parts;
     pairs = λ r. device_pairs d r.channel r.own ++ o.pairs r.others;
     most = d.most + o.most;
@@ -71,6 +83,8 @@ module _ {Numbers Records : Type 0} (o : DevicesModel Numbers Records) where
     pub channels : (m : Machine) (n : Numbers) → (o.attach m n).channels ≡ m.channels
     pub apart : (m : Machine) (n : Numbers) (channels : ChannelNumbers) →
         with_channels (o.attach m n) channels ≡ o.attach (with_channels m channels) n
+    pub idle : (m : Machine) (n : Numbers) (channels : ChannelNumbers) →
+        AreInactive (o.mask n) channels.states → AreIdle o.parts (attached m n channels)
     pub watches : (s : Machine) → EachPart (λ part m. (over m (part m)).watches ≡ m.watches) o.parts s
     pub writes_has : (size : ℕ) (s : Machine) → AreOnChannels (o.channels s.setup) →
         EachPart (λ part m. HasAll size (part m)) o.parts s

@@ -1,3 +1,4 @@
+use Rattle.std.proofs.Common.{refl}
 use Rattle.pp_machine.proofs.Joined.{channel_fits, device_fits, undone}
 use Rattle.pp_machine.proofs.devices.OnDevices.undo.Goals as goal
 
@@ -23,4 +24,5 @@ returns g c =
           c.self.inside.others c.undo.new.self c.args.channels.now c.undo.new.channels taken.result c.args.back.now
           c.undo-2.new.self c.set.new.self c.undo-2.new.channel taken.ensures.state
           taken.ensures.word c.set.ensures c.undo-2.ensures.undoes at c.undo.ensures.undoes;
+      keeps_mask = rw c.undo.ensures.keeps_mask refl;
     })
