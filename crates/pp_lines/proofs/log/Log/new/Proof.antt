@@ -1,6 +1,6 @@
 -- `new` returns a value of size zero whose ghost list is empty.
-use Rattle.pp_lines.proofs.Walks.{refl, [], ◌∷◌, false, Ura, Val, vstruct, vcons, vnil, SProp, Memory, Routine, WpFn, Tables, Logic, Fun}
-use Rattle.pp_lines.proofs.Walks.{tables, tables_of, WpFn-mono, raw, ◌$◌, ◌∵◌, !, qed, keep, join, suffices, done, no_more}
+use Rattle.pp_lines.proofs.Walks.{refl, [], ◌∷◌, false, Ura, Val, vstruct, vcons, vnil, SProp, Memory, Routine, WpFn, Tables, Logic}
+use Rattle.pp_lines.proofs.Walks.{Fun, tables, tables_of, WpFn-mono, raw, ◌$◌, ◌∵◌, !, qed, keep, join, suffices, done, no_more}
 use Rattle.pp_lines.proofs.Walks.{and_then, returns, enter, agg, alloc_all, pass_all, free_all, look_at, get, sets, pure_i, nothing}
 use Rattle.pp_lines.proofs.Walks.{on_entry, Meets, triple_of, entered, says, ends_at, walked, walk_Meets}
 use Rattle.pp_lines.specs.declared.log.Log.{Log}
@@ -27,8 +27,8 @@ meets {𝓤 = 𝓤} 𝓛 at_mem run 𝓣 = walk_Meets 𝓛 it.ended tt tt (it.cl
     returns ! (look_at ! 0 refl) $ free_all ! refl $
     pure_i ! ((T.the_row).own_val r (v ∷ []))
     ((λ vss. (tt, ((λ uss. (tt, tt)), tt))), tt) (((vstruct vnil ∷ [], tt), (refl, ((tt, (refl, tt)), tt))), tt) $
-    suffices ! _ (ends_at 𝓛 it.ended tt (it.clauses 𝓛 at_mem run) ((κs, qs, bounds, a, tt), g) v r tt tt) $ says ! (refl, refl, refl) $
-    nothing ! $ join ! $ nothing ! $ done !)))
+    suffices ! _ (ends_at 𝓛 it.ended tt (it.clauses 𝓛 at_mem run) ((κs, qs, bounds, a, tt), g) v r tt tt) $
+    says ! (refl, refl, refl) $ nothing ! $ join ! $ nothing ! $ done !)))
 
 pub new_spec : {M : Type 1} → stated.statement M
 unfolding tables_of

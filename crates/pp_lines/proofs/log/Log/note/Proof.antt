@@ -16,7 +16,10 @@ use Rattle.pp_lines.proofs.log.Log.note.Statement as stated
 use Rattle.pp_lines.proofs.log.Log.note.Code as code
 
 abbrev stayed : Stays (it.ended).signature.params (it.ended).kept
-stayed = (stay_ref (0 ∷ []) tt (plain (λ _. T.the_row)), (stay_none_slice (1 ∷ []) tt (plain (λ _. u8)) yes, (stay_none (λ _. usize) yes, tt)))
+stayed = (
+  stay_ref (0 ∷ []) tt (plain (λ _. T.the_row)),
+  (stay_none_slice (1 ∷ []) tt (plain (λ _. u8)) yes, (stay_none (λ _. usize) yes, tt)),
+)
 
 meets : {M : Type 1} {𝓤 : Ura M} (𝓛 : Logic 𝓤) → (at_mem : Memory → SProp 𝓤) (run : Routine → Fun 𝓤) (𝓣 : Tables 𝓤 𝓛.H)
     → Meets 𝓛 it.signature (WpFn 𝓤 𝓛.H 𝓣.C 𝓣.Λ code.function) (it.spec 𝓛 at_mem run)
@@ -25,7 +28,8 @@ meets {𝓤 = 𝓤} 𝓛 at_mem run 𝓣 = walk_Meets 𝓛 it.ended stayed (
   (Goes-none_slice 𝓛 2 (1 ∷ []) tt (plain (λ _. u8)) yes, (Goes-none 𝓛 2 (λ _. usize) yes (λ κs x w. refl), tt)),
 ) (it.clauses 𝓛 at_mem run) (WpFn 𝓤 𝓛.H 𝓣.C 𝓣.Λ code.function)
     (WpFn-mono 𝓤 𝓛.H 𝓛.laws 𝓣 code.function)
-    (walked 𝓛 it.ended stayed (it.clauses 𝓛 at_mem run) (WpFn 𝓤 𝓛.H 𝓣.C 𝓣.Λ code.function) (λ κs. (mut_vals, (shr_slice_vals, (uint_vals w64, tt))))
+    (walked 𝓛 it.ended stayed (it.clauses 𝓛 at_mem run) (WpFn 𝓤 𝓛.H 𝓣.C 𝓣.Λ code.function)
+    (λ κs. (mut_vals, (shr_slice_vals, (uint_vals w64, tt))))
     (λ κs. (mut_Tells (named 0) κs.0 T.the_row, (shr_slice_Tells (named 1) κs.1.0 u8, (uint_Tells w64, tt))))
     (λ κs qs bounds a g are. via 𝓤 _ (fst∗ 𝓤 _ (emp 𝓤)) (
     let place : Val = vptr a.0.ref_ptr.0 a.0.ref_ptr.1 in let text : Val = slice_val a.1.0.ref_ptr (length a.1.0.now) in
@@ -36,16 +40,19 @@ meets {𝓤 = 𝓤} 𝓛 at_mem run 𝓣 = walk_Meets 𝓛 it.ended stayed (
       calls = Some (take a.1.1.0 a.1.0.now) ∷ a.0.now.calls;
     } in let count : Val = vint w64 a.1.1.0 in
     qed 𝓛 ((‵ (flft κs.0 qs.0) ⊛ (‵ (flft κs.1.0 qs.1.0) ⊛ ‵ ftrue)) ∷
-    ‵ (owns (MutRef (named 0) κs.0 T.the_row ∷ ShrSlice (named 1) κs.1.0 u8 ∷ usize ∷ []) a (place ∷ [], (text ∷ [], (count ∷ [], tt)))) ∷ []) ∵
+    ‵ (owns (MutRef (named 0) κs.0 T.the_row ∷ ShrSlice (named 1) κs.1.0 u8 ∷ usize ∷ []) a
+    (place ∷ [], (text ∷ [], (count ∷ [], tt)))) ∷ []) ∵
     split ! $ move ! (2 ∷ []) $ fsplit ! $ fsplit3 ! $ drop ! $ move ! (0 ∷ 1 ∷ 3 ∷ []) $
     enter ! 𝓣.C 𝓣.Λ code.function (place ∷ text ∷ count ∷ []) _ $
-    alloc_all ! (λ l. pass_all ! refl ((tt, tt), ((tt, (tt, (record { fits = are.1.0.0.1.0 }, tt))), ((tt, record { fits = are.1.1.0.1 }), tt))) $
+    alloc_all ! (λ l. pass_all ! refl
+    ((tt, tt), ((tt, (tt, (record { fits = are.1.0.0.1.0 }, tt))), ((tt, record { fits = are.1.1.0.1 }), tt))) $
     move ! (0 ∷ 1 ∷ 2 ∷ []) $
     opens ! tt T.the_row {h = a.0.now} a.0.ref_ptr.0 a.0.ref_ptr.1 (λ vs. sets ! (of_opd ! (unit_lit !)) refl (tt, tt) $
     move ! (1 ∷ []) $ use1 𝓛 (‵ ((T.the_row).own_val after vs)) (id⊢ 𝓤 _) $
     move ! (1 ∷ 0 ∷ []) $ closes ! tt T.the_row after vs a.0.ref_ptr.0 a.0.ref_ptr.1 $
     returns ! (look_at ! 0 refl) $ free_all ! refl $ keep ! (0 ∷ 1 ∷ 2 ∷ 3 ∷ 4 ∷ []) $
-    suffices ! _ (ends_at 𝓛 it.ended stayed (it.clauses 𝓛 at_mem run) ((κs, qs, tt, a, (place ∷ [], (text ∷ [], (count ∷ [], tt)))), tt) vunit tt
+    suffices ! _ (ends_at 𝓛 it.ended stayed (it.clauses 𝓛 at_mem run)
+    ((κs, qs, tt, a, (place ∷ [], (text ∷ [], (count ∷ [], tt)))), tt) vunit tt
     (after, (tt, (tt, tt))) (tt, (tt, (tt, tt)))) $ says ! (refl, refl, refl) $ move ! (2 ∷ 4 ∷ []) $ join ! $
     frame ! $ feq_i ! (List Val) (place ∷ []) (place ∷ []) refl $ fjoin3 ! $ fjoin ! $
     feq_i ! (List Val) (vunit ∷ []) (vunit ∷ []) refl $ move ! (1 ∷ 0 ∷ []) $ done !)))))
