@@ -1,18 +1,18 @@
 // ---- the assembler of the page: what is typed as words, messages and a listing, the lines that load it, and what the page knows
 // of it
 
-import { ofLines, untabbed } from "../machine/lines.js";
+import { untabbed } from "../machine/lines.js";
 import { CELLS, octal } from "../machine/places.js";
 import { Assembler } from "../engine/library.mjs";
 
-const WRITTEN = { COMPLAINTS: 0, LISTING: 2, LINES: 3, NAMES: 4 }; // the forms of pp6600_assemble
+const WRITTEN = { COMPLAINTS: 0, LISTING: 2, LINES: 3, NAMES: 4, UNITS: 6 }; // the forms of pp6600_assemble
+const WORDS_OF_LINE = 8; // of a SET line
 const NEAR = 0o77; // how far after a label that has no word, as that of a buffer, an address without one is named by it
 const LJM = 0o0100, RJM = 0o0200; // without an index
 export const NEW_SOURCE =
   "          BASE   OCTAL\n          ORG    100\n START    LDN    0\n          UJN    *\n          END    START\n";
 
 const linesOf = (text) => text.replace(/\n$/, "").split("\n");
-const numbered = (text, name = "") => linesOf(text).map((line, at) => ({ text: line, line: at + 1, name }));
 
 // A row of the listing that has words: the number of the source's line, its location, its origin, its words.
 function rowOfWords(text) {
@@ -20,40 +20,59 @@ function rowOfWords(text) {
   return { number, location: location % CELLS, origin: origin % CELLS, words };
 }
 
-// A message with its line and column, and the name of a text that comes before the source. The library counts bytes, and the page
-// letters.
+// A message with its line and column. The library counts bytes, and the page letters; and here a folder can't be named.
 function messageOf(message, isFault, lines) {
-  const [, at, column, text] = /^(\d+):(\d+): (.*)$/s.exec(message), { name, line, text: own } = lines[at - 1] ?? lines.at(-1);
-  const before = new TextEncoder().encode(own).subarray(0, column - 1);
-  return { name, line, column: new TextDecoder().decode(before).length + 1, text, isFault };
+  const [, at, column, text] = /^(\d+):(\d+): (.*)$/s.exec(message), line = Number(at);
+  const before = new TextEncoder().encode(lines[line - 1] ?? "").subarray(0, column - 1);
+  return { line, column: new TextDecoder().decode(before).length + 1, isFault,
+    text: text.replace(/^the folder of common decks has no (\S+)|^(\S+) is a common deck: name the folder .* --text DIR/, (_, ...names) =>
+      `${names[0] ?? names[1]} is a common deck: drop it on the editor`) };
+}
+
+// The names of the common decks that lines read.
+function decksIn(text) {
+  const reads = text.toUpperCase().split("\n").filter((line) => /^\*CALL\s|\sXTEXT\s/.test(line));
+  return reads.flatMap((line) => line.split(/\s+/));
+}
+
+// The lines that load the first program of the lines of UNITS into processor n.
+function setLines(lines, n) {
+  const end = lines.findIndex((line) => line.startsWith("IDENT ")), own = end < 0 ? lines : lines.slice(0, end), runs = [];
+  for (const [first, word] of own.map((line) => line.split(" ")).filter(([first]) => first !== "P")) {
+    const address = parseInt(first, 8), run = runs.at(-1), isNext = run && run.address + run.words.length === address;
+    if (isNext && run.words.length < WORDS_OF_LINE) run.words.push(octal(parseInt(word, 8)));
+    else runs.push({ address, words: [octal(parseInt(word, 8))] });
+  }
+  const start = own.filter((line) => line.startsWith("P ")).map((line) => `SET P ${n} ${octal(parseInt(line.slice(2), 8))}`);
+  return [...runs.map(({ address, words }) => `SET M ${n} ${octal(address)} ${words.join(" ")}`), ...start];
 }
 
 export class Assembling {
-  // The texts of a system and of common decks come before what is assembled: their names and macros are there, and their lines are
-  // not counted.
+  // The texts that were dropped on the editor, by the names of their files.
   constructor(calls, texts = []) { Object.assign(this, { assembler: new Assembler(calls), texts: new Map(texts) }); }
 
-  linesBefore() {
-    return [...this.texts].flatMap(([name, text]) => numbered(text, name)).filter(({ text }) => !/^\s+(IDENT|END)\b/.test(text));
+  // The texts for the library: those that a line reads by their names are common decks, and the others are system texts.
+  textsFor(source) {
+    const read = new Set([source, ...this.texts.values()].flatMap(decksIn));
+    return [...this.texts].map(([file, text]) => {
+      const whole = file.toUpperCase(), deck = [whole, whole.split(".")[0]].find((name) => read.has(name));
+      return [deck ?? `SYSTEM ${file.replaceAll("\n", " ")}`, text];
+    });
   }
 
-  written(call, text, number) {
-    return this.assembler.written(call, ofLines(this.linesBefore().map((line) => line.text)) + text, number);
-  }
+  written(text, form) { return this.assembler.written("assemble_with", text, form, this.textsFor(text)); }
 
   // Returns the messages of a source, and the rows with words if nothing is wrong.
   assembled(text) {
-    const before = this.linesBefore(), all = [...before, ...numbered(text)];
-    const { lines: complaints, faults } = this.written("assemble", text, WRITTEN.COMPLAINTS);
-    const messages = complaints.map((line, at) => messageOf(line, at < faults, all));
+    const lines = linesOf(text), { lines: complaints, faults } = this.written(text, WRITTEN.COMPLAINTS);
+    const messages = complaints.map((line, at) => messageOf(line, at < faults, lines));
     if (faults) return { messages, rows: [], listing: "" };
-    const rows = this.written("assemble", text, WRITTEN.LINES).lines.map(rowOfWords).filter(({ number }) => number > before.length);
-    return { messages, rows: rows.map((row) => ({ ...row, number: row.number - before.length })),
-      listing: this.written("assemble", text, WRITTEN.LISTING).lines.join("\n") };
+    return { messages, rows: this.written(text, WRITTEN.LINES).lines.map(rowOfWords),
+      listing: this.written(text, WRITTEN.LISTING).lines.join("\n") };
   }
 
-  loadLines(text, n) { return this.written("load_lines", text, n).lines; }
-  labelsOf(text, rows) { return labelsOf(linesOf(text), rows, this.written("assemble", text, WRITTEN.NAMES).lines); }
+  loadLines(text, n) { return setLines(this.written(text, WRITTEN.UNITS).lines, n); }
+  labelsOf(text, rows) { return labelsOf(linesOf(text), rows, this.written(text, WRITTEN.NAMES).lines); }
 }
 
 // A source as a film knows it, from its text and its rows.

@@ -29,8 +29,7 @@ export class Editor extends Part {
     this.show(n, kept(this.nameOf(n)) ?? (own === null ? NEW_SOURCE : `${own}\n`));
   }
 
-  // The texts of a system, and common decks: their names and macros are known to what is assembled.
-  // Without a text the one with this name goes.
+  // A text that was dropped: a system text or a common deck. Without a text the one with this name goes.
   setText(name, text = null) {
     const { texts } = this.assembling, { editor } = this.state;
     if (text === null) texts.delete(name);

@@ -8,15 +8,14 @@ import { PLAIN, PROCESSOR_CHOICES, pane, select } from "./parts.js";
 
 // The numbers of the lines, decimal, with a sign at the one that is next and a colour at those with a message.
 function gutter(count, messages, next) {
-  const wrong = new Map(messages.filter(({ name }) => !name).reverse().map((one) => [one.line, one.isFault ? "bad" : "warn"]));
+  const wrong = new Map([...messages].reverse().map((one) => [one.line, one.isFault ? "bad" : "warn"]));
   return range(count).map((at) => h("span", { class: at + 1 === next ? "next" : wrong.get(at + 1) || "" },
     `${at + 1 === next ? "▶" : " "}${String(at + 1).padStart(3)}\n`));
 }
 
-function message({ name, line, column, text, isFault }) {
-  const at = `${line}:${column}: ${text}`;
-  const shown = name ? `${name}:${at}` : h("button", { "data-line-at": `${line} ${column}` }, at);
-  return h("li", { class: isFault ? "wrong" : "warning" }, shown);
+function message({ line, column, text, isFault }) {
+  return h("li", { class: isFault ? "wrong" : "warning" },
+    h("button", { "data-line-at": `${line} ${column}` }, `${line}:${column}: ${text}`));
 }
 
 export function editorPane(state) {
