@@ -131,10 +131,10 @@ impl Pass {
         if operand.is_empty() {
             return Ok(0);
         }
-        let base = self.scope.base;
-        self.scope.base = Some(Base::Decimal);
+        let base = self.scope.counters.base;
+        self.scope.counters.base = Some(Base::Decimal);
         let count = self.scope.count(here, operand, 0);
-        self.scope.base = base;
+        self.scope.counters.base = base;
         Ok(usize::try_from(count?).unwrap_or(0))
     }
 

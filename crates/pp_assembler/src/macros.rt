@@ -98,7 +98,7 @@ impl Pass {
             operands: self.keep_operands(here, operands, has_names)?,
             has_names,
             body,
-            from: self.scope.performed,
+            from: self.scope.output.performed,
             until: u32::MAX,
         };
         Ok(self.vocabulary.macros.push(kept)?)

@@ -151,7 +151,7 @@ fn is_name(label: &[u8]) -> bool {
 /// Returns what the names of the listing stand for, if each statement has a meaning.
 fn names_of(alloc: Global, lines: &Lines, pass: &Pass) -> Result<Option<Names>, AllocError> {
     let mut names = Names::new(alloc);
-    for row in &pass.scope.rows {
+    for row in &pass.scope.output.rows {
         let (fields, operation) = match part_of(pass, lines, row) {
             Part::Silent => continue,
             Part::Other => return Ok(None),
@@ -195,7 +195,7 @@ fn literal_address(operation: Meant, words: &[u16], index: usize) -> Option<usiz
 /// Returns the literals, which the listing has after the statements.
 fn literals_of(alloc: Global, pass: &Pass) -> Result<Vec<Literal>, AllocError> {
     let mut literals = Vec::new(alloc);
-    for row in &pass.scope.rows {
+    for row in &pass.scope.output.rows {
         if row.statement == NO_STATEMENT {
             let mut words = Vec::new(alloc);
             for word in words_of_row(pass, row) {
@@ -210,7 +210,7 @@ fn literals_of(alloc: Global, pass: &Pass) -> Result<Vec<Literal>, AllocError> {
 
 /// Returns the words of a row.
 fn words_of_row<'a>(pass: &'a Pass, row: &Row) -> &'a [u16] {
-    pass.scope.words.get(row.first..row.end).unwrap_or(&[])
+    pass.scope.output.words.get(row.first..row.end).unwrap_or(&[])
 }
 
 /// Returns the terms of operands, between two of which is a comma.
@@ -346,12 +346,12 @@ fn statements_of(
     pass: &Pass,
     names: Names,
 ) -> Result<Option<Performed>, AllocError>
-    ensures { IfOk result (λ made. IfSome made (λ performed. ArePerformed lines.now pass.now.scope.rows.items performed)) }
+    ensures { IfOk result (λ made. IfSome made (λ performed. ArePerformed lines.now pass.now.scope.output.rows.items performed)) }
 {
     let mut names = names;
     let mut statements = Vec::new(alloc);
     let mut indices = Vec::new(alloc);
-    for row in &pass.scope.rows {
+    for row in &pass.scope.output.rows {
         if !row.is_performed {
             continue;
         }
@@ -381,9 +381,9 @@ fn statements_of(
 
 /// Returns the statements that a pass has performed, if nothing is wrong and all have a meaning.
 fn performed_of(alloc: Global, lines: &Lines, pass: &Pass) -> Result<Option<Performed>, AllocError>
-    ensures { IfOk result (λ made. IfSome made (λ performed. ArePerformed lines.now pass.now.scope.rows.items performed)) }
+    ensures { IfOk result (λ made. IfSome made (λ performed. ArePerformed lines.now pass.now.scope.output.rows.items performed)) }
 {
-    if !pass.scope.messages.is_empty() || !pass.vocabulary.synonyms.is_empty() {
+    if !pass.scope.output.messages.is_empty() || !pass.vocabulary.synonyms.is_empty() {
         return Ok(None);
     }
     match names_of(alloc, lines, pass)? {
@@ -474,12 +474,12 @@ pub enum Found {
 /// # Errors
 /// Memory ran out.
 pub fn encode_performed(alloc: Global, lines: &Lines, pass: &Pass) -> Result<Found, AllocError>
-    ensures { IfOk result (IsFound lines.now pass.now.scope.rows.items) }
+    ensures { IfOk result (IsFound lines.now pass.now.scope.output.rows.items) }
 {
     let Some(performed) = performed_of(alloc, lines, pass)? else {
         return Ok(Found::Nothing);
     };
-    let [unit] = pass.scope.units.as_slice() else {
+    let [unit] = pass.scope.programs.ended.as_slice() else {
         return Ok(Found::Nothing);
     };
     let cells = lines_of_cells(alloc, unit.program.cells())?;
@@ -489,7 +489,7 @@ pub fn encode_performed(alloc: Global, lines: &Lines, pass: &Pass) -> Result<Fou
         statements,
         ..
     } = &performed;
-    let count = pass.scope.words.len();
+    let count = pass.scope.output.words.len();
     match encoding_of(alloc, symbols, literals, statements, &cells, count) {
         Ok((program, words)) => Ok(Found::Words(Encoded {
             performed,

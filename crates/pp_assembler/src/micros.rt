@@ -58,7 +58,7 @@ impl Pass {
             return Ok(Some(text));
         }
         let text: &[u8] = match word {
-            b"BASE" if matches!(self.scope.base, Some(Base::Octal | Base::Mixed)) => b"O",
+            b"BASE" if matches!(self.scope.counters.base, Some(Base::Octal | Base::Mixed)) => b"O",
             b"BASE" | b"CODE" => b"D",
             b"QUAL" => {
                 let text = self.vocabulary.keep(self.scope.symbols.qualifier())?;

@@ -20,7 +20,7 @@ use pp_notation::{Program, Slot, program_of};
 use pp_source::{
     Decks, Fault, Lines, Message, Span, Symbols, Text, Vocabulary, Wording, cut_lines, read_lines,
 };
-use pp_statements::{Blocks, Scope, Unit};
+use pp_statements::{Blocks, Programs, Scope};
 use std::alloc::{AllocError, Global};
 use std::mem::replace;
 
@@ -67,7 +67,7 @@ pub fn assemble_with(alloc: Global, source: &[u8], texts: &[Text]) -> Result<Ass
     if let Found::Refused(message) = &found
         && !has_system(&decks)
     {
-        pass.scope.messages.push(*message)?;
+        pass.scope.output.messages.push(*message)?;
     }
     let Pass {
         scope,
@@ -107,19 +107,19 @@ fn readings_of(
 ) -> Result<Vec<Reading>, AllocError>
     ensures taken { IfOk result (λ readings. AllByRecursion (IsReading lines.now decks.now.all.items) readings.items) }
     ensures read { IfOk result (λ readings.
-        AllByRecursion (IsRead lines.now decks.now.all.items pass.new.vocabulary readings.items) pass.new.scope.rows.items) }
+        AllByRecursion (IsRead lines.now decks.now.all.items pass.new.vocabulary readings.items) pass.new.scope.output.rows.items) }
 {
     let readings = replace(&mut pass.readings, Vec::new(alloc));
     if are_readings(lines, decks, &readings)
-        && are_read(lines, decks, &pass.vocabulary, &readings, &pass.scope.rows)
+        && are_read(lines, decks, &pass.vocabulary, &readings, &pass.scope.output.rows)
     {
         return Ok(readings);
     }
-    if pass.scope.messages.is_empty() {
+    if pass.scope.output.messages.is_empty() {
         let message = Message::new(1, 1, usize::MAX, Fault::new(Wording::NotEncoded));
-        pass.scope.messages.push(message)?;
+        pass.scope.output.messages.push(message)?;
     }
-    pass.scope.rows = Vec::new(alloc);
+    pass.scope.output.rows = Vec::new(alloc);
     Ok(Vec::new(alloc))
 }
 
@@ -135,14 +135,14 @@ fn last_pass(alloc: Global, lines: &mut Lines, decks: &Decks) -> Result<Pass, Al
             Ok(()) => {}
             Err(Ending::NoMemory) => return Err(AllocError),
             Err(Ending::At(message)) => {
-                pass.scope.messages.clear();
-                pass.scope.messages.push(message)?;
+                pass.scope.output.messages.clear();
+                pass.scope.output.messages.push(message)?;
                 return Ok(pass);
             }
         }
     }
     let message = Message::new(1, 1, usize::MAX, Fault::new(Wording::Unsettled));
-    pass.scope.messages.push(message)?;
+    pass.scope.output.messages.push(message)?;
     Ok(pass)
 }
 
@@ -167,14 +167,14 @@ fn assembly_of(
 ) -> Result<Assembly, AllocError>
     ensures messages { IfOk result (λ made. All (IsOfLine (map length_of spans.now)) made.messages.items) }
     ensures warnings { IfOk result (λ made. All (IsOfLine (map length_of spans.now)) made.warnings.items) }
-    ensures meaning { IsFound read.lines scope.rows.items found → IfOk result IsMeant }
+    ensures meaning { IsFound read.lines scope.output.rows.items found → IfOk result IsMeant }
     ensures decks { (texts : List DeckText) → AreOf texts read.decks.all.items →
         AllByRecursion (IsReading read.lines read.decks.all.items) read.readings.items →
-        AllByRecursion (IsRead read.lines read.decks.all.items read.vocabulary read.readings.items) scope.rows.items →
+        AllByRecursion (IsRead read.lines read.decks.all.items read.vocabulary read.readings.items) scope.output.rows.items →
         IfOk result (AreRead texts) }
 {
-    let wrong = Vec::from_slice(alloc, &scope.messages)?;
-    let noticed = Vec::from_slice(alloc, &scope.warnings)?;
+    let wrong = Vec::from_slice(alloc, &scope.output.messages)?;
+    let noticed = Vec::from_slice(alloc, &scope.output.warnings)?;
     let made = without_messages(alloc, read, scope, found)?;
     let messages = match made.meaning {
         Some(_) => Vec::new(alloc),
@@ -197,33 +197,30 @@ fn without_messages(
 ) -> Result<Assembly, AllocError>
     ensures decks { (texts : List DeckText) → AreOf texts read.decks.all.items →
         AllByRecursion (IsReading read.lines read.decks.all.items) read.readings.items →
-        AllByRecursion (IsRead read.lines read.decks.all.items read.vocabulary read.readings.items) scope.rows.items →
+        AllByRecursion (IsRead read.lines read.decks.all.items read.vocabulary read.readings.items) scope.output.rows.items →
         IfOk result (AreRead texts) }
-    ensures meaning { IsFound read.lines scope.rows.items found →
+    ensures meaning { IsFound read.lines scope.output.rows.items found →
         IfOk result (λ made. IfSome made.meaning (AreMeant made.lines made.rows.items made.program made.words.items)) }
 {
     let Scope {
-        mut units,
-        cells,
-        start,
-        words: passed,
         symbols,
-        rows,
+        output,
+        mut programs,
         ..
     } = scope;
-    let first = first_program(alloc, &mut units, &cells, start)?;
-    let (program, words, meaning) = output_of(found, first, passed);
+    let first = first_program(alloc, &mut programs, &output.cells)?;
+    let (program, words, meaning) = output_of(found, first, output.words);
     Ok(Assembly {
         program,
         meaning,
-        others: units,
+        others: programs.ended,
         lines: read.lines,
         decks: read.decks,
         readings: read.readings,
         symbols,
         vocabulary: read.vocabulary,
         words,
-        rows,
+        rows: output.rows,
         messages: Vec::new(alloc),
         warnings: Vec::new(alloc),
     })
@@ -241,14 +238,13 @@ fn known_of(made: &Assembly) -> Known<'_> {
 /// Returns the program of the first unit, or that of these cells if there is none.
 fn first_program(
     alloc: Global,
-    units: &mut Vec<Unit>,
+    programs: &mut Programs,
     cells: &[Slot],
-    start: Option<u16>,
 ) -> Result<Program, AllocError> {
-    if units.is_empty() {
-        return program_of(alloc, cells, start);
+    if programs.ended.is_empty() {
+        return program_of(alloc, cells, programs.start);
     }
-    Ok(units.remove(0).program)
+    Ok(programs.ended.remove(0).program)
 }
 
 /// Returns the program and the words that the statements mean, if these have been found, or else those that a pass has made.

@@ -164,7 +164,7 @@ impl Pass {
         let words = &mut self.vocabulary;
         let name = words.keep(statement.location.of(here.text))?;
         if let Some(one) = words.macro_of(old) {
-            let from = self.scope.performed;
+            let from = self.scope.output.performed;
             words.macros.push(Macro { name, from, ..one })?;
         } else {
             let text = match operation_of(old) {
@@ -182,7 +182,7 @@ impl Pass {
         words.meaning(&words.synonyms, operand.of(here.text)).ok_or(
             Fault::new(Wording::NoOperation)
                 .part(operand)
-                .with(Argument::NearestOperation(operand, self.scope.performed))
+                .with(Argument::NearestOperation(operand, self.scope.output.performed))
                 .at(operand.first),
         )
     }
@@ -198,7 +198,7 @@ impl Pass {
     fn purge(&mut self, here: &Here, statement: Statement) -> Outcome {
         let names = statement.operand.of(here.text);
         for name in names.split(|symbol| *symbol == b',') {
-            self.vocabulary.purge(name, self.scope.performed);
+            self.vocabulary.purge(name, self.scope.output.performed);
         }
         self.scope.plain_row(here, false)
     }

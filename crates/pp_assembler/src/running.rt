@@ -54,7 +54,7 @@ impl Pass {
         lines.forget_made();
         let source = lines.source;
         self.run_all(lines, decks, Span::new(0, source.first))?;
-        self.scope.rows.clear();
+        self.scope.output.rows.clear();
         for index in 0..decks.all.len() {
             if let Some(text) = decks.system_text(index) {
                 self.run_text(lines, decks, text)?;
@@ -63,7 +63,7 @@ impl Pass {
         }
         self.scope.symbols.begin_source();
         self.run_text(lines, decks, source)?;
-        if self.scope.has_ended {
+        if self.scope.programs.has_ended {
             return Ok(());
         }
         let ended = self.scope.end_unit(&Here::new(lines, self.at));
@@ -73,7 +73,7 @@ impl Pass {
     /// Performs the lines of a text, and at its end those of RMT.
     fn run_text(&mut self, lines: &mut Lines, decks: &Decks, text: Span) -> Result<(), Ending> {
         self.run_all(lines, decks, text)?;
-        if self.scope.has_ended {
+        if self.scope.programs.has_ended {
             return Ok(());
         }
         match self.all_remote(lines) {
@@ -208,7 +208,7 @@ impl Pass {
         for index in span.first..span.end {
             self.at = index;
             self.scope.plain_row(&Here::new(lines, index), false)?;
-            if let Some(row) = self.scope.rows.last_mut() {
+            if let Some(row) = self.scope.output.rows.last_mut() {
                 row.is_performed = false;
             }
         }
@@ -270,7 +270,7 @@ impl Pass {
     fn present_statement(&mut self, lines: &Lines) -> Outcome<Option<Statement>> {
         let here = Here::new(lines, self.at);
         match self.statement(&here)? {
-            Some(statement) if self.scope.has_ended => self.scope.after_end(&here, statement)?,
+            Some(statement) if self.scope.programs.has_ended => self.scope.after_end(&here, statement)?,
             Some(statement) => {
                 is_known(&here, statement)?;
                 return Ok(Some(statement));

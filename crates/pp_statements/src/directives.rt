@@ -54,13 +54,13 @@ impl Scope {
         let operand = the_only(here, statement)?;
         let count = self.count(here, operand, -(CELLS as i64))?;
         self.plain_row(here, true)?;
-        let location = self.location.wrapping_add(count);
-        self.move_to(self.origin.wrapping_add(count), location);
+        let location = self.counters.location.wrapping_add(count);
+        self.move_to(self.counters.origin.wrapping_add(count), location);
         if count < 0 {
             let fault = Fault::new(Wording::SpaceGoesBack);
             let fault = fault.octal(count.wrapping_neg());
             self.warn(here, statement.operand.first, fault)?;
-            self.over_from = Some(self.origin);
+            self.output.over_from = Some(self.counters.origin);
         }
         Ok(())
     }
@@ -76,7 +76,7 @@ impl Scope {
             self.use_block(b"")?;
         }
         self.move_to(number, number);
-        self.over_from = Some(self.origin);
+        self.output.over_from = Some(self.counters.origin);
         self.plain_row(here, true)?;
         self.label(here, statement)
     }
@@ -85,7 +85,7 @@ impl Scope {
     pub fn set_location(&mut self, here: &Here, statement: Statement) -> Outcome {
         let operand = the_only(here, statement)?;
         let number = self.count(here, operand, 0)?;
-        self.move_to(self.origin, number);
+        self.move_to(self.counters.origin, number);
         self.plain_row(here, true)?;
         self.label(here, statement)
     }
@@ -175,12 +175,12 @@ impl Scope {
         let operand = statement.operand.of(here.text);
         let end = find(operand, 0, b',').unwrap_or(operand.len());
         let name = operand.get(..end).unwrap_or(b"");
-        if self.has_name {
+        if self.programs.has_name {
             self.end_unit(here)?;
             self.begin_unit(name)?;
         }
-        self.has_name = true;
-        self.unit_name = Vec::from_slice(self.alloc, name)?;
+        self.programs.has_name = true;
+        self.programs.name = Vec::from_slice(self.alloc, name)?;
         self.plain_row(here, false)
     }
 
@@ -188,15 +188,15 @@ impl Scope {
     pub fn set_base(&mut self, here: &Here, statement: Statement) -> Outcome {
         let word = statement.operand.of(here.text);
         let before = if matches!(word, b"*") {
-            self.bases.pop()
+            self.counters.bases.pop()
         } else {
             None
         };
         match (before, base_of(word)) {
-            (Some(base), _) => self.base = base,
+            (Some(base), _) => self.counters.base = base,
             (None, Some(base)) => {
-                self.bases.push(self.base)?;
-                self.base = Some(base);
+                self.counters.bases.push(self.counters.base)?;
+                self.counters.base = Some(base);
             }
             (None, None) => {
                 let fault = Fault::new(Wording::BaseWanted).part_or_nothing(statement.operand);
@@ -220,10 +220,10 @@ impl Scope {
     pub fn end(&mut self, here: &Here, statement: Statement) -> Outcome {
         if !statement.operand.is_empty() {
             let start = self.field(here, statement.operand, 12, None)?;
-            self.start = Some(bits_of(start, 0o7777));
+            self.programs.start = Some(bits_of(start, 0o7777));
         }
         self.end_unit(here)?;
-        self.has_ended = true;
+        self.programs.has_ended = true;
         self.plain_row(here, false)
     }
 

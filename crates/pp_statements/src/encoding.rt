@@ -72,7 +72,7 @@ impl Scope {
             let fault = Fault::new(Wording::NoAddress).octal(number);
             return Err(fault.at(target.first));
         }
-        let cells = number.wrapping_sub(self.location).wrapping_add(SIZE / 2) & (SIZE - 1);
+        let cells = number.wrapping_sub(self.counters.location).wrapping_add(SIZE / 2) & (SIZE - 1);
         let cells = cells.wrapping_sub(SIZE / 2);
         if self.is_last && !(-NEAR..=NEAR).contains(&cells) {
             let fault = Fault::new(if cells > 0 {
@@ -91,15 +91,15 @@ impl Scope {
 
     /// Puts words into the cells from here on. Of lines that follow one another only the first is reported if they can't be.
     pub fn put(&mut self, here: &Here, words: &[u16]) -> Outcome {
-        self.made = self.made.saturating_add(words.len());
-        if self.made > MOST_WORDS {
+        self.output.made = self.output.made.saturating_add(words.len());
+        if self.output.made > MOST_WORDS {
             return Err(Stop::too_much(Wording::ManyWords));
         }
         self.add_row(here, words, true, None, false)?;
         for word in words {
             self.put_word(here, *word)?;
-            self.origin = self.origin.wrapping_add(1);
-            self.location = self.location.wrapping_add(1);
+            self.counters.origin = self.counters.origin.wrapping_add(1);
+            self.counters.location = self.counters.location.wrapping_add(1);
         }
         Ok(())
     }
@@ -109,13 +109,13 @@ impl Scope {
         if !self.is_last {
             return Ok(());
         }
-        let cell = self.origin;
+        let cell = self.counters.origin;
         if let Some(fault) = self.why_not_into(here, cell)? {
-            if self.wrong_from != Some(cell) {
+            if self.output.wrong_from != Some(cell) {
                 self.report(here, 0, fault)?;
             }
-            self.wrong_from = Some(cell.wrapping_add(1));
-        } else if let Some(slot) = self.cells.get_mut(index_of(cell)) {
+            self.output.wrong_from = Some(cell.wrapping_add(1));
+        } else if let Some(slot) = self.output.cells.get_mut(index_of(cell)) {
             slot.word = word;
             slot.line = here.line.number;
         }
@@ -124,13 +124,13 @@ impl Scope {
 
     /// Returns why no word can be put into a cell. Words that begin over others, after ORG or BSS, may be there.
     fn why_not_into(&mut self, here: &Here, cell: i64) -> Outcome<Option<Fault>> {
-        let Some(Slot { line, .. }) = self.cells.get(index_of(cell)).copied() else {
+        let Some(Slot { line, .. }) = self.output.cells.get(index_of(cell)).copied() else {
             return Ok(Some(Fault::new(Wording::PastLastCell)));
         };
         if line == 0 {
             return Ok(None);
         }
-        let is_warning = self.over_from == Some(cell);
+        let is_warning = self.output.over_from == Some(cell);
         let fault = Fault::new(if is_warning {
             Wording::WarningFilledTwice
         } else {
@@ -142,7 +142,7 @@ impl Scope {
             return Ok(Some(fault));
         }
         self.warn(here, 0, fault)?;
-        self.over_from = Some(cell.wrapping_add(1));
+        self.output.over_from = Some(cell.wrapping_add(1));
         Ok(None)
     }
 }

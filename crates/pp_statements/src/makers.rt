@@ -143,8 +143,8 @@ impl Scope {
     /// Returns the word that the VFD before has not filled, if a statement goes on in it.
     fn open_word(&self, here: &Here, statement: Statement) -> Option<OpenWord> {
         let is_plain = matches!(statement.location.of(here.text), b"" | b"-");
-        let before = self.origin.wrapping_sub(1);
-        self.open.filter(|word| is_plain && word.cell == before)
+        let before = self.counters.origin.wrapping_sub(1);
+        self.counters.open.filter(|word| is_plain && word.cell == before)
     }
 
     /// Returns the words that are new, and keeps how many bits of the last one are used. The first bits may be of the word before.
@@ -157,8 +157,8 @@ impl Scope {
             self.fill_last(words.remove(0));
         }
         let count = i64::try_from(words.len()).unwrap_or(0);
-        let cell = self.origin.wrapping_add(count).wrapping_sub(1);
-        self.open = Some(OpenWord { cell, used });
+        let cell = self.counters.origin.wrapping_add(count).wrapping_sub(1);
+        self.counters.open = Some(OpenWord { cell, used });
         words
     }
 
@@ -195,21 +195,21 @@ impl Scope {
 
     /// Returns a number of names from above, whose digits are decimal.
     fn decimal_number(&mut self, here: &Here, operand: Field) -> Outcome<i64> {
-        let base = self.base;
-        self.base = Some(Base::Decimal);
+        let base = self.counters.base;
+        self.counters.base = Some(Base::Decimal);
         let number = self.number(here, operand, true);
-        self.base = base;
+        self.counters.base = base;
         number
     }
 
     /// Puts bits into the last word, which was not full.
     fn fill_last(&mut self, bits: u16) {
-        if let Some(slot) = self.cells.get_mut(index_of(self.origin.wrapping_sub(1)))
+        if let Some(slot) = self.output.cells.get_mut(index_of(self.counters.origin.wrapping_sub(1)))
             && slot.line != 0
         {
             slot.word |= bits;
         }
-        if let Some(last) = self.words.last_mut() {
+        if let Some(last) = self.output.words.last_mut() {
             *last |= bits;
         }
     }

@@ -6,13 +6,13 @@ use pp_source::{
 };
 
 impl Scope {
-    /// Scopees over a statement after END, of which the first one is reported.
+    /// Passes over a statement after END, of which the first one is reported.
     pub fn after_end(&mut self, here: &Here, statement: Statement) -> Outcome {
         if !self.is_last {
             self.symbols.pass_over(statement.location.of(here.text))?;
         }
-        if !self.has_more {
-            self.has_more = true;
+        if !self.programs.has_more {
+            self.programs.has_more = true;
             return self.report(here, 0, Fault::new(Wording::AfterEnd));
         }
         Ok(())
@@ -29,7 +29,7 @@ impl Scope {
             Operation::Base => self.set_base(here, statement),
             Operation::TextCode => self.set_code(here, statement),
             Operation::Deck => {
-                self.is_deck = true;
+                self.counters.is_deck = true;
                 self.plain_row(here, false)
             }
             Operation::Origin => self.set_origin(here, statement),
@@ -82,7 +82,7 @@ impl Scope {
             ).part(name),
             _ => Fault::new(Wording::NoOperation)
                 .part(name)
-                .with(Argument::NearestOperation(name, self.performed)),
+                .with(Argument::NearestOperation(name, self.output.performed)),
         };
         Stop::At(name.first, fault)
     }

@@ -44,18 +44,23 @@ pub struct OpenWord {
     pub used: u32,
 }
 
-/// What a pass knows at a line, and what it has made.
+/// The counters, and how numbers are read.
 #[derive(Drop)]
-pub struct Scope {
-    pub is_last: bool,
-    pub symbols: Symbols,
+pub struct Counters {
+    pub origin: i64,
+    pub location: i64,
+    /// The word of VFD that is not full.
+    pub open: Option<OpenWord>,
     pub base: Option<Base>,
     /// Those that BASE * goes back to.
     pub bases: Vec<Option<Base>>,
+    /// Numbers are read as in a deck.
     pub is_deck: bool,
-    pub origin: i64,
-    pub location: i64,
-    pub open: Option<OpenWord>,
+}
+
+/// What a pass has made of the present program, and what it has to say.
+#[derive(Drop)]
+pub struct Output {
     pub cells: Vec<Slot>,
     pub words: Vec<u16>,
     pub rows: Vec<Row>,
@@ -65,20 +70,85 @@ pub struct Scope {
     pub wrong_from: Option<i64>,
     /// The cell after words that are over others, because of ORG or BSS.
     pub over_from: Option<i64>,
+    /// How many words and statements there are.
+    pub made: usize,
+    pub performed: u32,
+}
+
+/// The present program, and those that have ended.
+#[derive(Drop)]
+pub struct Programs {
+    pub name: Vec<u8>,
     pub start: Option<u16>,
     pub has_ended: bool,
     pub has_more: bool,
     pub has_name: bool,
+    pub ended: Vec<Unit>,
+}
+
+/// What a pass knows at a line, and what it has made.
+#[derive(Drop)]
+pub struct Scope {
+    pub is_last: bool,
     pub alloc: Global,
+    pub symbols: Symbols,
     pub blocks: Blocks,
     pub literals: Literals,
-    /// The name of the present program.
-    pub unit_name: Vec<u8>,
-    /// The programs that have ended.
-    pub units: Vec<Unit>,
-    /// How many words and statements there are.
-    pub made: usize,
-    pub performed: u32,
+    pub counters: Counters,
+    pub output: Output,
+    pub programs: Programs,
+}
+
+impl Counters {
+    fn new(alloc: Global) -> Counters {
+        Counters {
+            origin: 0,
+            location: 0,
+            open: None,
+            base: None,
+            bases: Vec::new(alloc),
+            is_deck: false,
+        }
+    }
+}
+
+impl Output {
+    fn new(alloc: Global) -> Result<Output, AllocError> {
+        Ok(Output {
+            cells: vec![in alloc; Slot::default(); CELLS]?,
+            words: Vec::new(alloc),
+            rows: Vec::new(alloc),
+            messages: Vec::new(alloc),
+            warnings: Vec::new(alloc),
+            wrong_from: None,
+            over_from: None,
+            made: 0,
+            performed: 0,
+        })
+    }
+
+    /// Forgets the words of a text, and what the listing has of it. It has no warnings.
+    fn forget_words(&mut self) {
+        self.wrong_from = None;
+        self.over_from = None;
+        self.made = 0;
+        self.words.clear();
+        self.rows.clear();
+        self.warnings.clear();
+    }
+}
+
+impl Programs {
+    fn new(alloc: Global) -> Programs {
+        Programs {
+            name: Vec::new(alloc),
+            start: None,
+            has_ended: false,
+            has_more: false,
+            has_name: false,
+            ended: Vec::new(alloc),
+        }
+    }
 }
 
 impl Scope {
@@ -89,34 +159,15 @@ impl Scope {
         blocks: Blocks,
         is_last: bool,
     ) -> Result<Self, AllocError> {
-        let cells = vec![in alloc; Slot::default(); CELLS]?;
         let mut scope = Scope {
             is_last,
-            symbols,
-            base: None,
-            bases: Vec::new(alloc),
-            is_deck: false,
-            origin: 0,
-            location: 0,
-            open: None,
-            cells,
-            words: Vec::new(alloc),
-            rows: Vec::new(alloc),
-            messages: Vec::new(alloc),
-            warnings: Vec::new(alloc),
-            wrong_from: None,
-            over_from: None,
-            start: None,
-            has_ended: false,
-            has_more: false,
-            has_name: false,
             alloc,
+            symbols,
             blocks,
             literals: Literals::new(alloc),
-            unit_name: Vec::new(alloc),
-            units: Vec::new(alloc),
-            made: 0,
-            performed: 0,
+            counters: Counters::new(alloc),
+            output: Output::new(alloc)?,
+            programs: Programs::new(alloc),
         };
         scope.begin_unit(b"")?;
         Ok(scope)
@@ -126,25 +177,15 @@ impl Scope {
     pub fn end_system(&mut self) -> Result<(), AllocError> {
         self.symbols.end_system();
         self.restart_blocks()?;
-        self.base = None;
-        self.bases.clear();
-        self.is_deck = false;
-        self.has_name = false;
-        self.has_ended = false;
-        self.has_more = false;
-        self.forget_words();
+        self.counters.base = None;
+        self.counters.bases.clear();
+        self.counters.is_deck = false;
+        self.programs.has_name = false;
+        self.programs.has_ended = false;
+        self.programs.has_more = false;
+        self.programs.ended.clear();
+        self.output.forget_words();
         Ok(())
-    }
-
-    /// Forgets the words of a text, and what the listing has of it. It has no warnings.
-    fn forget_words(&mut self) {
-        self.wrong_from = None;
-        self.over_from = None;
-        self.made = 0;
-        self.units.clear();
-        self.words.clear();
-        self.rows.clear();
-        self.warnings.clear();
     }
 
     /// Returns whether each name and each block is as in the pass before.
@@ -154,7 +195,7 @@ impl Scope {
 
     /// Counts one more statement.
     pub fn count_statement(&mut self) -> Outcome {
-        count_one(&mut self.performed)
+        count_one(&mut self.output.performed)
     }
 
     /// Keeps a fault of a line. Only the last pass does so.
@@ -162,7 +203,7 @@ impl Scope {
         if !self.is_last {
             return Ok(());
         }
-        Ok(self.messages.push(here.message(column, fault))?)
+        Ok(self.output.messages.push(here.message(column, fault))?)
     }
 
     /// Keeps why something has no value, if that is a fault of the line, and returns what stops the pass.
@@ -182,18 +223,18 @@ impl Scope {
     /// Keeps a warning at its place, of each kind the first one.
     pub fn warn_at(&mut self, message: Message) -> Outcome {
         let is_known = |warning: &Message| warning.fault.text.text() == message.fault.text.text();
-        if !self.is_last || self.warnings.iter().any(is_known) {
+        if !self.is_last || self.output.warnings.iter().any(is_known) {
             return Ok(());
         }
-        Ok(self.warnings.push(message)?)
+        Ok(self.output.warnings.push(message)?)
     }
 
     /// Sets the counters.
     pub fn move_to(&mut self, origin: i64, location: i64) {
         self.reach();
-        self.origin = origin;
-        self.location = location;
-        self.open = None;
+        self.counters.origin = origin;
+        self.counters.location = location;
+        self.counters.open = None;
     }
 
     /// Gives a name its meaning by a line, or reports why that can't be.
@@ -211,7 +252,7 @@ impl Scope {
         if matches!(name, b"" | b"+" | b"-") {
             return Ok(());
         }
-        self.define(here, statement.location, Definition::address(self.location))
+        self.define(here, statement.location, Definition::address(self.counters.location))
     }
 
     /// Returns the value of an expression. Names count only from the lines above if that is asked.
@@ -311,20 +352,20 @@ impl Scope {
         if !self.is_last {
             return Ok(());
         }
-        let first = self.words.len();
-        self.words.extend_from_slice(words)?;
+        let first = self.output.words.len();
+        self.output.words.extend_from_slice(words)?;
         let row = Row {
             statement: here.index,
-            origin: self.origin,
-            location: self.location,
+            origin: self.counters.origin,
+            location: self.counters.location,
             first,
-            end: self.words.len(),
+            end: self.output.words.len(),
             has_address,
             value,
             is_set,
             is_performed: true,
         };
-        Ok(self.rows.push(row)?)
+        Ok(self.output.rows.push(row)?)
     }
 
     /// Adds a line without words to the listing.

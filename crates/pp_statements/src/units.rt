@@ -135,9 +135,9 @@ impl Placed {
 impl Scope {
     /// Begins a program, whose blocks are where the pass before has found room for them.
     pub fn begin_unit(&mut self, name: &[u8]) -> Result<(), AllocError> {
-        self.unit_name = Vec::from_slice(self.alloc, name)?;
-        self.start = None;
-        for slot in &mut self.cells {
+        self.programs.name = Vec::from_slice(self.alloc, name)?;
+        self.programs.start = None;
+        for slot in &mut self.output.cells {
             *slot = Slot { word: 0, line: 0 };
         }
         self.blocks.all.clear();
@@ -162,9 +162,9 @@ impl Scope {
         self.leave_block();
         self.put_literals(here)?;
         self.place_blocks()?;
-        let name = Vec::from_slice(self.alloc, &self.unit_name)?;
-        let program = program_of(self.alloc, &self.cells, self.start)?;
-        self.units.push(Unit { name, program })?;
+        let name = Vec::from_slice(self.alloc, &self.programs.name)?;
+        let program = program_of(self.alloc, &self.output.cells, self.programs.start)?;
+        self.programs.ended.push(Unit { name, program })?;
         self.blocks.unit = self.blocks.unit.saturating_add(1);
         Ok(())
     }
@@ -199,10 +199,10 @@ impl Scope {
     fn enter(&mut self, index: usize) -> Result<(), AllocError> {
         self.blocks.used.push(index)?;
         if let Some(block) = self.blocks.all.get(index) {
-            self.origin = block.origin;
-            self.location = block.location;
+            self.counters.origin = block.origin;
+            self.counters.location = block.location;
         }
-        self.open = None;
+        self.counters.open = None;
         Ok(())
     }
 
@@ -210,8 +210,8 @@ impl Scope {
     fn leave_block(&mut self) {
         let index = self.blocks.present();
         if let Some(block) = self.blocks.all.get_mut(index) {
-            block.origin = self.origin;
-            block.location = self.location;
+            block.origin = self.counters.origin;
+            block.location = self.counters.location;
         }
         self.reach();
     }
@@ -220,7 +220,7 @@ impl Scope {
     pub fn reach(&mut self) {
         let index = self.blocks.present();
         if let Some(block) = self.blocks.all.get_mut(index) {
-            block.end = block.end.max(self.origin);
+            block.end = block.end.max(self.counters.origin);
         }
     }
 

@@ -177,8 +177,8 @@ impl<'a> Expression<'a> {
         self.rest = rest;
         match letter {
             b'*' => Value::new(0, 0),
-            b'O' => Value::new(self.scope.origin, 1),
-            _ => Value::new(self.scope.location, 1),
+            b'O' => Value::new(self.scope.counters.origin, 1),
+            _ => Value::new(self.scope.counters.location, 1),
         }
     }
 
@@ -197,10 +197,10 @@ impl<'a> Expression<'a> {
         if digits.len() > MOST_DIGITS {
             return Err(self.fault(Fault::new(Wording::LongNumber)));
         }
-        match (number.letter, self.scope.base) {
+        match (number.letter, self.scope.counters.base) {
             (Some(b'D'), _) | (None, Some(Base::Decimal)) => return Ok(10),
             (None, None) if decoded(digits, 10).unwrap_or(0) > 7 => {
-                if !self.scope.is_deck {
+                if !self.scope.counters.is_deck {
                     let fault = Fault::new(Wording::EitherBase).part(part).part(part);
                     return Err(self.fault(fault.part(part)));
                 }
