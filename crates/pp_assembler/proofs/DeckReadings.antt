@@ -1,9 +1,9 @@
 -- What a line takes from a deck.
 use Rattle.std.proofs.Common.{◌≡◌, ◌∙◌, ℕ, List, Option, Some, drop, ap, sym}
-use Rattle.pp_source.specs.Decks.{first_named}
-use Rattle.pp_source.specs.declared.decks.Deck.{Deck}
-use Rattle.pp_source.specs.declared.lines.Line.{Line}
-use Rattle.pp_source.specs.declared.lines.Lines.{Lines}
+use Rattle.pp_decks.specs.Decks.{first_named}
+use Rattle.pp_decks.specs.declared.decks.Deck.{Deck}
+use Rattle.pp_decks.specs.declared.lines.Line.{Line}
+use Rattle.pp_decks.specs.declared.lines.Lines.{Lines}
 use Rattle.pp_assembler.specs.Decks.{AreCopies, HasOne, IsReading, deck_lines, name_read}
 use Rattle.pp_assembler.specs.declared.readings.Reading.{Reading}
 

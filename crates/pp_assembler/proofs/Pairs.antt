@@ -3,7 +3,7 @@ use Rattle.std.proofs.Common.{◌≡◌, ◌∙◌, ◌<◌, ℕ, true, List, []
 use Rattle.std.specs.List.{AllZip, slice_get}
 use Rattle.std.proofs.lemmas.Option.{slice_get-get_or}
 use Rattle.pp_meaning.specs.declared.statements.Statement.{Statement}
-use Rattle.pp_source.specs.declared.lines.Lines.{Lines}
+use Rattle.pp_decks.specs.declared.lines.Lines.{Lines}
 use Rattle.pp_statements.specs.declared.scope.Row.{Row}
 use Rattle.pp_assembler.specs.Meaning.{IsPerformed, read_at}
 

@@ -4,11 +4,11 @@ use Rattle.std.specs.List.{AllByRecursion}
 use Rattle.std.specs.Option.{is_some}
 use Rattle.std.specs.Cmp.Lexicographic.{pointwise}
 use Rattle.pp_notation.specs.Columns.{between}
-use Rattle.pp_source.specs.Decks.{AreOf, first_named}
-use Rattle.pp_source.specs.declared.decks.Deck.{Deck}
-use Rattle.pp_source.specs.declared.decks.Text.{Text}
-use Rattle.pp_source.specs.declared.lines.Line.{Line}
-use Rattle.pp_source.specs.declared.lines.Lines.{Lines}
+use Rattle.pp_decks.specs.Decks.{AreOf, first_named}
+use Rattle.pp_decks.specs.declared.decks.Deck.{Deck}
+use Rattle.pp_decks.specs.declared.decks.Text.{Text}
+use Rattle.pp_decks.specs.declared.lines.Line.{Line}
+use Rattle.pp_decks.specs.declared.lines.Lines.{Lines}
 use Rattle.pp_source.specs.declared.vocabulary.Macro.{Macro}
 use Rattle.pp_source.specs.declared.vocabulary.Meaning.{Meaning}
 use Rattle.pp_source.specs.declared.vocabulary.Vocabulary.{Vocabulary}

@@ -11,8 +11,8 @@ use Rattle.pp_meaning.specs.declared.expressions.Literal.{Literal}
 use Rattle.pp_meaning.specs.declared.expressions.Symbol.{Symbol}
 use Rattle.pp_meaning.specs.declared.statements.Image.{Image}
 use Rattle.pp_meaning.specs.declared.statements.Statement.{Statement}
-use Rattle.pp_source.specs.declared.lines.Line.{Line}
-use Rattle.pp_source.specs.declared.lines.Lines.{Lines}
+use Rattle.pp_decks.specs.declared.lines.Line.{Line}
+use Rattle.pp_decks.specs.declared.lines.Lines.{Lines}
 use Rattle.pp_assembler.specs.declared.meaning.Found.{Found}
 use Rattle.pp_assembler.specs.declared.meaning.Found.TheVariants.{Words}
 use Rattle.pp_statements.specs.declared.scope.Row.{Row}

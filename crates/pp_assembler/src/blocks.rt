@@ -3,9 +3,10 @@
 use crate::conditions::texts_of;
 use crate::pass::Pass;
 use crate::running::Job;
+use pp_decks::{Lines, Span};
 use pp_source::{
-    Argument, Fault, Field, Here, Lines, Opening, Operation, Outcome, Remote, Span, Statement,
-    Stop, Wording, cut, operation_of,
+    Argument, Fault, Field, Here, Opening, Operation, Outcome, Remote, Statement, Stop, Wording,
+    cut, operation_of,
 };
 use pp_statements::Base;
 

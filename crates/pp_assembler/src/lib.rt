@@ -16,7 +16,8 @@ mod running;
 mod terms;
 
 pub use passes::{assemble, assemble_with};
-pub use pp_source::{Complaint, Deck, Decks, Definition, Line, Lines, Span, Symbol, Symbols, Text};
+pub use pp_decks::{Complaint, Deck, Decks, Line, Lines, Span, Text};
+pub use pp_source::{Definition, Symbol, Symbols};
 pub use pp_statements::{CELLS, Row, Unit};
 pub use program::{Assembly, Performed};
 pub use readings::Reading;

@@ -1,10 +1,10 @@
 //! Macros: their definitions, and the lines that their calls make. ECHO makes lines likewise.
 use crate::blocks::name_of_block;
 use crate::pass::Pass;
+use pp_decks::{Call, Line, Lines, Span, length_without_blanks};
 use pp_source::{
-    Argument, Call, Fault, Field, Here, Line, Lines, Macro, Meaning, Opening, Operation, Outcome,
-    Span, Statement, Stop, Wording, cut, end_of_name, is_enclosed, length_without_blanks,
-    operation_of, split_nested,
+    Argument, Fault, Field, Here, Macro, Meaning, Opening, Operation, Outcome, Statement, Stop,
+    Wording, cut, end_of_name, is_enclosed, operation_of, split_nested,
 };
 use pp_statements::too_many_statements;
 use std::alloc::{AllocError, Global};

@@ -5,13 +5,13 @@ ghost use Rattle.pp_assembler.specs.Meaning.{ArePerformed, IsFound, IsWordsOf, r
 use crate::pass::Pass;
 use crate::program::Performed;
 use crate::terms::{Names, begins_with_blank, field_of, may_follow, operand_of, text_of_display};
+use pp_decks::{Lines, Span, tail};
 use pp_meaning::{
     Item, Literal, Operand, Operation as Meant, Refusal, Statement, Symbol, encode, program_of,
 };
 use pp_notation::{Cell, Form, Program, form_of};
 use pp_source::{
-    Elsewhere, Fault, Here, Lines, Message, Operation, Parts, Span, Statement as Fields, Wording,
-    operation_of, tail,
+    Elsewhere, Fault, Here, Message, Operation, Parts, Statement as Fields, Wording, operation_of,
 };
 use pp_statements::{CELLS, Row, base_of};
 use std::alloc::{AllocError, Global};
@@ -210,7 +210,11 @@ fn literals_of(alloc: Global, pass: &Pass) -> Result<Vec<Literal>, AllocError> {
 
 /// Returns the words of a row.
 fn words_of_row<'a>(pass: &'a Pass, row: &Row) -> &'a [u16] {
-    pass.scope.output.words.get(row.first..row.end).unwrap_or(&[])
+    pass.scope
+        .output
+        .words
+        .get(row.first..row.end)
+        .unwrap_or(&[])
 }
 
 /// Returns the terms of operands, between two of which is a comma.

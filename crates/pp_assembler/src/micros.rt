@@ -1,9 +1,10 @@
 //! Micros: names of texts, which stand between two marks in a line in place of these.
 use crate::pass::Pass;
+use pp_decks::{Lines, Span};
 use pp_notation::put_digits;
 use pp_source::{
-    Definition, Fault, Field, Here, Lines, Meaning, Outcome, Span, Statement, Stop, Wording, cut,
-    end_of_name, first_parts,
+    Definition, Fault, Field, Here, Meaning, Outcome, Statement, Stop, Wording, cut, end_of_name,
+    first_parts,
 };
 use pp_statements::{Base, the_only, wants_operand};
 

@@ -2,7 +2,8 @@
 use crate::macros::Repetition;
 use crate::readings::Reading;
 use crate::running::{Job, Run};
-use pp_source::{Outcome, Span, Symbols, Vocabulary};
+use pp_decks::Span;
+use pp_source::{Outcome, Symbols, Vocabulary};
 use pp_statements::{Blocks, Scope, count_one};
 use std::alloc::{AllocError, Global};
 

@@ -4,11 +4,11 @@ ghost use Rattle.std.specs.List.{AllByRecursion};
 ghost use Rattle.pp_notation.specs.Cells.{IsProgram, IsStart};
 ghost use Rattle.pp_assembler.specs.Decks.{AreRead, IsRead, IsReading};
 ghost use Rattle.pp_assembler.specs.Meaning.{AreMeant, IsFound, IsMeant};
-ghost use Rattle.pp_source.specs.Decks.{AreOf};
-ghost use Rattle.pp_source.specs.declared.decks.Text.{Text as DeckText};
-ghost use Rattle.pp_source.specs.declared.lines.Lines.{Lines as AllLines};
+ghost use Rattle.pp_decks.specs.Decks.{AreOf};
+ghost use Rattle.pp_decks.specs.declared.decks.Text.{Text as DeckText};
+ghost use Rattle.pp_decks.specs.declared.lines.Lines.{Lines as AllLines};
 ghost use Rattle.pp_statements.specs.declared.scope.Row.{Row};
-ghost use Rattle.pp_source.specs.Places.{IsOfLine, length_of, line_lengths};
+ghost use Rattle.pp_decks.specs.Places.{IsOfLine, length_of, line_lengths};
 
 use crate::meaning::{Found, encode_performed};
 use crate::pass::Pass;
@@ -16,10 +16,9 @@ use crate::program::{Assembly, Performed};
 use crate::readings::{Reading, are_read, are_readings};
 use crate::running::Ending;
 use pp_complaints::{Known, complaints};
+use pp_decks::{Decks, Lines, Span, Text, cut_lines, placed, read_lines};
 use pp_notation::{Program, Slot, program_of};
-use pp_source::{
-    Decks, Fault, Lines, Message, Span, Symbols, Text, Vocabulary, Wording, cut_lines, read_lines,
-};
+use pp_source::{Fault, Message, Symbols, Vocabulary, Wording};
 use pp_statements::{Blocks, Programs, Scope};
 use std::alloc::{AllocError, Global};
 use std::mem::replace;
@@ -111,7 +110,13 @@ fn readings_of(
 {
     let readings = replace(&mut pass.readings, Vec::new(alloc));
     if are_readings(lines, decks, &readings)
-        && are_read(lines, decks, &pass.vocabulary, &readings, &pass.scope.output.rows)
+        && are_read(
+            lines,
+            decks,
+            &pass.vocabulary,
+            &readings,
+            &pass.scope.output.rows,
+        )
     {
         return Ok(readings);
     }
@@ -178,9 +183,9 @@ fn assembly_of(
     let made = without_messages(alloc, read, scope, found)?;
     let messages = match made.meaning {
         Some(_) => Vec::new(alloc),
-        None => complaints(alloc, known_of(&made), &wrong, spans)?,
+        None => placed(alloc, &complaints(alloc, known_of(&made), &wrong)?, spans)?,
     };
-    let warnings = complaints(alloc, known_of(&made), &noticed, spans)?;
+    let warnings = placed(alloc, &complaints(alloc, known_of(&made), &noticed)?, spans)?;
     Ok(Assembly {
         messages,
         warnings,

@@ -1,8 +1,9 @@
 //! All that is known of a source.
 use crate::readings::Reading;
+use pp_decks::{Complaint, Decks, Lines};
 use pp_meaning::{Literal, Statement, Symbol};
 use pp_notation::Program;
-use pp_source::{Complaint, Decks, Lines, Symbols, Vocabulary};
+use pp_source::{Symbols, Vocabulary};
 use pp_statements::{Row, Unit};
 
 /// The statements of a source as they are performed, after macros, repetitions, conditions and micros, with the terms of their operands.

@@ -6,7 +6,8 @@ ghost use Rattle.pp_assembler.specs.Decks.{AreCopies, IsCopied, IsRead, IsReadin
 ghost use Rattle.pp_assembler.specs.Meaning.{read_at};
 
 use crate::naming::deck_name;
-use pp_source::{Decks, Field, Line, Lines, Macro, Meaning, Span, Vocabulary};
+use pp_decks::{Decks, Line, Lines, Span};
+use pp_source::{Field, Macro, Meaning, Vocabulary};
 use pp_statements::Row;
 
 /// The operation that reads a deck.

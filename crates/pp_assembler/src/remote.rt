@@ -1,10 +1,10 @@
 //! Directives that perform lines from elsewhere, or give operations other names.
 use crate::pass::Pass;
 use crate::readings::Reading;
+use pp_decks::{Call, Decks, Line, Lines, Span};
 use pp_source::{
-    Argument, Call, Decks, Elsewhere, FIRST_OF_COMMENTS, Fault, Field, Here, Line, Lines, Macro,
-    Meaning, Operation, Outcome, Span, Statement, Stop, Wording, after_blanks, end_of_word,
-    operation_of,
+    Argument, Elsewhere, FIRST_OF_COMMENTS, Fault, Field, Here, Macro, Meaning, Operation, Outcome,
+    Statement, Stop, Wording, after_blanks, end_of_word, operation_of,
 };
 use pp_statements::{the_only, too_many_statements};
 

@@ -1,9 +1,10 @@
 //! The order in which lines are performed: those of a source, and those that other lines repeat, choose or make.
 use crate::pass::Pass;
 use crate::remote::name_after_call;
+use pp_decks::{Decks, Join, Line, Lines, Span};
 use pp_source::{
-    Decks, FIRST_OF_COMMENTS, Field, Here, Join, Line, Lines, Message, Operation, Origin, Outcome,
-    Span, Statement, Stop, Wording, operation_of, statement_of,
+    FIRST_OF_COMMENTS, Field, Here, Message, Operation, Origin, Outcome, Statement, Stop, Wording,
+    operation_of, statement_of,
 };
 use pp_statements::{MOST_STATEMENTS, is_known, too_many_statements};
 
@@ -270,7 +271,9 @@ impl Pass {
     fn present_statement(&mut self, lines: &Lines) -> Outcome<Option<Statement>> {
         let here = Here::new(lines, self.at);
         match self.statement(&here)? {
-            Some(statement) if self.scope.programs.has_ended => self.scope.after_end(&here, statement)?,
+            Some(statement) if self.scope.programs.has_ended => self
+                .scope
+                .after_end(&here, statement)?,
             Some(statement) => {
                 is_known(&here, statement)?;
                 return Ok(Some(statement));

@@ -1,10 +1,11 @@
 //! The terms of operands, and the names that they have.
+use pp_decks::tail;
 use pp_meaning::{
     Atom, Cut, Expression, Factor, Item, Kind, Label, Linkage, Operand, Radix, Sign, Symbol, Term,
     Text, Width,
 };
 use pp_source::{
-    Number, code_of, counter_of, digits_of, end_of_name, find, is_blank, number_of, tail, text_at,
+    Number, code_of, counter_of, digits_of, end_of_name, find, is_blank, number_of, text_at,
 };
 use std::alloc::{AllocError, Global};
 use std::collections::BTreeMap;

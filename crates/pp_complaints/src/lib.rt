@@ -1,9 +1,9 @@
-//! What is wrong with a source: the texts of messages, and their places.
+//! What is wrong with a source: the texts of messages.
 #![tactic(auto)]
 
+mod complaints;
 mod nearest;
-mod places;
 mod wording;
 
-pub use places::complaints;
+pub use complaints::complaints;
 pub use wording::Known;

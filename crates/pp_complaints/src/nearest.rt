@@ -1,6 +1,7 @@
 //! The name that may be meant by one that is not known.
 use arrayvec::ArrayVec;
-use pp_source::{find, tail};
+use pp_decks::tail;
+use pp_source::find;
 use std::mem;
 
 /// How many names are looked at for the nearest.

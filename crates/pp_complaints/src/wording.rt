@@ -1,9 +1,10 @@
 //! The text of a message: what is wrong, and what to write instead.
 use crate::nearest::Nearest;
+use pp_decks::{Line, Lines, Span, length_without_blanks};
 use pp_notation::{INSTRUCTIONS, name_of, put_decimal, put_octal};
 use pp_source::{
-    Argument, Fault, Field, Line, Lines, Message, OPERATIONS, Operation, Span, Symbols, Vocabulary,
-    after_blanks, is_alphanumeric, length_without_blanks,
+    Argument, Fault, Field, Message, OPERATIONS, Operation, Symbols, Vocabulary, after_blanks,
+    is_alphanumeric,
 };
 use std::alloc::{AllocError, Global};
 

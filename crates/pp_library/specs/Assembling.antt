@@ -2,8 +2,8 @@
 use Rattle.std.specs.Prelude.{◌≡◌, ◌≢◌, ℕ, ◌<◌, ◌≤◌, ◌==◌, ◌⊎◌, All, AllPairs, List, [], Some, ◌++◌, flat_map, map, if◌then◌else◌, length}
 use Rattle.pp_notation.specs.Cells.{IsCell, IsProgram, IsStart}
 use Rattle.pp_listing.specs.Listing.{listed_row}
-use Rattle.pp_source.specs.Places.{IsOfLine, line_lengths}
-use Rattle.pp_source.specs.declared.decks.Text.{Text}
+use Rattle.pp_decks.specs.Places.{IsOfLine, line_lengths}
+use Rattle.pp_decks.specs.declared.decks.Text.{Text}
 use Rattle.pp_assembler.specs.Decks.{AreRead}
 use Rattle.pp_library.specs.declared.assembling.CommonDeck.{CommonDeck}
 use Rattle.pp_disassembly.specs.SourceText.{source_text}

@@ -2,7 +2,7 @@
 ghost use Rattle.pp_assembler.specs.Decks.{AreRead};
 ghost use Rattle.pp_library.specs.Assembling.{Assembles, Disassembles, LoadsLines, form_text, text_of};
 ghost use Rattle.pp_notation.specs.Cells.{IsProgram, IsStart};
-ghost use Rattle.pp_source.specs.Places.{IsOfLine, line_lengths};
+ghost use Rattle.pp_decks.specs.Places.{IsOfLine, line_lengths};
 ghost use Rattle.std.specs.Prelude.{◌≡◌, ◌≢◌, ◌↔◌, [], All, AllPairs, Any, IfOk, IsTrue, map};
 
 use crate::status::{NO_MEMORY, REFUSED};

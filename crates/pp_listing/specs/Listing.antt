@@ -8,7 +8,7 @@ use Rattle.std.specs.Ordering.{int_eq}
 use Rattle.pp_arith.specs.Octal.{octal_text}
 use Rattle.pp_notation.specs.Columns.{between, ended, in_columns, optional, signed_octal}
 use Rattle.pp_listing.specs.Texts.{row_words}
-use Rattle.pp_source.specs.declared.lines.Line.{Line}
+use Rattle.pp_decks.specs.declared.lines.Line.{Line}
 use Rattle.pp_statements.specs.declared.scope.Row.{Row}
 use Rattle.pp_assembler.specs.declared.program.Assembly.{Assembly}
 

@@ -5,7 +5,7 @@ use Rattle.pp_arith.specs.Octal.{octal_text}
 use Rattle.pp_notation.specs.Columns.{signed_octal}
 use Rattle.pp_listing.specs.Listing.{text_of}
 use Rattle.pp_listing.specs.Texts.{addresses, row_words, start_line}
-use Rattle.pp_source.specs.declared.lines.Line.{Line}
+use Rattle.pp_decks.specs.declared.lines.Line.{Line}
 use Rattle.pp_statements.specs.declared.scope.Row.{Row}
 use Rattle.pp_assembler.specs.declared.program.Assembly.{Assembly}
 use Rattle.pp_notation.specs.declared.program.Cell.{Cell}

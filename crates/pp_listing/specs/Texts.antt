@@ -3,8 +3,8 @@ use Rattle.std.specs.Prelude.{ℕ, ℤ, pos, negsuc, ◌&&◌, ◌==◌, nat_lt,
 use Rattle.std.specs.List.{flat_map, list_any}
 use Rattle.pp_arith.specs.Octal.{octal_text}
 use Rattle.pp_notation.specs.Columns.{between, signed_octal}
-use Rattle.pp_source.specs.declared.lines.Line.{Line}
-use Rattle.pp_source.specs.declared.message.Complaint.{Complaint}
+use Rattle.pp_decks.specs.declared.lines.Line.{Line}
+use Rattle.pp_decks.specs.declared.places.Complaint.{Complaint}
 use Rattle.pp_statements.specs.declared.scope.Row.{Row}
 use Rattle.pp_assembler.specs.declared.program.Assembly.{Assembly}
 use Rattle.pp_notation.specs.declared.program.Cell.{Cell}

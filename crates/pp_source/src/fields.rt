@@ -1,11 +1,10 @@
 //! A line cut into the fields of a statement: location, operation and operand. The comment is left out.
 use crate::message::{Fault, Field, Outcome};
-use crate::scan::{
-    LAST_COLUMN, after_blanks, end_of_word, find, in_columns, is_blank, is_empty, next_where, tail,
-};
+use crate::scan::{after_blanks, end_of_word, find, is_blank, next_where};
 use crate::texts::text_at;
 use crate::vocabulary::Vocabulary;
 use crate::wordings::Wording;
+use pp_decks::{LAST_COLUMN, in_columns, is_empty, tail};
 
 const TAB: usize = 8;
 

@@ -1,7 +1,6 @@
 //! The line that is performed, and the places of messages about it.
-use crate::lines::{Join, Line, Lines};
 use crate::message::{Fault, Field, Message};
-use crate::spans::Span;
+use pp_decks::{Join, Line, Lines, Span};
 
 /// The line that is performed.
 #[derive(Clone, Copy)]

@@ -1,11 +1,9 @@
-//! The lines of a source: their fields, what they name, and what may be wrong with them.
+//! The statements of a source: their fields, what they name, and what may be wrong with them.
 #![tactic(auto)]
 
-mod decks;
 mod fields;
 mod here;
 mod index;
-mod lines;
 mod message;
 mod numbers;
 mod openings;
@@ -13,27 +11,22 @@ mod operations;
 mod orders;
 mod replacing;
 mod scan;
-mod spans;
 mod symbols;
 mod texts;
 mod vocabulary;
 mod wordings;
 
-pub use decks::{Deck, Decks, Text};
 pub use fields::{FirstParts, Origin, Parts, Statement, first_parts, statement_of};
 pub use here::Here;
-pub use lines::{Call, Join, Line, Lines, cut_lines, read_lines};
-pub use message::{Argument, Complaint, Fault, Field, Message, Outcome, Stop};
+pub use message::{Argument, Fault, Field, Message, Outcome, Stop};
 pub use numbers::{Number, counter_of, decoded, number_of, product, shifted};
 pub use openings::Opening;
 pub use operations::{Elsewhere, OPERATIONS, Operation, is_operation, operation_of};
 pub use orders::Order;
 pub use replacing::{is_enclosed, split, split_nested};
 pub use scan::{
-    after_blanks, cut, digits_of, end_of_word, find, is_alphanumeric, is_blank, is_empty,
-    length_without_blanks, next_where, tail,
+    after_blanks, cut, digits_of, end_of_word, find, is_alphanumeric, is_blank, next_where,
 };
-pub use spans::Span;
 pub use symbols::{Definition, Place, Symbol, Symbols, end_of_name};
 pub use texts::{DisplayText, are_in_code, before_mark, code_of, no_code, text_at};
 pub use vocabulary::{FIRST_OF_COMMENTS, Macro, Meaning, Remote, Vocabulary};

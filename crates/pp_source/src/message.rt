@@ -1,6 +1,6 @@
 //! What is wrong in a source.
-pub use crate::spans::Span as Field;
 use crate::wordings::Wording;
+pub use pp_decks::Span as Field;
 use std::alloc::{AllocError, AllocFailed};
 
 /// What stands in the text of a fault in place of a `{}`.
@@ -153,16 +153,6 @@ impl<T: Drop> From<AllocFailed<T>> for Stop {
     fn from(_error: AllocFailed<T>) -> Self {
         Stop::NoMemory
     }
-}
-
-/// What is wrong with a source, or what is to be known, at a place of it.
-#[derive(Drop, PartialEq, Eq, PartialOrd, Ord)]
-pub struct Complaint {
-    /// From 1.
-    pub line: u32,
-    /// From 1.
-    pub column: u32,
-    pub text: Vec<u8>,
 }
 
 /// A fault, or a warning, of a statement.

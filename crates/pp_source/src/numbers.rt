@@ -1,5 +1,6 @@
 //! Numbers and counters as a text begins with them.
-use crate::scan::{digits_of, is_alphanumeric, tail};
+use crate::scan::{digits_of, is_alphanumeric};
+use pp_decks::tail;
 
 /// A shift by more bits than this gives no number that is kept.
 const MOST_SHIFT: u32 = 62;

@@ -1,8 +1,8 @@
 //! Lines that are made of others, with what is given for the names in these.
 use crate::message::Outcome;
 use crate::scan::{cut, is_alphanumeric, next_where};
-use crate::spans::Span;
 use crate::vocabulary::{Meaning, Vocabulary};
+use pp_decks::Span;
 use pp_notation::put_octal;
 use std::alloc::AllocError;
 

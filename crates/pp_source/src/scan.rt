@@ -1,11 +1,6 @@
 //! Parts of a line: its blanks, words and digits.
-/// The column after the last one of a statement; what is there is a sequence number.
-pub const LAST_COLUMN: usize = 72;
 
-/// Returns a line from a column on.
-pub fn tail(line: &[u8], from: usize) -> &[u8] {
-    line.get(from..).unwrap_or(b"")
-}
+use pp_decks::tail;
 
 /// Returns whether a symbol is a blank within a line.
 pub fn is_blank(symbol: u8) -> bool {
@@ -56,27 +51,6 @@ pub fn digits_of(text: &[u8], most: usize) -> (usize, u32) {
         count = count.wrapping_add(1);
     }
     (count, value)
-}
-
-/// Returns whether a symbol is a blank, as at the end of a line.
-pub fn is_space(symbol: u8) -> bool {
-    matches!(symbol, b' ' | 0x09..=0x0d | 0x1c..=0x1f)
-}
-
-/// Returns whether a text has nothing but blanks.
-pub fn is_empty(text: &[u8]) -> bool {
-    text.iter().all(|symbol| is_space(*symbol))
-}
-
-/// Returns the length of a text without the blanks at its end.
-pub fn length_without_blanks(text: &[u8]) -> usize {
-    let last = text.iter().rposition(|symbol| !is_space(*symbol));
-    last.map_or(0, |last| last.saturating_add(1))
-}
-
-/// Returns the columns of a line that a statement has.
-pub fn in_columns(line: &[u8]) -> &[u8] {
-    line.get(..LAST_COLUMN).unwrap_or(line)
 }
 
 /// Returns the part of a text before a symbol, and the part after it, if it has the symbol.

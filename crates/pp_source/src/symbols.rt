@@ -2,8 +2,8 @@
 use crate::index::{Index, number_of_name};
 use crate::message::{Argument, Fault, Field, Outcome, Stop};
 use crate::scan::next_where;
-use crate::spans::Span;
 use crate::wordings::Wording;
+use pp_decks::Span;
 use std::alloc::{AllocError, Global};
 
 /// How many characters a symbol has.

@@ -1,8 +1,9 @@
 //! Texts in display code: 3HABC, 0HABC up to a comma or a blank, H*ABC* between two equal symbols.
 use crate::message::{Fault, Outcome};
 use crate::numbers::product;
-use crate::scan::{digits_of, find, is_alphanumeric, is_blank, next_where, tail};
+use crate::scan::{digits_of, find, is_alphanumeric, is_blank, next_where};
 use crate::wordings::Wording;
+use pp_decks::tail;
 pub use pp_notation::code_of_symbol as code_of;
 
 /// How many symbols a line has. Blanks at its end may be lost.

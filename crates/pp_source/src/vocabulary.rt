@@ -1,5 +1,5 @@
 //! What a source adds to the notation: macros, other names of operations, micros, and lines for HERE.
-use crate::spans::Span;
+use pp_decks::Span;
 use std::alloc::{AllocError, Global};
 use std::mem::replace;
 

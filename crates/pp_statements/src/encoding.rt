@@ -1,9 +1,9 @@
 //! The words of statements, and how they are put into cells.
 use crate::scope::{CELLS, Scope};
+use pp_decks::{is_empty, tail};
 use pp_notation::{Form, Slot, form_of, size_of};
 use pp_source::{
     Argument, Fault, Field, FirstParts, Here, Outcome, Statement, Stop, Wording, first_parts,
-    is_empty, tail,
 };
 
 /// How many words a source makes, though only as many as a memory has can be right.
@@ -72,7 +72,10 @@ impl Scope {
             let fault = Fault::new(Wording::NoAddress).octal(number);
             return Err(fault.at(target.first));
         }
-        let cells = number.wrapping_sub(self.counters.location).wrapping_add(SIZE / 2) & (SIZE - 1);
+        let cells = number
+            .wrapping_sub(self.counters.location)
+            .wrapping_add(SIZE / 2)
+            & (SIZE - 1);
         let cells = cells.wrapping_sub(SIZE / 2);
         if self.is_last && !(-NEAR..=NEAR).contains(&cells) {
             let fault = Fault::new(if cells > 0 {

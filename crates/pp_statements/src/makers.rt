@@ -3,9 +3,10 @@ use crate::directives::the_only;
 use crate::encoding::{bits_of, index_of};
 use crate::scope::{OpenWord, Scope};
 use crate::values::Base;
+use pp_decks::tail;
 use pp_source::{
     DisplayText, Fault, Field, Here, Outcome, Statement, Stop, Wording, are_in_code, before_mark,
-    code_of, digits_of, find, no_code, tail, text_at,
+    code_of, digits_of, find, no_code, text_at,
 };
 
 const WORD_BITS: u32 = 12;
@@ -144,7 +145,9 @@ impl Scope {
     fn open_word(&self, here: &Here, statement: Statement) -> Option<OpenWord> {
         let is_plain = matches!(statement.location.of(here.text), b"" | b"-");
         let before = self.counters.origin.wrapping_sub(1);
-        self.counters.open.filter(|word| is_plain && word.cell == before)
+        self.counters
+            .open
+            .filter(|word| is_plain && word.cell == before)
     }
 
     /// Returns the words that are new, and keeps how many bits of the last one are used. The first bits may be of the word before.
@@ -204,7 +207,10 @@ impl Scope {
 
     /// Puts bits into the last word, which was not full.
     fn fill_last(&mut self, bits: u16) {
-        if let Some(slot) = self.output.cells.get_mut(index_of(self.counters.origin.wrapping_sub(1)))
+        if let Some(slot) = self
+            .output
+            .cells
+            .get_mut(index_of(self.counters.origin.wrapping_sub(1)))
             && slot.line != 0
         {
             slot.word |= bits;

@@ -252,7 +252,11 @@ impl Scope {
         if matches!(name, b"" | b"+" | b"-") {
             return Ok(());
         }
-        self.define(here, statement.location, Definition::address(self.counters.location))
+        self.define(
+            here,
+            statement.location,
+            Definition::address(self.counters.location),
+        )
     }
 
     /// Returns the value of an expression. Names count only from the lines above if that is asked.

@@ -1,8 +1,9 @@
 //! The programs of a source, with the blocks of USE and the literals of each.
 use crate::scope::Scope;
+use pp_decks::Span;
 use pp_notation::{Program, Slot, program_of};
 use pp_source::{
-    Argument, Definition, Fault, Field, Here, Outcome, Place, Span, Stop, Wording, is_alphanumeric,
+    Argument, Definition, Fault, Field, Here, Outcome, Place, Stop, Wording, is_alphanumeric,
 };
 use std::alloc::{AllocError, Global};
 

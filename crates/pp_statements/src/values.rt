@@ -1,9 +1,10 @@
 //! Expressions: terms joined by +, - and ^, elements of a term joined by * and /, from left to right.
 use crate::scope::Scope;
+use pp_decks::tail;
 pub use pp_meaning::Base;
 use pp_source::{
     Fault, Field, Number, Outcome, Place, Stop, Wording, are_in_code, counter_of, decoded,
-    end_of_name, next_where, number_of, product, shifted, tail, text_at,
+    end_of_name, next_where, number_of, product, shifted, text_at,
 };
 
 const MOST_BITS: u32 = 60;

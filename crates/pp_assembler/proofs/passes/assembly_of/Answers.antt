@@ -1,5 +1,5 @@
 use Rattle.std.proofs.Common.{rules, ◌≡◌, IfSome, Option, Some, None, List, []}
-use Rattle.pp_source.specs.declared.message.Complaint.{Complaint}
+use Rattle.pp_decks.specs.declared.places.Complaint.{Complaint}
 use Rattle.pp_assembler.specs.declared.program.Performed.{Performed}
 use Rattle.pp_assembler.specs.Meaning.{AreMeant}
 use Rattle.pp_assembler.proofs.passes.assembly_of.Goals as goal

@@ -3,8 +3,8 @@ use Rattle.std.specs.Prelude.{ℕ, ◌≡◌, ◌==◌, Bool, List, Option, map}
 use Rattle.std.specs.Char.{to_ascii_uppercase}
 use Rattle.std.specs.List.{position}
 use Rattle.std.specs.Cmp.Lexicographic.{pointwise}
-use Rattle.pp_source.specs.declared.decks.Deck.{Deck}
-use Rattle.pp_source.specs.declared.decks.Text.{Text}
+use Rattle.pp_decks.specs.declared.decks.Deck.{Deck}
+use Rattle.pp_decks.specs.declared.decks.Text.{Text}
 
 abbrev pub name_of : Deck → List ℕ
 name_of deck = deck.name.items

@@ -1,10 +1,10 @@
 //! Common decks: texts that XTEXT and *CALL read by their names. A text may also be one of a system, which is assembled before the source.
 ghost use Rattle.std.specs.Prelude.{◌≡◌, ◌++◌, ◌∷◌, [], IfOk, map};
 ghost use Rattle.std.specs.Char.{to_ascii_uppercase};
-ghost use Rattle.pp_source.specs.Decks.{first_named, is_named, name_of};
+ghost use Rattle.pp_decks.specs.Decks.{first_named, is_named, name_of};
 
+use crate::blanks::{is_empty, is_space, length_without_blanks, tail};
 use crate::lines::without_returns;
-use crate::scan::{is_empty, is_space, length_without_blanks, tail};
 use crate::spans::Span;
 use std::alloc::{AllocError, Global};
 

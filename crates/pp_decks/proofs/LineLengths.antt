@@ -5,7 +5,7 @@ use Rattle.std.proofs.Common.{length-append}
 use Rattle.std.proofs.lemmas.List.{map-append}
 use Rattle.pp_lines.specs.Lines.{finished, unfinished, last_line}
 use Rattle.pp_lines.proofs.LineCuts.{finished-feed, unfinished-feed, finished-byte, unfinished-byte, lines_split}
-use Rattle.pp_source.specs.{Places.length_of, Places.line_lengths, declared.spans.Span.Span}
+use Rattle.pp_decks.specs.{Places.length_of, Places.line_lengths, declared.spans.Span.Span}
 
 -- A part of a source has been read: the lengths of its finished lines, and where the line begins that is not finished.
 pub record HasRead (bytes : List ℕ) (lengths : List ℕ) (first at : ℕ) : Type 0 where

@@ -1,8 +1,8 @@
 -- The places of a source: its lines, each from 1, and their columns, each from 1.
 use Rattle.std.specs.Prelude.{ℕ, ◌+◌, ◌-◌, ◌<◌, ◌≤◌, List, length, map, slice_index}
 use Rattle.pp_lines.specs.Lines.{lines}
-use Rattle.pp_source.specs.declared.spans.Span.{Span}
-use Rattle.pp_source.specs.declared.message.Complaint.{Complaint}
+use Rattle.pp_decks.specs.declared.spans.Span.{Span}
+use Rattle.pp_decks.specs.declared.places.Complaint.{Complaint}
 
 -- how many bytes a line has
 abbrev pub length_of : Span → ℕ

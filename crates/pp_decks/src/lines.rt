@@ -1,10 +1,10 @@
 //! The statements of a source and of the texts that it may read: their lines, each with those that continue it, and those that SUBR makes.
 ghost use Rattle.std.specs.Prelude.{◌≡◌, IfOk, map};
-ghost use Rattle.pp_source.specs.Decks.{AreOf};
-ghost use Rattle.pp_source.specs.Places.{length_of, line_lengths};
+ghost use Rattle.pp_decks.specs.Decks.{AreOf};
+ghost use Rattle.pp_decks.specs.Places.{length_of, line_lengths};
 
+use crate::blanks::{in_columns, is_empty, length_without_blanks, tail};
 use crate::decks::{Decks, Text, lines_of_name, up_to_endx};
-use crate::scan::{in_columns, is_empty, length_without_blanks, tail};
 use crate::spans::Span;
 use std::alloc::{AllocError, Global};
 

@@ -1,7 +1,7 @@
 use Rattle.std.proofs.Common.{refl}
-use Rattle.pp_source.proofs.LineLengths.{HasRead-feed_at, HasRead-byte_at, HasRead-ended_at, HasRead-begun_at}
-use Rattle.pp_source.proofs.lines.cut_lines.Goals as goal
-use Rattle.pp_source.proofs.lines.cut_lines.Goals.{then-source-at-eq10+in_ok-push, else-source-at-eq10, then-first-source+in_ok-push-2, else-first-source}
+use Rattle.pp_decks.proofs.LineLengths.{HasRead-feed_at, HasRead-byte_at, HasRead-ended_at, HasRead-begun_at}
+use Rattle.pp_decks.proofs.lines.cut_lines.Goals as goal
+use Rattle.pp_decks.proofs.lines.cut_lines.Goals.{then-source-at-eq10+in_ok-push, else-source-at-eq10, then-first-source+in_ok-push-2, else-first-source}
 
 pub loop-at-preserved : goal.loop-at-preserved
 loop-at-preserved c = elim c.if-source-at-eq10.branch [

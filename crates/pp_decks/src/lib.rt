@@ -1,0 +1,14 @@
+//! The lines of a source and of the texts that it may read: common decks and system texts.
+#![tactic(auto)]
+
+mod blanks;
+mod decks;
+mod lines;
+mod places;
+mod spans;
+
+pub use blanks::{LAST_COLUMN, in_columns, is_empty, length_without_blanks, tail};
+pub use decks::{Deck, Decks, Text};
+pub use lines::{Call, Join, Line, Lines, cut_lines, read_lines};
+pub use places::{Complaint, placed};
+pub use spans::Span;
