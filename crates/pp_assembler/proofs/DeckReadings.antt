@@ -5,7 +5,7 @@ use Rattle.pp_decks.specs.declared.decks.Deck.{Deck}
 use Rattle.pp_decks.specs.declared.lines.Line.{Line}
 use Rattle.pp_decks.specs.declared.lines.Lines.{Lines}
 use Rattle.pp_assembler.specs.Decks.{AreCopies, HasOne, IsReading, deck_lines, name_read}
-use Rattle.pp_assembler.specs.declared.readings.Reading.{Reading}
+use Rattle.pp_expansion.specs.declared.reading.Reading.{Reading}
 
 has_one : {X : Type 0} (o : Option X) (x : X) (P : X → Type 0) → o ≡ Some x → P x → HasOne o P
 has_one o x P same holds = rw same holds

@@ -16,7 +16,7 @@ use Rattle.pp_statements.specs.declared.scope.Row.{Row}
 use Rattle.pp_assembler.specs.Meaning.{read_at}
 use Rattle.pp_assembler.specs.Naming.{deck_name}
 use Rattle.pp_assembler.specs.declared.program.Assembly.{Assembly}
-use Rattle.pp_assembler.specs.declared.readings.Reading.{Reading}
+use Rattle.pp_expansion.specs.declared.reading.Reading.{Reading}
 
 -- There is one, and it is so.
 abbrev pub HasOne : {X : Type 0} → Option X → (X → Type 0) → Type 0

@@ -2,10 +2,10 @@
 ghost use Rattle.std.specs.Prelude.{◌≡◌, IfOk, IfSome};
 ghost use Rattle.pp_assembler.specs.Meaning.{ArePerformed, IsFound, IsWordsOf, read_at};
 
-use crate::pass::Pass;
 use crate::program::Performed;
 use crate::terms::{Names, begins_with_blank, field_of, may_follow, operand_of, text_of_display};
 use pp_decks::{Lines, Span, tail};
+use pp_expansion::Pass;
 use pp_meaning::{
     Item, Literal, Operand, Operation as Meant, Refusal, Statement, Symbol, encode, program_of,
 };

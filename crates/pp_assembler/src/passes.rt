@@ -11,12 +11,11 @@ ghost use Rattle.pp_statements.specs.declared.scope.Row.{Row};
 ghost use Rattle.pp_decks.specs.Places.{IsOfLine, length_of, line_lengths};
 
 use crate::meaning::{Found, encode_performed};
-use crate::pass::Pass;
 use crate::program::{Assembly, Performed};
-use crate::readings::{Reading, are_read, are_readings};
-use crate::running::Ending;
+use crate::readings::{are_read, are_readings};
 use pp_complaints::{Known, complaints};
 use pp_decks::{Decks, Lines, Span, Text, cut_lines, placed, read_lines};
+use pp_expansion::{Ending, Pass, Reading};
 use pp_notation::{Program, Slot, program_of};
 use pp_source::{Fault, Message, Symbols, Vocabulary, Wording};
 use pp_statements::{Blocks, Programs, Scope};

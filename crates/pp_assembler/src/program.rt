@@ -1,6 +1,6 @@
 //! All that is known of a source.
-use crate::readings::Reading;
 use pp_decks::{Complaint, Decks, Lines};
+use pp_expansion::Reading;
 use pp_meaning::{Literal, Statement, Symbol};
 use pp_notation::Program;
 use pp_source::{Symbols, Vocabulary};

@@ -7,22 +7,12 @@ ghost use Rattle.pp_assembler.specs.Meaning.{read_at};
 
 use crate::naming::deck_name;
 use pp_decks::{Decks, Line, Lines, Span};
-use pp_source::{Field, Macro, Meaning, Vocabulary};
+use pp_expansion::Reading;
+use pp_source::{Macro, Meaning, Vocabulary};
 use pp_statements::Row;
 
 /// The operation that reads a deck.
 const XTEXT: &[u8; 5] = b"XTEXT";
-
-/// A line that reads a common deck, by XTEXT or *CALL.
-#[derive(Clone, Copy)]
-pub struct Reading {
-    /// The index of the line.
-    pub statement: usize,
-    /// Where the name of the deck is in it.
-    pub name: Field,
-    /// The index of the first line that it adds.
-    pub first: usize,
-}
 
 /// Returns a part of lines, or none if there is no such part.
 fn part(all: &[Line], span: Span) -> &[Line]

@@ -1,6 +1,6 @@
 //! One pass over the statements of a source: what it knows, what the source has added to the notation, and what is still to be done.
 use crate::macros::Repetition;
-use crate::readings::Reading;
+use crate::reading::Reading;
 use crate::running::{Job, Run};
 use pp_decks::Span;
 use pp_source::{Outcome, Symbols, Vocabulary};

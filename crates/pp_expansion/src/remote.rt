@@ -1,6 +1,6 @@
 //! Directives that perform lines from elsewhere, or give operations other names.
 use crate::pass::Pass;
-use crate::readings::Reading;
+use crate::reading::Reading;
 use pp_decks::{Call, Decks, Line, Lines, Span};
 use pp_source::{
     Argument, Elsewhere, FIRST_OF_COMMENTS, Fault, Field, Here, Macro, Meaning, Operation, Outcome,
