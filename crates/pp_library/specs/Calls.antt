@@ -1,8 +1,8 @@
--- What each call on a session does. A call has two definitions here: a record of its out-parameters, with the session of its handle, and a
--- relation between that record before the call, the record after it, and the status that it returns.
+-- What each call on a session does. A call has two definitions here: a record of its out-parameters, with the session of its
+-- handle, and a relation between that record before the call, the record after it, and the status that it returns.
 use Rattle.std.specs.Int.{from_bool}
-use Rattle.std.specs.Prelude.{◌≡◌, ℕ, ◌+◌, ◌*◌, ◌<◌, ◌≤◌, ◌⊎◌, All, Bool, false, List, ◌++◌, drop, length, map, min, replicate, slice_index, take}
-use Rattle.std.specs.Prelude.{IsSomeAnd, MatchOption, Option, None, Err}
+use Rattle.std.specs.Prelude.{◌≡◌, ℕ, ◌+◌, ◌*◌, ◌<◌, ◌≤◌, ◌⊎◌, All, Bool, false, List, ◌++◌, drop, length, map, min, replicate}
+use Rattle.std.specs.Prelude.{slice_index, take, IsSomeAnd, MatchOption, Option, None, Err}
 use Rattle.pp_actions.specs.declared.action.Action.TheVariants.{Turn}
 use Rattle.pp_console.specs.Answering.{AnswersPart}
 use Rattle.pp_console.specs.Commands.{State, Value, present}
@@ -137,7 +137,8 @@ pub record RecordsTurns (most : ℕ) (old new : State) (after : RecordingOuts) (
   pub moments : take after.actions after.made ≡ moments_of old.machine (replicate after.actions Turn)
   pub overwritten : take after.used after.olds ≡ olds_of old.machine (replicate after.actions Turn)
   pub within : (after.actions ≤ most) × (after.actions ≤ length after.made) × (after.used ≤ length after.olds)
-  pub full : hit ≡ false → (most ≤ after.actions) ⊎ ((length after.made ≤ after.actions) ⊎ (length after.olds < after.used + list_room))
+  pub full : hit ≡ false →
+      (most ≤ after.actions) ⊎ ((length after.made ≤ after.actions) ⊎ (length after.olds < after.used + list_room))
   pub status : result ≡ run_status hit after.actions most
 
 abbrev pub Turns : ℕ → RecordingOuts → RecordingOuts → ℕ → Type 0
@@ -159,10 +160,11 @@ pub record LooksOuts : Type 0 where
   pub into : List ℕ
   pub turns : ℕ
 
--- So many turns were performed, as a STEP performs them, with the numbers at these places after each. There are 1 to 16 (decimal) places, and
--- the machine has each of them.
+-- So many turns were performed, as a STEP performs them, with the numbers at these places after each. There are 1 to 16 (decimal)
+-- places, and the machine has each of them.
 pub record LooksAt (most : ℕ) (places : List ℕ) (old new : State) (after : LooksOuts) (result : ℕ) : Type 0 where
-  pub choice : (0 < length places) × (length places ≤ MOST_COLUMNS) × All (Has old.machine.setup.central_words) (map place_at places)
+  pub choice : (0 < length places) × (length places ≤ MOST_COLUMNS)
+      × All (Has old.machine.setup.central_words) (map place_at places)
   pub hit : Bool
   pub moves : Moves rules old new (after_turns after.turns)
   pub ends : EndsAsStep after.turns old.machine hit

@@ -12,8 +12,8 @@ pub struct Slot {
     pub line: u32,
 }
 
-/// Returns the program of the first 4096 slots, each that of the cell with its index: its words of twelve bits, and the address of its
-/// beginning, each without the bits beyond.
+/// Returns the program of the first 4096 slots, each that of the cell with its index: its words of twelve bits, and the address of
+/// its beginning, each without the bits beyond.
 ///
 /// # Errors
 /// Memory ran out.

@@ -294,8 +294,8 @@ pub fn next_origins(machine: &Rig, links: &mut [Link], used: usize) -> NextTurn
     ensures processor { result.processor ≡ machine.now.slot }
     ensures address { result.address ≡ address_of machine.now }
     ensures word { result.word ≡ word_of machine.now }
-    ensures kind { result.kind ≡ kind_of (writes_nothing (processor_origins machine.now)) (processor machine.now machine.now.slot).phase
-        (word_of machine.now) }
+    ensures kind { result.kind ≡ kind_of (writes_nothing (processor_origins machine.now))
+        (processor machine.now machine.now.slot).phase (word_of machine.now) }
     ensures items { take result.links links.new ≡ take used links.old ++ links_of (processor_origins machine.now) }
     ensures at_most { result.links ≤ used + MOST_LINKS }
 {

@@ -124,9 +124,10 @@ fn put_newest_rest(
     requires small { before.now.symbols ≤ 65536 }
     requires room { used + MOST_REST_LINKS ≤ length links.old }
     ensures at_most { result ≤ used + MOST_REST_LINKS }
-    ensures links { (v : SessionValue Machine Action) (earlier : List Action) → IsAt rules session.now v → v.standing ≡ Turn ∷ earlier →
-        let s = replay rules v.start earlier in IsWellFormed s → before.now.slot ≡ s.slot → before.now.symbols ≡ s.printer.length →
-        before.now.column ≡ s.printer.column → take result links.new ≡ take used links.old ++ links_of (rest_origins s) }
+    ensures links { (v : SessionValue Machine Action) (earlier : List Action) → IsAt rules session.now v →
+        v.standing ≡ Turn ∷ earlier → let s = replay rules v.start earlier in IsWellFormed s → before.now.slot ≡ s.slot →
+        before.now.symbols ≡ s.printer.length → before.now.column ≡ s.printer.column →
+        take result links.new ≡ take used links.old ++ links_of (rest_origins s) }
 {
     let Some(back) = session.newest() else {
         unreachable!()
