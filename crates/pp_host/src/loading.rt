@@ -35,7 +35,7 @@ pub fn open<H: Host>(host: &mut H, kind: FileKind, path: &str) -> Result<H::File
     host.open(kind, path).ok_or(Trouble::CannotOpen(kind))
 }
 
-/// Loads the named deck. Without a name the deck is empty.
+/// Loads the named deck, cards of 80 (decimal) columns with numbers from 0 to 7777. Without a name the deck is empty.
 ///
 /// # Errors
 /// `CannotOpen`, `Load`, `ReadFailed` and `NoMemory`.

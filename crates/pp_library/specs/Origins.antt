@@ -51,6 +51,7 @@ pub record RecordsOrigins (most : ℕ) (old new : State) (after : OriginsOuts) (
       ⊎ ((length after.links < after.linked + MOST_TURN_LINKS) ⊎ (length after.olds < after.used + list_room)))
   pub status : result ≡ run_status hit after.turns most
 
+-- Turns of the handle's session were performed.
 abbrev pub TurnsWithOrigins : ℕ → OriginsOuts → OriginsOuts → ℕ → Type 0
 TurnsWithOrigins most before after result = MatchOption before.session (OnlyReturns CLOSED before after result)
     (λ old. IsSomeAnd after.session (λ new. RecordsOrigins most old.session new.session after result))
@@ -65,6 +66,7 @@ pub record NextOuts : Type 0 where
   pub control : List ℕ
   pub control_count : ℕ
 
+-- There is room for the links of a step and for its control places.
 abbrev pub HasRoomForNext : NextOuts → Type 0
 HasRoomForNext outs = (MOST_LINKS ≤ length outs.links) × (MOST_CONTROL ≤ length outs.control)
 
@@ -84,6 +86,7 @@ Coming s before after result =
     (HasRoomForNext before × TellsNext s before after result)
     ⊎ ((HasRoomForNext before → ⊥) × OnlyReturns ROOM before after result)
 
+-- The machine is that of the handle's session.
 abbrev pub NextOrigins : NextOuts → NextOuts → ℕ → Type 0
 NextOrigins before after result = MatchOption before.session (OnlyReturns CLOSED before after result)
     (λ old. (v : Value) → IsAt rules old.session v → Coming (present v) before after result)

@@ -272,7 +272,7 @@ pub extern "C" fn pp6600_forward(alloc: Global, session: &mut Handle, count: u32
     status
 }
 
-/// Closes a session, and gives its memory back.
+/// Closes a session, and gives its memory back (`DONE`). Returns `CLOSED` if the handle has none.
 #[unsafe(no_mangle)]
 pub extern "C" fn pp6600_close(alloc: Global, session: &mut Handle) -> u32
     ensures { Closes session.old.value session.new.value result }

@@ -5,7 +5,7 @@ ghost use Rattle.pp_notation.specs.Cells.{IsProgram, IsStart};
 use crate::program::{Cell, Program};
 use std::alloc::{AllocError, Global};
 
-/// What the source puts into a cell; the line, from 1, is 0 if there is nothing.
+/// What the source puts into a cell: a word, of which twelve bits count, and the line, from 1, or 0 if there is nothing.
 #[derive(Clone, Copy, Default)]
 pub struct Slot {
     pub word: u16,

@@ -225,14 +225,17 @@ fn put_transfer(machine: &Rig, pp: u8, p: u16, phase: u16, links: &mut [Link], u
     put_block(op.code, &situation, links, used)
 }
 
-/// The next turn: its processor, 0 to 9, the address and the word of its instruction, what it is, and how many links there
-/// are behind those of its processor's step.
+/// The next turn.
 #[derive(Clone, Copy, Drop)]
 pub struct NextTurn {
+    /// The processor, 0 to 9 (decimal).
     pub processor: u8,
+    /// The address of its instruction, 0 to 7777.
     pub address: u16,
+    /// The word of its instruction, 0 to 7777.
     pub word: u16,
     pub kind: TurnKind,
+    /// How many links there are in the slice, with those of its processor's step.
     pub links: usize,
 }
 

@@ -31,16 +31,19 @@ pub const MOST_TURN_LINKS: usize = MOST_LINKS + MOST_REST_LINKS;
 #[repr(C)]
 #[derive(Clone, Copy, Default, Drop)]
 pub struct Made {
-    /// The processor, 0 to 9, and the address and the word of its instruction. In a block transfer these are the address
-    /// before the one in cell 0000, and the phase.
+    /// The processor, 0 to 9, or 10 (decimal) if the action is no turn.
     pub processor: u16,
+    /// The address of its instruction, 0 to 7777. In a block transfer it is the one before that in cell 0000.
     pub address: u16,
+    /// The word of its instruction, 0 to 7777. In a block transfer it is the phase.
     pub word: u16,
     /// What the turn is, by its position in `TurnKind`, from 0.
     pub kind: u16,
-    /// How many links it has, how many of them are its processor's, the first ones, and how many places it overwrote.
+    /// How many links it has.
     pub links: u16,
+    /// How many of the links are its processor's, the first ones.
     pub own: u16,
+    /// How many places it overwrote.
     pub olds: u32,
 }
 
@@ -69,8 +72,9 @@ pub fn coming(machine: &Rig, links: &mut [Link]) -> Made
 pub struct Recorded {
     /// How many turns were performed.
     pub turns: usize,
-    /// How many links they have, and how many places they overwrote.
+    /// How many links they have.
     pub links: usize,
+    /// How many places they overwrote.
     pub olds: usize,
     /// Whether the last one changed the number of a watched place.
     pub hit: bool,
