@@ -9,11 +9,11 @@ import zlib
 
 from checking import HERE, prepared, read, script_of, steps
 
-from pp6600 import Console, Failure
+from pp6600 import Failure
 from pp6600.front.film import page
+from pp6600.run.session import Session
 from pp6600.shell.command_line import arguments
 from pp6600.shell.installation import page_module
-from pp6600.shell.script import Script
 from pp6600.shell.text_files import lines_of
 
 NAMED = re.compile(r"^\* EXERCISE (\S+)[ \t\r]*$", re.M)  # the note with which a session begins that is an answer
@@ -139,10 +139,9 @@ def answer_of(own, session, panel, room, limit):
 def in_effect(words, lines, limit):
     """Returns the actions that are in effect after lines. These may take so many seconds; the time is looked at after each."""
     end = time.monotonic() + limit
-
-    def took(line, answer, turns):
-        if time.monotonic() > end:
-            raise Failure(f"it takes over {limit} (decimal) seconds")
-
-    with Console(words) as console:
-        return Script(console, lines, took).tape
+    with Session(words) as run:
+        for line in lines:
+            run.act(line)
+            if time.monotonic() > end:
+                raise Failure(f"it takes over {limit} (decimal) seconds")
+        return run.tape.replay(run.position)

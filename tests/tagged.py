@@ -7,7 +7,7 @@ import operator
 
 from tests import support as _  # it finds the package
 
-from pp6600.engine.interface import place_at, place_number
+from pp6600.run.forms import Place
 from pp6600.engine.plain import devices, instructions, machine as machines, places
 from pp6600.engine.plain.places import C, H
 from pp6600.engine.plain_engine import flat_place, own_place
@@ -17,13 +17,13 @@ TURNS = -1  # a place for the number of turns, which steps back and forward with
 
 def name_of(place):
     """Returns the name of a place: its kind and its numbers."""
-    kind, numbers = place_at(flat_place(int(place))) if place != TURNS else ("TURNS", ())
+    kind, numbers = Place.at(flat_place(int(place))) if place != TURNS else ("TURNS", ())
     return (kind, *numbers)
 
 
 def place_of(name):
     """Returns the place with a name."""
-    return own_place(place_number(name[0], name[1:]))
+    return own_place(Place(name[0], name[1:]).number)
 
 
 class Number(int):

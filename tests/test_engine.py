@@ -9,8 +9,9 @@ from tests.support import PROVED, Case
 
 from pp6600.engine import interface as flat
 from pp6600.engine.choose import engine_of
-from pp6600.engine.interface import Rejection, place_number
+from pp6600.engine.interface import Rejection
 from pp6600.failure import Failure
+from pp6600.run.forms import Place
 
 ENGINES = ["plain", *([PROVED] if PROVED else [])]
 NUMBERED = [*range(0, 0o200), *range(flat.A, flat.STATES + 24)]  # the places that are compared
@@ -41,8 +42,8 @@ class Calls(Case):
                     ("SET Q 5 7", "Q", (5,), 7), ("SET C 1000 17", "C", (0o1000,), 0o17), ("SET H 13 F 55", "H", (0o13,), 0o55)):
                 with self.subTest(line, engine=name):
                     self.assertEqual(["OK"], engine.answers(f"{line}\n"))
-                    self.assertEqual(wanted, engine.numbers(place_number(kind, numbers), 1)[0])
-            self.assertEqual(2, engine.numbers(place_number("S", (0o13,)), 1)[0])
+                    self.assertEqual(wanted, engine.numbers(Place(kind, numbers).number, 1)[0])
+            self.assertEqual(2, engine.numbers(Place("S", (0o13,)).number, 1)[0])
             engine.close()
 
     def test_records_lead_back(self):

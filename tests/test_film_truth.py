@@ -15,10 +15,10 @@ from tests.support import run as run_program
 from tests.turns import AT_END_OF_BLOCK, AT_END_OF_INPUT, NO_WORD, RETURN, ZERO, Recording, Turn, TurnKind
 
 from pp6600.engine.choose import engine_of
-from pp6600.engine.interface import CARD, CLOCK, PHASE, SLOT, WAITS, A, Form, P, Q, place_number
+from pp6600.engine.interface import CARD, CLOCK, PHASE, SLOT, WAITS, A, Form, P, Q
 from pp6600.front.film import page
 from pp6600.run.conditions import joined, parsed
-from pp6600.run.forms import CELLS, CHANNELS, PROCESSORS, STATES
+from pp6600.run.forms import CELLS, CHANNELS, PROCESSORS, STATES, Place
 from pp6600.run.session import Session
 from pp6600.run.turn import places_of_setting
 from pp6600.shell.command_line import arguments
@@ -46,7 +46,7 @@ def dumped(numbers):
              for first in range(0, PROCESSORS * CELLS, 8)]
     registers = [f"PP {n:02o} P {numbers[P + n]:04o} A {numbers[A + n]:06o} Q {numbers[Q + n]:04o} PHASE {numbers[PHASE + n]:04o} "
                  f"SLOT {numbers[SLOT]:02o}" for n in range(PROCESSORS)]
-    channels = [f"H {c:02o} {STATES[numbers[place_number('S', (c,))]]} {numbers[place_number('H', (c,))]:04o}" for c in range(CHANNELS)]
+    channels = [f"H {c:02o} {STATES[numbers[Place('S', (c,)).number]]} {numbers[Place('H', (c,)).number]:04o}" for c in range(CHANNELS)]
     return [*cells, *registers, *channels, f"H 14 F {numbers[CLOCK]:04o}"]
 
 
@@ -79,9 +79,9 @@ def written(turn):
     """Returns what a processor wrote in a turn: of each place its number, what kind of write it was, its constant and its sources."""
     ends = any(turn.effects() is one for one in (AT_END_OF_BLOCK, AT_END_OF_INPUT))
     moves = turn.processor.code == RPN or turn.processor.code == LJM and turn.processor.channel == 0  # the table has them as computed
-    return [[place_number(*write.place), MOVED * (write.is_moved or moves) | AT_END * (ends and write.place.kind == "P"),
+    return [[write.place.number, MOVED * (write.is_moved or moves) | AT_END * (ends and write.place.kind == "P"),
              "".join(constant_of(turn, name) for name in write.constants[:1]),
-             [[place_number(*source.place), bits(source.parts)] for source in write.sources]]
+             [[source.place.number, bits(source.parts)] for source in write.sources]]
             for write in turn.writes() if write.place.kind not in ("S", "PHASE")]
 
 
@@ -92,9 +92,9 @@ def written_by_devices(recording, at, turn, deck):
         has_read = channel == READER and CARD + 1 in recording.wrote(at)
         if turn.has_word_of_device(channel):
             column = COLUMNS * recording.number(CARD, at) + recording.number(CARD + 1, at)
-            found.append([place_number("H", (channel,)), BY_DEVICE, "", [[deck + column, 0]] if has_read else []])
+            found.append([Place("H", (channel,)).number, BY_DEVICE, "", [[deck + column, 0]] if has_read else []])
         if turn.is_changed_by_device(channel):
-            found.append([place_number("S", (channel,)), BY_DEVICE, "", []])
+            found.append([Place("S", (channel,)).number, BY_DEVICE, "", []])
     return found
 
 
@@ -114,7 +114,7 @@ def turns_of(run, count, deck):
 
 def line_written(line):
     """Returns the places that a SET or DEADSTART wrote, as the moments of the page have them."""
-    return sorted([place_number(*place), word or 0, "", []] for place, word in places_of_setting(line).items() if place.kind != "PHASE")
+    return sorted([place.number, word or 0, "", []] for place, word in places_of_setting(line).items() if place.kind != "PHASE")
 
 
 @unittest.skipUnless(shutil.which("node"), "there is no node")

@@ -1,5 +1,6 @@
 -- The options that the words of the command line ask for.
-use Rattle.std.specs.Prelude.{Bool, Err, List, None, Ok, Option, Result, Some, [], codes, if◌then◌else◌, is_some, nat_le, option_and_then, option_map, ℕ, ◌&&◌, ◌==◌, ◌≡◌, ◌≤◌, ◌⊎◌}
+use Rattle.std.specs.Prelude.{Bool, Err, List, None, Ok, Option, Result, Some, [], codes, if◌then◌else◌, is_some, nat_le}
+use Rattle.std.specs.Prelude.{option_and_then, option_map, ℕ, ◌&&◌, ◌==◌, ◌≡◌, ◌≤◌, ◌⊎◌}
 use Rattle.std.specs.String.{string_bytes}
 use Rattle.pp_arith.specs.Octal.{is_octal, octal_value}
 use Rattle.pp_machine.specs.declared.central.CentralSize.{CentralSize}

@@ -32,20 +32,24 @@ moved_within name actions slot short =
     rw (length-append, length-append, length-append, length-append, length-digits) (omega (arith, short, text_within actions))
 
 -- the line of a HIT at one place
-hit_at : (watched : Watched) (was now : ℕ) → length (hit_text (Some (record { place = watched; was = was; now = now }))) ≤ hit_size watched
+hit_at : (watched : Watched) (was now : ℕ) →
+    length (hit_text (Some (record { place = watched; was = was; now = now }))) ≤ hit_size watched
 unfolding hit_text place_text digits_of field
 hit_at watched was now = grind (arith, length-append, length-digits)
 
 -- the line of the first change
-hit_or_later : (test : Bool) (watched : Watched) (was now : ℕ) (later : Option Hit) (longest : ℕ) → length (hit_text later) ≤ longest →
-    length (hit_text (if test then later else Some (record { place = watched; was = was; now = now }))) ≤ max (hit_size watched) longest
+hit_or_later : (test : Bool) (watched : Watched) (was now : ℕ) (later : Option Hit) (longest : ℕ) →
+    length (hit_text later) ≤ longest →
+    length (hit_text (if test then later else Some (record { place = watched; was = was; now = now }))) ≤ max (hit_size watched)
+    longest
 hit_or_later test watched was now later longest within = grind (arith, hit_at watched was now)
 
 hit_within : (old new : Machine) (watches : List Watched) → length (hit_text (first_change old new watches)) ≤ longest_hit watches
 unfolding hit_text
 hit_within old new [] = omega arith
 hit_within old new (watched ∷ others) =
-    hit_or_later (number new (watched_place watched) == number old (watched_place watched)) watched (number old (watched_place watched))
+    hit_or_later (number new (watched_place watched) == number old (watched_place watched)) watched
+    (number old (watched_place watched))
     (number new (watched_place watched)) (first_change old new others) (longest_hit others) (hit_within old new others)
 
 -- an action by the operator
@@ -57,8 +61,8 @@ act_within : (fault : Option ActionFault) (action : Action) (v : Value) → leng
 act_within fault action v = grind (arith, fault_within)
 
 -- the hit of a run
-or_within : (hit : Option Hit) (rest : Stopped) (longest : ℕ) → length (hit_text hit) ≤ longest → length (hit_text rest.hit) ≤ longest →
-    length (hit_text (hit_or hit rest).hit) ≤ longest
+or_within : (hit : Option Hit) (rest : Stopped) (longest : ℕ) → length (hit_text hit) ≤ longest →
+    length (hit_text rest.hit) ≤ longest → length (hit_text (hit_or hit rest).hit) ≤ longest
 or_within hit rest longest first later = grind arith
 
 stopped_within : (most : ℕ) (s : Machine) → length (hit_text (stopped most s).hit) ≤ longest_hit (watches_of s)
@@ -66,7 +70,8 @@ unfolding stopped hit_text
 stopped_within zero s = omega arith
 stopped_within (suc most) s =
     let same : watches_of (turn s) ≡ watches_of s = grind (arith, turn-watches s) in
-    or_within (first_change s (turn s) (watches_of s)) (stopped most (turn s)) (longest_hit (watches_of s)) (hit_within s (turn s) (watches_of s))
+    or_within (first_change s (turn s) (watches_of s)) (stopped most (turn s)) (longest_hit (watches_of s))
+    (hit_within s (turn s) (watches_of s))
     (rw same at (stopped_within most (turn s)))
 
 step_within : (most : ℕ) (v : Value) → length (step_answer most v).text ≤ longest_move + longest_hit (watches_of (present v))

@@ -24,9 +24,11 @@ unfolding outcome lines
 so_far_none session room start at none = record { text = rw none refl; leaves = at; counts_lines = refl; counts_refused = refl }
 
 -- one more line
-pub so_far_more : (session later : State) (room next : Room) (start : Value) (bytes more line : List ℕ) (count refused : ℕ) (performed : Bool) →
+pub so_far_more : (session later : State) (room next : Room) (start : Value) (bytes more line : List ℕ) (count refused : ℕ)
+    (performed : Bool) →
     SoFar session room start bytes count refused → unfinished bytes ≡ [] → lines more ≡ line ∷ [] →
-    Fits later room next (script start bytes).value (answer_line (script start bytes).value line) (line_room (script start bytes).value line) (Some performed) →
+    Fits later room next (script start bytes).value (answer_line (script start bytes).value line)
+    (line_room (script start bytes).value line) (Some performed) →
     SoFar later next start (bytes ++ more) (count + 1) (refused + from_bool (not performed))
 so_far_more session later room next start bytes more line count refused performed so_far ended one (at, is, text) =
     let all : lines (bytes ++ more) ≡ lines bytes ++ line ∷ [] = lines_apart bytes more ended ∙ ap (λ ls. lines bytes ++ ls) one in
@@ -39,7 +41,8 @@ so_far_more session later room next start bytes more line count refused performe
     }
 
 -- the lines of a text are those of its first bytes, and the others
-pub cut_lines : (taken : ℕ) (text : List ℕ) → unfinished (take taken text) ≡ [] → lines text ≡ lines (take taken text) ++ lines (drop taken text)
+pub cut_lines : (taken : ℕ) (text : List ℕ) → unfinished (take taken text) ≡ [] →
+    lines text ≡ lines (take taken text) ++ lines (drop taken text)
 cut_lines taken text ended = ap lines (sym (take-append-drop taken text)) ∙ lines_apart (take taken text) (drop taken text) ended
 
 lines_none : lines [] ≡ []
@@ -47,8 +50,8 @@ unfolding lines
 lines_none = refl
 
 -- the rest of a text begins with this line
-pub next_lines : (rest line : List ℕ) (n : ℕ) → lines (take n rest) ≡ line ∷ [] → (unfinished (take n rest) ≡ []) ⊎ (n ≡ length rest) →
-    lines rest ≡ line ∷ lines (drop n rest)
+pub next_lines : (rest line : List ℕ) (n : ℕ) → lines (take n rest) ≡ line ∷ [] →
+    (unfinished (take n rest) ≡ []) ⊎ (n ≡ length rest) → lines rest ≡ line ∷ lines (drop n rest)
 next_lines rest line n one ends =
     grind (arith, common_steps, one, cut_lines n rest, take_all n rest, drop_all n rest, lines_none)
 
@@ -78,11 +81,21 @@ so_far_same session later room next start bytes count refused so_far at same =
     record { text = same ∙ so_far.text; leaves = at; counts_lines = so_far.counts_lines; counts_refused = so_far.counts_refused }
 
 -- the room is as it was
-pub same_left : (room next : Room) (needs : ℕ) → HasSame room next → length next.bytes.now ≡ length room.bytes.now → left_in room < needs →
-    left_in next < needs
+pub same_left : (room next : Room) (needs : ℕ) → HasSame room next → length next.bytes.now ≡ length room.bytes.now →
+    left_in room < needs → left_in next < needs
 same_left room next needs same size less =
     let counts = ap length same in
-    grind (arith, counts, size, less, room.within, next.within, length-take next.count next.bytes.now, length-take room.count room.bytes.now)
+    grind (
+      arith,
+      counts,
+      size,
+      less,
+      room.within,
+      next.within,
+      length-take next.count next.bytes.now,
+      length-take room.count
+          room.bytes.now,
+    )
 
 pub past_next : (count taken n size : ℕ) → (count ≡ LINE_LIMIT) ⊎ (BYTE_LIMIT < taken + n) → n ≤ size + 1 →
     (count ≡ LINE_LIMIT) ⊎ (BYTE_LIMIT < taken + (size + 1))
@@ -98,7 +111,8 @@ whole_lines taken typed ends =
 pub answers_part : (session : State) (room : Room) (typed : List ℕ) (start : Value) (answered : Answered) →
     SoFar session room start (take answered.taken typed) answered.lines answered.refused →
     (unfinished (take answered.taken typed) ≡ []) ⊎ (answered.taken ≡ length typed) → answered.taken ≤ length typed →
-    answered.count ≡ room.count → IsEnd answered.end typed (length room.bytes.now) (script start (take answered.taken typed)).value answered →
+    answered.count ≡ room.count →
+    IsEnd answered.end typed (length room.bytes.now) (script start (take answered.taken typed)).value answered →
     AnswersPart session typed room.bytes.now start answered
 answers_part session room typed start answered so_far ended within count end = record {
   within = (within, rw count room.within);

@@ -27,7 +27,8 @@ taken_feed line later =
     rw (length-append, append_assoc) at (take-append_seam (line ++ 10 ∷ []) later)
 
 -- a line with its line feed
-pub fed_line : (line later text : List ℕ) → finished line ≡ [] → text ≡ line ++ 10 ∷ later → lines (take (length line + 1) text) ≡ line ∷ []
+pub fed_line : (line later text : List ℕ) → finished line ≡ [] → text ≡ line ++ 10 ∷ later →
+    lines (take (length line + 1) text) ≡ line ∷ []
 fed_line line later text none is =
     rw (is, taken_feed, lines_split, finished-feed, unfinished-feed, none, open_line line none) refl
 

@@ -47,13 +47,14 @@ module _ (old new : Room) (whole : List ℕ) (prefix : AppendsPrefix (written_in
       let (front, written, proper) = prefix in
       let more = appended-text old new front written in
       let all : take new.count new.bytes.now ≡ new.bytes.now = take_all new.count new.bytes.now (omega (arith, full)) in
-      let front_length : length (take old.count old.bytes.now) ≡ old.count = grind (arith, length-take old.count old.bytes.now, old.within) in
+      let front_length : length (take old.count old.bytes.now) ≡ old.count = grind
+      (arith, length-take old.count old.bytes.now, old.within) in
       let cut = take-append-le old.count (take old.count old.bytes.now) front (omega (arith, front_length)) in
       ap (take old.count) (sym all ∙ more) ∙ cut ∙ take_all old.count (take old.count old.bytes.now) (omega (arith, front_length))
 
 -- the room is over the same slice, whether or not the text was written
-pub same_length : {T E : Type 0} (old new : Room) (text : List ℕ) (written : Result T E) → Writes (written_in old) (written_in new) written text →
-    length new.bytes.now ≡ length old.bytes.now
+pub same_length : {T E : Type 0} (old new : Room) (text : List ℕ) (written : Result T E) →
+    Writes (written_in old) (written_in new) written text → length new.bytes.now ≡ length old.bytes.now
 same_length old new text (Ok x) writes = appended-length old new text writes
 same_length old new text (Err fault) (front, written, proper) = appended-length old new front written
 
@@ -106,11 +107,14 @@ command_fits old new session v request None (Some most) is room attempt at refus
     absurd (omega (arith, within, room, attempt.fits.1))
 
 settled_refused : {E : Type 0} (middle new : Room) (before : ℕ) (written : Result Bool E) (result : Option Bool) (refused : Bool) →
-    Settles middle new before written result → IfOk written (λ performed. refused ≡ not performed) → IfSome result (λ performed. refused ≡ not performed)
+    Settles middle new before written result → IfOk written (λ performed. refused ≡ not performed) →
+    IfSome result (λ performed. refused ≡ not performed)
 settled_refused middle new before written result refused settles is = grind arith
 
-pub command_settled : {E : Type 0} (old middle new : Room) (session : State) (v : Value) (request : Request) (written : Result Bool E)
-    (result : Option Bool) → HasRoom (change_room request (present v)) (left_in old) → Tried old new (answer request v).text result →
+pub command_settled : {E : Type 0} (old middle new : Room) (session : State) (v : Value) (request : Request)
+    (written : Result Bool E)
+    (result : Option Bool) → HasRoom (change_room request (present v)) (left_in old) → Tried old new (answer request v).text result
+    →
     Settles middle new old.count written result → IfOk written (λ performed. (answer request v).refused ≡ not performed) →
     IsAt rules session (answer request v).value → Fits session old new v (answer request v) (request_room v request) result
 command_settled old middle new session v request written result room attempt settles refused at =

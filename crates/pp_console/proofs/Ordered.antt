@@ -41,7 +41,7 @@ module _ {start : Value} {first : Dialogue} {before : Reads} where
       subst (λ bytes. ReadsOnTime start first bytes before after) (append_cancel_left given bytes others (sym is ∙ same)) reads
 
 -- a script as far as it was read is on time
-pub HasRead-on_time : {progress : Progress} {session : State} {before text : Written} {start : Value} {bytes given : List ℕ} (read : List ℕ) →
-    read ≡ given ++ bytes → HasRead progress session text (origin_of start before) bytes →
+pub HasRead-on_time : {progress : Progress} {session : State} {before text : Written} {start : Value} {bytes given : List ℕ}
+    (read : List ℕ) → read ≡ given ++ bytes → HasRead progress session text (origin_of start before) bytes →
     IsOnTime start (record { read = given; written = before.bytes }) (record { read = read; written = text.bytes })
 HasRead-on_time {bytes = bytes} read e has_read = record { bytes = bytes; read = e; written = has_read.ended.performed.writes.0 }

@@ -53,8 +53,8 @@ parsed_room v (Err fault) = length (fault_text fault)
 unfoldable pub line_room : Value → List ℕ → ℕ
 line_room v line = parsed_room v (command line)
 
--- What a sink over a slice has written. Of what its device holds the first two numbers name the slice, so no call of the sink exchanges
--- it for another.
+-- What a sink over a slice has written. Of what its device holds the first two numbers name the slice, so no call of the sink
+-- exchanges it for another.
 abbrev pub written_in : Room → Written
 written_in room =
     let written = take room.count room.bytes.now in

@@ -56,8 +56,8 @@ Fits session old new v answer needs result = MatchOption result
 
 -- ---- a whole script
 
--- Why no further line was answered, given the script, the room, and the session then: there was none; or the next line may need more
--- room than is left; or it is past a limit.
+-- Why no further line was answered, given the script, the room, and the session then: there was none; or the next line may need
+-- more room than is left; or it is past a limit.
 abbrev pub IsEnd : End → List ℕ → ℕ → Value → Answered → Type 0
 IsEnd end.All typed room v answered = answered.taken ≡ length typed
 IsEnd end.Room typed room v answered =
@@ -67,8 +67,8 @@ IsEnd end.Limit typed room v answered =
     (line : List ℕ) × (later : List (List ℕ)) × (lines (drop answered.taken typed) ≡ line ∷ later)
     × ((answered.lines ≡ LINE_LIMIT) ⊎ (BYTE_LIMIT < answered.taken + (length line + 1)))
 
--- The first lines of the script were performed, from this session value on: the text of their answers is the definition's, and so are
--- the session and the counts. The other lines of the script are those of the bytes that are left.
+-- The first lines of the script were performed, from this session value on: the text of their answers is the definition's, and so
+-- are the session and the counts. The other lines of the script are those of the bytes that are left.
 pub record AnswersPart (session : State) (typed into : List ℕ) (start : Value) (answered : Answered) : Type 0 where
   pub within : (answered.taken ≤ length typed) × (answered.count ≤ length into)
   pub text : take answered.count into ≡ (script start (take answered.taken typed)).text

@@ -1,6 +1,7 @@
 //! Answers to lines, as many as a slice has room for.
 ghost use Rattle.pp_console.specs.AnswerRoom.{change_room, hit_size, line_room, longest_hit, request_room};
-ghost use Rattle.pp_console.specs.Answering.{AnswersPart, Fits, HasMore, HasRoom, HasSame, IsSameSlice, LacksRoom, Settles, left_in};
+ghost use Rattle.pp_console.specs.Answering.{AnswersPart, Fits, HasMore, HasRoom, HasSame};
+ghost use Rattle.pp_console.specs.Answering.{IsSameSlice, LacksRoom, Settles, left_in};
 ghost use Rattle.pp_console.specs.Commands.{Value, answer};
 ghost use Rattle.pp_console.specs.Refusals.{fault_text};
 ghost use Rattle.pp_console.specs.Script.{answer_line};

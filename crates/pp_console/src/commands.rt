@@ -4,7 +4,8 @@ ghost use Rattle.pp_lines.specs.Puts.{Puts};
 ghost use Rattle.pp_console.specs.Moves.{moved_text};
 ghost use Rattle.pp_console.specs.Watches.{hit_text};
 ghost use Rattle.pp_actions.specs.Admitting.{first_fault};
-ghost use Rattle.pp_console.specs.Commands.{Performs, act_or, answer, back_answer, central_answer, change_answer, forward_answer, present, step_answer};
+ghost use Rattle.pp_console.specs.Commands.{Performs, act_or, answer, back_answer, central_answer, change_answer, forward_answer};
+ghost use Rattle.pp_console.specs.Commands.{present, step_answer};
 ghost use Rattle.pp_console.specs.Script.{answer_line};
 
 use crate::dumps::{put_cells, put_central, put_channels, put_frame, put_processor, put_reader};

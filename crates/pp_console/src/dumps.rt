@@ -37,7 +37,7 @@ fn row_line(machine: &Rig, pp: u8, last: u16, from: u16) -> ArrayVec<u8, 45>
 // A function clears the space of its locals when it is entered. The locals of a dump are large, so each
 // dump is a function of its own, and none is inlined.
 
-/// Writes the cells from `first` to `last`, eight in a row.
+/// Writes the cells of processor `pp`, 0 to 9 (decimal), from address `first` to `last`, 0 to 7777, eight (decimal) in a row.
 ///
 /// # Errors
 /// `Failed` if a call of the sink fails.

@@ -19,6 +19,7 @@ pub const KEPT: usize = 257;
 pub struct Progress {
     /// The line that no line feed has ended yet.
     pub line: LineCutter<KEPT>,
+    /// How many bytes were read, at most `BYTE_LIMIT`.
     pub bytes: u32,
     /// The lines that have ended.
     pub summary: Summary,

@@ -169,7 +169,8 @@ pub fn serve_terminal<R: Source, W: Sink>(
         × Consumes (R.rest (source_of terminal.old)) (R.rest (source_of terminal.new)) taken
         × (R.given (source_of terminal.new) ≡ R.given (source_of terminal.old) ++ taken)
         × ((start : Value) → IsAt rules session.old start → MatchResult result
-        (λ summary. Serves summary session.new (W.text (sink_of terminal.new)) (origin_of start (W.text (sink_of terminal.old))) taken)
+        (λ summary. Serves summary session.new (W.text (sink_of terminal.new))
+        (origin_of start (W.text (sink_of terminal.old))) taken)
         (λ fault. Stops fault session.new (W.text (sink_of terminal.new)) (origin_of start (W.text (sink_of terminal.old))) taken
         (R.rest (source_of terminal.new)))) }
     ensures all { OnOk result (IsAtEnd (R.rest (source_of terminal.new))) }

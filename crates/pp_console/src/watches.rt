@@ -64,7 +64,7 @@ pub fn put_watches<W: Sink>(watches: &[Watched], out: &mut W) -> Result<(), Fail
     put_all(out, lines.as_slice())
 }
 
-/// Appends the change that ended a run, if there is one.
+/// Appends the change that ended a run, if there is one, in at most 60 (decimal) bytes.
 #[tactic(auto, unfolding(crate::specs::Watches::hit_text))]
 pub fn push_hit(lines: &mut ArrayVec<u8, 120>, hit: Option<Hit>)
     requires { array_vec_len lines.old ≤ 60 }

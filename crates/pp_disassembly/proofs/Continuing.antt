@@ -1,7 +1,8 @@
 -- What statements assemble to after one more.
-use Rattle.std.proofs.Common.{◌≡◌, ◌∙◌, ℕ, ◌+◌, ◌-◌, ◌<◌, ◌≤◌, true, List, [], ◌∷◌, ◌++◌, Option, Some, None, All, get_or, zero, length, take, drop}
-use Rattle.std.proofs.Common.{suc, refl, sym, subst, take_all, length-drop, ap, arith, append-nil}
-use Rattle.std.proofs.{lemmas.List.Sums.fold-append, lemmas.Bool.Decides.nat_tests, Math.Seq.take-add, lemmas.List.length-take-le, lemmas.List.length-map, lemmas.List.map-append}
+use Rattle.std.proofs.Common.{◌≡◌, ◌∙◌, ℕ, ◌+◌, ◌-◌, ◌<◌, ◌≤◌, true, List, [], ◌∷◌, ◌++◌, Option, Some, None, All, get_or, zero}
+use Rattle.std.proofs.Common.{length, take, drop, suc, refl, sym, subst, take_all, length-drop, ap, arith, append-nil}
+use Rattle.std.proofs.{lemmas.List.Sums.fold-append, lemmas.Bool.Decides.nat_tests, Math.Seq.take-add, lemmas.List.length-take-le}
+use Rattle.std.proofs.{lemmas.List.length-map, lemmas.List.map-append}
 use Rattle.pp_notation.specs.{Cells.IsCell, declared.program.Cell.Cell}
 use Rattle.pp_notation.proofs.RowCells.{IsRow-one}
 use Rattle.pp_disassembly.specs.declared.statement.Name.{Name}
@@ -10,8 +11,8 @@ use Rattle.pp_disassembly.specs.declared.statement.Operation.{Operation}
 use Rattle.pp_disassembly.specs.declared.statement.Operation.TheVariants.{Base, End, Equal, Origin}
 use Rattle.pp_disassembly.specs.declared.statement.Statement.{Statement}
 use Rattle.pp_notation.specs.Rows.{IsRow, first_address, words_in}
-use Rattle.pp_disassembly.specs.Statements.{Adds, Assembly, Continues, HasAssembled, HasWords, addressed, after, assembled, cells_of, follow}
-use Rattle.pp_disassembly.specs.Statements.{is_named, labelled_address, placed, with_words, words_of}
+use Rattle.pp_disassembly.specs.Statements.{Adds, Assembly, Continues, HasAssembled, HasWords, addressed, after, assembled}
+use Rattle.pp_disassembly.specs.Statements.{cells_of, follow, is_named, labelled_address, placed, with_words, words_of}
 
 -- a statement
 abbrev pub statement : Option Name → Operation → Statement
@@ -54,7 +55,8 @@ continues-equal old new label row continues two named = λ before right here.
 
 pub has-words : (label : Option Name) (operation : Operation) (row : List Cell) (address : ℕ) → first_address row ≡ address →
     IsRow (first_address row) row → words_of (first_address row) operation ≡ Some (words_in row) →
-    labelled_address (first_address row) operation ≡ first_address row → is_named label address ≡ true → HasWords label operation row
+    labelled_address (first_address row) operation ≡ first_address row → is_named label address ≡ true →
+    HasWords label operation row
 has-words label operation row address own follows words place named = record {
   follows = follows;
   words = words;
@@ -64,8 +66,9 @@ has-words label operation row address own follows words place named = record {
 -- a statement that has the first word of a row
 pub adds-one : (old new : List Statement) (label : Option Name) (operation : Operation) (row : List Cell) (d : Cell) →
     All IsCell row → 0 < length row → words_of (get_or row 0 d).address operation ≡ Some ((get_or row 0 d).word ∷ []) →
-    labelled_address (get_or row 0 d).address operation ≡ (get_or row 0 d).address → is_named label (get_or row 0 d).address ≡ true →
-    ((part : List Cell) → HasWords label operation part → Continues old new part) → Adds old new row 1
+    labelled_address (get_or row 0 d).address operation ≡ (get_or row 0 d).address →
+    is_named label (get_or row 0 d).address ≡ true → ((part : List Cell) → HasWords label operation part → Continues old new part) →
+    Adds old new row 1
 adds-one old new label operation [] d small some words place named pushed = absurd (omega arith)
 adds-one old new label operation (cell ∷ row) d small some words place named pushed =
     let follows = IsRow-one (cell ∷ row) small some in
@@ -130,26 +133,28 @@ origin-more old next address cells has = record {
 }
 
 -- one more row
-row-more : (old new : List Statement) (address done count : ℕ) (cells : List Cell) → HasAssembled old (Some address) (take done cells) →
-    Adds old new (drop done cells) count → 0 < count → first_address (drop done cells) ≡ address →
-    HasAssembled new (Some (address + count)) (take (done + count) cells)
+row-more : (old new : List Statement) (address done count : ℕ) (cells : List Cell) →
+    HasAssembled old (Some address) (take done cells) → Adds old new (drop done cells) count → 0 < count →
+    first_address (drop done cells) ≡ address → HasAssembled new (Some (address + count)) (take (done + count) cells)
 row-more old new address done count cells has adds some own =
-    let size : length (take count (drop done cells)) ≡ count = length-take-le count (drop done cells) adds.within in
-    let first : first_address (take count (drop done cells)) ≡ address = first_address-take (drop done cells) count some ∙ own in
+    let part = take count (drop done cells) in
+    let size : length part ≡ count = length-take-le count (drop done cells) adds.within in
+    let first : first_address part ≡ address = first_address-take (drop done cells) count some ∙ own in
+    let pair : Cell → ℕ × ℕ = λ cell. (cell.address, cell.word) in
     record {
       assembly = record {
-        here = has.assembly.here + length (take count (drop done cells));
-        cells = has.assembly.cells ++ addressed (take count (drop done cells));
+        here = has.assembly.here + length part;
+        cells = has.assembly.cells ++ addressed part;
       };
       right = adds.continues has.assembly has.right (has.here ∙ sym first);
-      words = rw (has.words, take-add done count cells) (sym (map-append (λ (cell : Cell). (cell.address, cell.word)) (take done cells) (take count (drop done cells))));
+      words = rw (has.words, take-add done count cells) (sym (map-append pair (take done cells) part));
       here = omega (arith, has.here, size);
     }
 
 -- one more row, of the rest of the cells as a slice
 pub row-added : (old new : List Statement) (address done count : ℕ) (cells : List Cell) →
-    HasAssembled old (Some address) (take done cells) → Adds old new (take (length cells - done) (drop done cells)) count → 0 < count →
-    first_address (take (length cells - done) (drop done cells)) ≡ address →
+    HasAssembled old (Some address) (take done cells) → Adds old new (take (length cells - done) (drop done cells)) count →
+    0 < count → first_address (take (length cells - done) (drop done cells)) ≡ address →
     HasAssembled new (Some (address + count)) (take (done + count) cells)
 row-added old new address done count cells has adds some own =
     let rest : take (length cells - done) (drop done cells) ≡ drop done cells =

@@ -11,7 +11,8 @@ use Rattle.pp_disassembly.specs.declared.statement.Name.{Name}
 use Rattle.pp_disassembly.specs.declared.statement.Operand.{Operand}
 use Rattle.pp_disassembly.specs.declared.statement.Operand.TheVariants.{Number, Minus, Here, Named}
 use Rattle.pp_disassembly.specs.declared.statement.Operation.{Operation}
-use Rattle.pp_disassembly.specs.declared.statement.Operation.TheVariants.{Base, Origin, Instruction, Subroutine, Equal, Words, Zeros, End}
+use Rattle.pp_disassembly.specs.declared.statement.Operation.TheVariants.{Base, Origin, Instruction, Subroutine}
+use Rattle.pp_disassembly.specs.declared.statement.Operation.TheVariants.{Equal, Words, Zeros, End}
 use Rattle.pp_disassembly.specs.declared.statement.Statement.{Statement}
 
 -- A name is a letter and the address of its cell. The exit of a subroutine has the entry's name and X.

@@ -1,6 +1,6 @@
 -- The words of the statements that a disassembler writes.
-use Rattle.std.specs.Prelude.{◌≡◌, ◌≤◌, ⊤, MatchOption, take, ℕ, ◌+◌, ◌-◌, ◌*◌, ◌==◌, ◌||◌, nat_le, Bool, true, if◌then◌else◌, List, [], ◌∷◌, ◌++◌}
-use Rattle.std.specs.Prelude.{Option, Some, None, fold, length, map, replicate}
+use Rattle.std.specs.Prelude.{◌≡◌, ◌≤◌, ⊤, MatchOption, take, ℕ, ◌+◌, ◌-◌, ◌*◌, ◌==◌, ◌||◌, nat_le, Bool, true, if◌then◌else◌, List}
+use Rattle.std.specs.Prelude.{[], ◌∷◌, ◌++◌, Option, Some, None, fold, length, map, replicate}
 use Rattle.pp_notation.specs.Instructions.{form}
 use Rattle.pp_notation.specs.InstructionWords.{at_most, constant_words, one_word, then_distance}
 use Rattle.pp_notation.specs.Rows.{IsRow, first_address, words_in}
@@ -16,8 +16,8 @@ use Rattle.pp_disassembly.specs.declared.statement.Statement.{Statement}
 
 -- ---- an operand
 
--- The field of an instruction at `here` whose greatest number is `most`: the operand's number, or the complement of one with a minus
--- sign.
+-- The field of an instruction at `here` whose greatest number is `most`: the operand's number, or the complement of one with a
+-- minus sign.
 abbrev pub field : ℕ → ℕ → Operand → Option ℕ
 field most here (Number n) = at_most most n
 field most here (Minus n) = if nat_le n most then Some (most - n) else None
@@ -43,15 +43,16 @@ words_of_form Indexed here code (Some first) (Some d) = two_words code d (field 
 words_of_form Both here code (Some first) (Some d) = two_words code d (field 0o7777 here first)
 words_of_form _ here code first second = None
 
--- The words of an instruction at `here`: its code, the first operand, and d if it is a second one. Codes 24 and 25 have no name of their
--- own.
+-- The words of an instruction at `here`: its code, the first operand, and d if it is a second one. Codes 24 and 25 have no name of
+-- their own.
 abbrev pub instruction_words : ℕ → ℕ → Option Operand → Option ℕ → Option (List ℕ)
 instruction_words here code first second =
     if code == 0o24 || code == 0o25 then None else words_of_form (form code) here code first second
 
 -- ---- a statement
 
--- The words of a statement at `here`; ORG is none that has words. SUBR is an exit, 0100 and the address of the exit, until a return jump stores there.
+-- The words of a statement at `here`; ORG is none that has words. SUBR is an exit, 0100 and the address of the exit, until a return
+-- jump stores there.
 abbrev pub words_of : ℕ → Operation → Option (List ℕ)
 words_of here (Instruction code first second) = instruction_words here code first second
 words_of here Subroutine = Some (0o100 ∷ here ∷ [])
@@ -60,7 +61,8 @@ words_of here (Zeros count) = Some (replicate count 0)
 words_of here (Origin address) = None
 words_of here _ = Some []
 
--- The address that a label of a statement at `here` names. That of SUBR is the entry, after the exit, and that of EQU *-1 the cell before.
+-- The address that a label of a statement at `here` names. That of SUBR is the entry, after the exit, and that of EQU *-1 the cell
+-- before.
 abbrev pub labelled_address : ℕ → Operation → ℕ
 labelled_address here Subroutine = here + 1
 labelled_address here Equal = here - 1

@@ -235,7 +235,8 @@ fn push(
     label: Option<Name>,
     operation: Operation,
 ) -> Result<(), AllocError>
-    ensures items { OnOk result (statements.new.items ≡ statements.old.items ++ record { label = label; operation = operation } ∷ []) }
+    ensures items { OnOk result
+        (statements.new.items ≡ statements.old.items ++ record { label = label; operation = operation } ∷ []) }
     ensures continues { OnOk result ((row : List ProgramCell) → HasWords label operation row →
         Continues statements.old.items statements.new.items row) }
 {

@@ -66,13 +66,14 @@ line-fault : (rule : Rule) (bytes : List ℕ) (rows : List Row) (front : List �
     front ≡ take KEPT (unfinished bytes) → k ≡ length (finished bytes) + 1 → length bytes < file_limit →
     rows_of_lines rule (finished bytes) ≡ Ok rows → FailsAt rule k rows front fault → FailsAfter rule (bytes ++ 10 ∷ []) fault
 line-fault rule bytes rows front fault k kept count room read (inl fails) = inl (λ more.
-    let further = file-lines bytes more room in
-    line-fails rule ((bytes ++ 10 ∷ []) ++ more) rows (finished bytes) (unfinished bytes) front further.0 fault k kept count further.1 read fails)
+    let (later, split) = file-lines bytes more room in
+    line-fails rule ((bytes ++ 10 ∷ []) ++ more) rows _ (unfinished bytes) front later fault k kept count split read fails)
 line-fault rule bytes rows front fault k kept count room read (inr (none, has_rows, is_row)) = inr (
   none,
   λ more.
-      let further = file-lines bytes more room in
-      line-runs-out rule ((bytes ++ 10 ∷ []) ++ more) rows (finished bytes) (unfinished bytes) front further.0 k kept count further.1 read (has_rows, is_row),
+      let (later, split) = file-lines bytes more room in
+      line-runs-out rule ((bytes ++ 10 ∷ []) ++ more) rows _ (unfinished bytes) front later k kept count split read
+      (has_rows, is_row),
 )
 
 pub HasReadFile-fault : (old : Progress) (rule : Rule) (Holds : List Row → Type 0) (fault : LoadFault) (bytes : List ℕ) →

@@ -45,8 +45,8 @@ rows_of_file rule limit bytes =
 abbrev pub card_rule : Rule
 card_rule k rows row = if nat_le (length row) 80 then Ok (rows ++ row ∷ []) else Err (TooManyWords k)
 
--- The cards of a deck file, a card for each line that is not ignored, or the file's first fault. A card has 80 (decimal) columns: the
--- numbers of its line, and then zeros.
+-- The cards of a deck file, a card for each line that is not ignored, or the file's first fault. A card has 80 (decimal) columns:
+-- the numbers of its line, and then zeros.
 unfoldable pub deck_of_file : List ℕ → Result (List Row) LoadFault
 deck_of_file bytes = rows_of_file card_rule file_limit bytes >>= λ rows. Ok (map (λ row. row ++ replicate (80 - length row) 0) rows)
 

@@ -5,7 +5,8 @@ ghost use Rattle.pp_lines.specs.Device.{all_bytes};
 ghost use Rattle.pp_files.specs.Rows.{Row};
 ghost use Rattle.pp_files.specs.Files.{file_limit, rows_of_file};
 ghost use Rattle.pp_files.specs.Fault.{CountsLoadReads, IsLoadCause};
-ghost use Rattle.pp_files.specs.Inner.Loading.{with_line, HasReadFile, Reads, FailsAfter, FailsAt, FailsIn, IsLineFault, IsSheetFault};
+ghost use Rattle.pp_files.specs.Inner.Loading.{with_line, HasReadFile, Reads, FailsAfter};
+ghost use Rattle.pp_files.specs.Inner.Loading.{FailsAt, FailsIn, IsLineFault, IsSheetFault};
 
 use crate::fault::LoadFault;
 use crate::progress::{FILE_LIMIT, LONGEST, Progress};
@@ -105,7 +106,8 @@ pub fn read_sheet<R: Source, S: Sheet>(source: &mut R, sheet: &mut S) -> Result<
         × (R.given source.new ≡ R.given source.old ++ taken)
         × MatchResult result
         (λ _. Reads (S.holds sheet.new) (rows_of_file S.rule file_limit taken))
-        (λ fault. IsLoadCause S.rule (rows_of_file S.rule file_limit) (R.ended source.new) taken (all_bytes (R.rest source.old) taken) fault) }
+        (λ fault. IsLoadCause S.rule (rows_of_file S.rule file_limit) (R.ended source.new)
+        taken (all_bytes (R.rest source.old) taken) fault) }
     ensures all { OnOk result (IsAtEnd (R.rest source.new)) }
     ensures ended { OnOk result (R.ended source.new ≡ true) }
     ensures reads { CountsLoadReads (R.failure_count source.old) (R.failure_count source.new) result }

@@ -44,7 +44,7 @@ pub trait Sheet {
         ensures faults { IfErr result (IsLineFault needs_memory) };
 }
 
-/// The cards of a deck.
+/// The cards of a deck: each column a number from 0 to 7777.
 #[derive(Drop)]
 pub struct Deck {
     pub cards: Vec<[u16; COLUMNS]>,
@@ -75,7 +75,7 @@ fn card(row: &ArrayVec<u16, COLUMNS>) -> [u16; COLUMNS]
     card
 }
 
-/// The words of a panel, as far as they were read.
+/// The words of a panel, 0 to 7777, as far as they were read.
 #[derive(Drop)]
 pub struct Panel {
     pub words: ArrayVec<u16, PANEL_WORDS>,

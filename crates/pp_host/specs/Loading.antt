@@ -23,8 +23,8 @@ panel_at None content = Ok None
 panel_at (Some path) Missing = Err (CannotOpen Panel)
 panel_at (Some path) (Content bytes) = result_map_both Some (of_load Panel) (panel_of_file bytes)
 
--- What was read of a file settles this: it holds of its content. And it holds whatever bytes follow those that were read, unless the
--- file was read to its end.
+-- What was read of a file settles this: it holds of its content. And it holds whatever bytes follow those that were read, unless
+-- the file was read to its end.
 abbrev pub IsFoundSettled : Bool → Found → Found → (Found → Type 0) → Type 0
 IsFoundSettled ended Missing content Holds = (content ≡ Missing) × Holds Missing
 IsFoundSettled ended (Content read) content Holds =

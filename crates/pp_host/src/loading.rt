@@ -7,7 +7,8 @@ ghost use Rattle.pp_host.specs.Host.{IsOpened};
 ghost use Rattle.pp_host.specs.Known.{Agrees, Found};
 ghost use Rattle.pp_host.specs.Loading.{IsFoundSettled, IsLost, deck_at, panel_at};
 ghost use Rattle.pp_trouble.specs.declared.trouble.Trouble.TheVariants.{CannotOpen, ReadFailed};
-ghost use Rattle.std.specs.Prelude.{◌≡◌, ◌⊎◌, ◌<◌, ◌≤◌, ◌++◌, ◌∷◌, [], All, Err, false, IfOk, IfSome, MatchResult, Ok, option_map, ℕ};
+ghost use Rattle.std.specs.Prelude.{◌≡◌, ◌⊎◌, ◌<◌, ◌≤◌, ◌++◌, ◌∷◌, [], All, Err, false, IfOk};
+ghost use Rattle.std.specs.Prelude.{IfSome, MatchResult, Ok, option_map, ℕ};
 ghost use Rattle.std.specs.String.{string_bytes};
 
 use crate::host::Host;
@@ -28,12 +29,13 @@ pub fn open<H: Host>(host: &mut H, kind: FileKind, path: &str) -> Result<H::File
     ensures content { MatchResult result
         (λ file. IsOpened (H.known_files host.old path.now) (H.File.rest file))
         (λ trouble. (trouble ≡ CannotOpen kind) × Agrees (H.known_files host.old path.now) Found.Missing) }
-    ensures unread { IfOk result (λ file. (H.File.given file ≡ []) × (H.File.ended file ≡ false) × (H.File.failure_count file ≡ 0)) }
+    ensures unread { IfOk result
+        (λ file. (H.File.given file ≡ []) × (H.File.ended file ≡ false) × (H.File.failure_count file ≡ 0)) }
 {
     host.open(kind, path).ok_or(Trouble::CannotOpen(kind))
 }
 
-/// Loads the named deck. Without a name the deck is empty.
+/// Loads the named deck, cards of 80 (decimal) columns with numbers from 0 to 7777. Without a name the deck is empty.
 ///
 /// # Errors
 /// `CannotOpen`, `Load`, `ReadFailed` and `NoMemory`.

@@ -31,7 +31,8 @@ pub trait FileSystem {
         ensures content { MatchOption result
             (Agrees (known_files self.old path.now) Missing)
             (λ file. IsOpened (known_files self.old path.now) (Self.File.rest file)) }
-        ensures unread { IfSome result (λ file. (Self.File.given file ≡ []) × (Self.File.ended file ≡ false) × (Self.File.failure_count file ≡ 0)) };
+        ensures unread { IfSome result
+            (λ file. (Self.File.given file ≡ []) × (Self.File.ended file ≡ false) × (Self.File.failure_count file ≡ 0)) };
 
     /// Closes a file, and logs the bytes that were read from it, and whether to its end.
     fn close(&mut self, file: Self::File)

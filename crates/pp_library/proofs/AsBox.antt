@@ -12,7 +12,11 @@ use Rattle.pp_library.specs.contracts.raw_box.RawBox as RawBox
 use Rattle.pp_library.specs.contracts.handle.Handle as Handle
 
 abbrev pub E : Bx
-E = record { row = Held.the_row; laws = held.the_row_laws; al = record { row = Heap.the_row; laws = heap.the_row_laws; g = ghosts; d = dict; drops = impl [] tnil dnil } }
+E = record {
+  row = Held.the_row;
+  laws = held.the_row_laws;
+  al = record { row = Heap.the_row; laws = heap.the_row_laws; g = ghosts; d = dict; drops = impl [] tnil dnil };
+}
 
 abbrev pub FromRawBox : Slot 0
 FromRawBox = plain (λ _. RawBox.the_row Held.the_row Heap.the_row ghosts)

@@ -1,12 +1,14 @@
 -- The same text and the same cells under another name, and addresses that are there once.
-use Rattle.std.proofs.Common.{◌≡◌, ◌≢◌, ℕ, ◌+◌, ◌<◌, ◌≤◌, List, ◌++◌, Bool, true, false, Option, AllPairs, Any, length, take, get_or, subst, sym, ◌∙◌, ap, inl, inr, arith, get_or-take, length-take-le}
+use Rattle.std.proofs.Common.{◌≡◌, ◌≢◌, ℕ, ◌+◌, ◌<◌, ◌≤◌, List, ◌++◌, Bool, true, false, Option, AllPairs, Any, length, take}
+use Rattle.std.proofs.Common.{get_or, subst, sym, ◌∙◌, ap, inl, inr, arith, get_or-take, length-take-le}
 use Rattle.std.proofs.lemmas.Bool.{cases_lt}
 use Rattle.std.proofs.lemmas.List.{get_or_default}
 use Rattle.pp_notation.specs.declared.program.Cell.{Cell}
 use Rattle.pp_library.specs.Outcomes.{PutsText}
 use Rattle.pp_loading.specs.LoadLines.{Loads, cell_list, start_list}
 
-pub puts_same : (text same before after : List ℕ) (count result : ℕ) → text ≡ same → PutsText text before after count result → PutsText same before after count result
+pub puts_same : (text same before after : List ℕ) (count result : ℕ) → text ≡ same → PutsText text before after count result →
+    PutsText same before after count result
 puts_same text same before after count result e puts =
     let P : List ℕ → Type 0 = λ t. PutsText t before after count result in subst P e puts
 
@@ -21,13 +23,15 @@ not_both b at_true at_false = cc
 
 -- If an earlier cell has the address of cell k, an address is there twice.
 pub twice : (cells earlier : List Cell) (k : ℕ) (d : Cell) → k < length cells → earlier ≡ take k cells
-    → Any (λ cell. cell.address ≡ (get_or cells k d).address) earlier → AllPairs (λ one other. one.address ≢ other.address) cells → ⊥
+    → Any (λ cell. cell.address ≡ (get_or cells k d).address) earlier → AllPairs (λ one other. one.address ≢ other.address) cells →
+    ⊥
 twice cells earlier k d below e (m, x, m_below, at, same) each =
     let k_le : k ≤ length cells = omega arith in
     let long : length earlier ≡ k = ap length e ∙ length-take-le k cells k_le in
     let m_k : m < k = omega arith in
     let moved : get_or earlier m x ≡ get_or cells m x = ap (λ (l : List Cell). get_or l m x) e ∙ get_or-take k cells m x m_k in
-    let here : (get_or cells k d).address ≡ (get_or cells k x).address = ap (λ (cell : Cell). cell.address) (get_or_default cells k d x below) in
+    let here : (get_or cells k d).address ≡ (get_or cells k x).address = ap (λ (cell : Cell). cell.address)
+    (get_or_default cells k d x below) in
     each m k x m_k below (ap (λ (cell : Cell). cell.address) (sym moved ∙ at) ∙ same ∙ here)
 
 -- If no earlier cell has the address of cell k, the addresses up to k are there once.
@@ -46,7 +50,8 @@ one_more cells earlier k d below e none each i j o i_j j_k same = elim (cases_lt
       let i_in : i < length cells = omega arith in
       let x : Cell = get_or cells i o in
       let moved : get_or earlier i x ≡ get_or cells i x = ap (λ (l : List Cell). get_or l i x) e ∙ get_or-take k cells i x i_k in
-      let here : (get_or cells k o).address ≡ (get_or cells k d).address = ap (λ (cell : Cell). cell.address) (get_or_default cells k o d below) in
+      let here : (get_or cells k o).address ≡ (get_or cells k d).address = ap (λ (cell : Cell). cell.address)
+      (get_or_default cells k o d below) in
       let there : (get_or cells j o).address ≡ (get_or cells k o).address = ap (λ (n : ℕ). (get_or cells n o).address) j_at in
       none (i, x, i_below, moved ∙ get_or_default cells i x o i_in, same ∙ there ∙ here)
 ]

@@ -33,8 +33,8 @@ pub record InstructionOuts : Type 0 where
   pub words : ℕ
   pub form : ℕ
 
--- The name of the instruction with a code is written (DONE), or there is no room for it (ROOM), with how many words it has and the number of
--- its form; or there is no such code (REFUSED).
+-- The name of the instruction with a code is written (DONE), or there is no room for it (ROOM), with how many words it has and the
+-- number of its form; or there is no such code (REFUSED).
 abbrev pub WritesInstruction : ℕ → InstructionOuts → InstructionOuts → ℕ → Type 0
 WritesInstruction code before after result =
     ((code < 0o100) × PutsText (mnemonic code) before.into after.into after.count result

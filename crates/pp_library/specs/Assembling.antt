@@ -1,5 +1,6 @@
 -- What the assembler writes for C.
-use Rattle.std.specs.Prelude.{◌≡◌, ◌≢◌, ℕ, ◌<◌, ◌≤◌, ◌==◌, ◌⊎◌, All, AllPairs, List, [], Some, ◌++◌, flat_map, map, if◌then◌else◌, length}
+use Rattle.std.specs.Prelude.{◌≡◌, ◌≢◌, ℕ, ◌<◌, ◌≤◌, ◌==◌, ◌⊎◌, All, AllPairs, List, []}
+use Rattle.std.specs.Prelude.{Some, ◌++◌, flat_map, map, if◌then◌else◌, length}
 use Rattle.pp_notation.specs.Cells.{IsCell, IsProgram, IsStart}
 use Rattle.pp_listing.specs.Listing.{listed_row}
 use Rattle.pp_decks.specs.Places.{IsOfLine, line_lengths}
@@ -29,8 +30,8 @@ pub record AssembleOuts : Type 0 where
 abbrev pub text_of : CommonDeck → Text
 text_of deck = record { name = deck.name; lines = deck.lines }
 
--- What the assembler promises of a source: the program's cells and its start are those of a memory, each message and warning is about a
--- place of the source, and each line that reads a common deck has taken the lines of the first one with its name.
+-- What the assembler promises of a source: the program's cells and its start are those of a memory, each message and warning is
+-- about a place of the source, and each line that reads a common deck has taken the lines of the first one with its name.
 pub record IsAssembly (source : List ℕ) (given : List CommonDeck) (made : Assembly) : Type 0 where
   pub program : IsProgram made.program.cells.items
   pub start : IsStart made.program.start
@@ -38,8 +39,8 @@ pub record IsAssembly (source : List ℕ) (given : List CommonDeck) (made : Asse
   pub warnings : All (IsOfLine (line_lengths source)) made.warnings.items
   pub decks : AreRead (map text_of given) made
 
--- What is written of an assembled source in a form: what is wrong with it, its words, its listing, the numbers of its lines, its names, all that
--- is known of its rows, or the words of each of its programs.
+-- What is written of an assembled source in a form: what is wrong with it, its words, its listing, the numbers of its lines, its
+-- names, all that is known of its rows, or the words of each of its programs.
 abbrev pub form_text : ℕ → Assembly → List ℕ
 form_text form made =
     if form == 0 then complaint_lines made.messages.items ++ complaint_lines made.warnings.items
@@ -51,7 +52,8 @@ form_text form made =
     else program_lines made.program ++ flat_map unit_lines made.others.items)))))
 
 -- The source was assembled. The text, its length and the number of faults are those of one assembly.
-pub record IsWritten (source : List ℕ) (given : List CommonDeck) (form : ℕ) (before after : AssembleOuts) (result : ℕ) : Type 0 where
+pub record IsWritten (source : List ℕ) (given : List CommonDeck) (form : ℕ) (before after : AssembleOuts)
+    (result : ℕ) : Type 0 where
   pub made : Assembly
   pub assembly : IsAssembly source given made
   pub text : PutsText (form_text form made) before.into after.into after.count result
@@ -83,8 +85,8 @@ pub record HasFaults (source : List ℕ) (before after : AssembleOuts) (result :
   pub refused : result ≡ REFUSED
   pub outs : after ≡ record before { messages = length made.messages.items }
 
--- The lines are written (DONE), or there is no room for them (ROOM), or the source has faults or there is no such processor (REFUSED), or
--- memory ran out.
+-- The lines are written (DONE), or there is no room for them (ROOM), or the source has faults or there is no such processor
+-- (REFUSED), or memory ran out.
 abbrev pub LoadsLines : List ℕ → ℕ → AssembleOuts → AssembleOuts → ℕ → Type 0
 LoadsLines source processor before after result =
     ((processor < PROCESSORS) × IsLoading source processor before after result)

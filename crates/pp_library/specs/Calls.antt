@@ -1,8 +1,8 @@
--- What each call on a session does. A call has two definitions here: a record of its out-parameters, with the session of its handle, and a
--- relation between that record before the call, the record after it, and the status that it returns.
+-- What each call on a session does. A call has two definitions here: a record of its out-parameters, with the session of its
+-- handle, and a relation between that record before the call, the record after it, and the status that it returns.
 use Rattle.std.specs.Int.{from_bool}
-use Rattle.std.specs.Prelude.{◌≡◌, ℕ, ◌+◌, ◌*◌, ◌<◌, ◌≤◌, ◌⊎◌, All, Bool, false, List, ◌++◌, drop, length, map, min, replicate, slice_index, take}
-use Rattle.std.specs.Prelude.{IsSomeAnd, MatchOption, Option, None, Err}
+use Rattle.std.specs.Prelude.{◌≡◌, ℕ, ◌+◌, ◌*◌, ◌<◌, ◌≤◌, ◌⊎◌, All, Bool, false, List, ◌++◌, drop, length, map, min, replicate}
+use Rattle.std.specs.Prelude.{slice_index, take, IsSomeAnd, MatchOption, Option, None, Err}
 use Rattle.pp_actions.specs.declared.action.Action.TheVariants.{Turn}
 use Rattle.pp_console.specs.Answering.{AnswersPart}
 use Rattle.pp_console.specs.Commands.{State, Value, present}
@@ -97,6 +97,7 @@ Reads first s before after result =
     × ((k : ℕ) → k < length after.into → slice_index after.into k ≡ number s (place_at (first + k))))
     ⊎ (OnlyReturns REFUSED before after result × (fixed_places + s.setup.central_words < first + length before.into))
 
+-- They are those of the machine of the handle's session.
 abbrev pub ReadsNumbers : ℕ → NumbersOuts → NumbersOuts → ℕ → Type 0
 ReadsNumbers first before after result = MatchOption before.session (OnlyReturns CLOSED before after result)
     (λ old. (v : Value) → IsAt rules old.session v → Reads first (present v) before after result)
@@ -110,6 +111,8 @@ pub record CountsOuts : Type 0 where
   pub capacity : ℕ
   pub changed : ℕ
 
+-- How many actions can be undone and performed again, how many the session keeps, and 1 if the newest one changed the number of a
+-- watched place.
 abbrev pub Counts : CountsOuts → CountsOuts → ℕ → Type 0
 Counts before after result = MatchOption before.session (OnlyReturns CLOSED before after result)
     (λ old. (result ≡ DONE) × ((v : Value) → IsAt rules old.session v → after ≡ record before {
@@ -137,9 +140,11 @@ pub record RecordsTurns (most : ℕ) (old new : State) (after : RecordingOuts) (
   pub moments : take after.actions after.made ≡ moments_of old.machine (replicate after.actions Turn)
   pub overwritten : take after.used after.olds ≡ olds_of old.machine (replicate after.actions Turn)
   pub within : (after.actions ≤ most) × (after.actions ≤ length after.made) × (after.used ≤ length after.olds)
-  pub full : hit ≡ false → (most ≤ after.actions) ⊎ ((length after.made ≤ after.actions) ⊎ (length after.olds < after.used + list_room))
+  pub full : hit ≡ false →
+      (most ≤ after.actions) ⊎ ((length after.made ≤ after.actions) ⊎ (length after.olds < after.used + list_room))
   pub status : result ≡ run_status hit after.actions most
 
+-- Turns of the handle's session were performed.
 abbrev pub Turns : ℕ → RecordingOuts → RecordingOuts → ℕ → Type 0
 Turns most before after result = MatchOption before.session (OnlyReturns CLOSED before after result)
     (λ old. IsSomeAnd after.session (λ new. RecordsTurns most old.session new.session after result))
@@ -159,10 +164,11 @@ pub record LooksOuts : Type 0 where
   pub into : List ℕ
   pub turns : ℕ
 
--- So many turns were performed, as a STEP performs them, with the numbers at these places after each. There are 1 to 16 (decimal) places, and
--- the machine has each of them.
+-- So many turns were performed, as a STEP performs them, with the numbers at these places after each. There are 1 to 16 (decimal)
+-- places, and the machine has each of them.
 pub record LooksAt (most : ℕ) (places : List ℕ) (old new : State) (after : LooksOuts) (result : ℕ) : Type 0 where
-  pub choice : (0 < length places) × (length places ≤ MOST_COLUMNS) × All (Has old.machine.setup.central_words) (map place_at places)
+  pub choice : (0 < length places) × (length places ≤ MOST_COLUMNS)
+      × All (Has old.machine.setup.central_words) (map place_at places)
   pub hit : Bool
   pub moves : Moves rules old new (after_turns after.turns)
   pub ends : EndsAsStep after.turns old.machine hit
@@ -185,15 +191,18 @@ Looks most places before after result = MatchOption before.session (OnlyReturns 
 
 -- ---- pp6600_back, pp6600_forward and pp6600_close, which have no out-parameter but the session
 
+-- The newest actions were undone, or there are too few and nothing is changed.
 abbrev pub GoesBack : ℕ → Option Console → Option Console → ℕ → Type 0
 GoesBack count before after result = MatchOption before (OnlyReturns CLOSED before after result)
     (λ old. IsSomeAnd after (λ new.
     MovesOr count (length old.session.records) (λ v. after_back v count) old.session new.session result))
 
+-- The next actions ahead were performed again, or there are too few and nothing is changed.
 abbrev pub GoesForward : ℕ → Option Console → Option Console → ℕ → Type 0
 GoesForward count before after result = MatchOption before (OnlyReturns CLOSED before after result)
     (λ old. IsSomeAnd after (λ new.
     MovesOr count (length old.session.ahead) (λ v. after_forward v count) old.session new.session result))
 
+-- The handle has no session any more.
 abbrev pub Closes : Option Console → Option Console → ℕ → Type 0
 Closes before after result = MatchOption before (OnlyReturns CLOSED before after result) (λ _. (result ≡ DONE) × (after ≡ None))

@@ -1,5 +1,6 @@
 -- What the calls of origins do.
-use Rattle.std.specs.Prelude.{◌≡◌, ℕ, ◌+◌, ◌<◌, ◌≤◌, ◌⊎◌, Bool, false, List, Option, IsSomeAnd, MatchOption, length, map, replicate, take}
+use Rattle.std.specs.Prelude.{◌≡◌, ℕ, ◌+◌, ◌<◌, ◌≤◌, ◌⊎◌, Bool, false, List, Option}
+use Rattle.std.specs.Prelude.{IsSomeAnd, MatchOption, length, map, replicate, take}
 use Rattle.pp_actions.specs.declared.action.Action.TheVariants.{Turn}
 use Rattle.pp_console.specs.Commands.{State, Value, present}
 use Rattle.pp_history.specs.SessionValue.{IsAt, Moves}
@@ -35,8 +36,8 @@ pub record OriginsOuts : Type 0 where
   pub linked : ℕ
   pub used : ℕ
 
--- So many turns were performed, as a STEP performs them, with where each number that they wrote comes from, and what they overwrote. There
--- are fewer than were asked for, without a watched change, only if there was no more room.
+-- So many turns were performed, as a STEP performs them, with where each number that they wrote comes from, and what they
+-- overwrote. There are fewer than were asked for, without a watched change, only if there was no more room.
 pub record RecordsOrigins (most : ℕ) (old new : State) (after : OriginsOuts) (result : ℕ) : Type 0 where
   pub hit : Bool
   pub moves : Moves rules old new (after_turns after.turns)
@@ -44,11 +45,13 @@ pub record RecordsOrigins (most : ℕ) (old new : State) (after : OriginsOuts) (
   pub made : take after.turns after.made ≡ all_made after.turns old.machine
   pub links : take after.linked after.links ≡ all_links after.turns old.machine
   pub overwritten : take after.used after.olds ≡ olds_of old.machine (replicate after.turns Turn)
-  pub within : (after.turns ≤ most) × (after.turns ≤ length after.made) × (after.linked ≤ length after.links) × (after.used ≤ length after.olds)
+  pub within : (after.turns ≤ most) × (after.turns ≤ length after.made) × (after.linked ≤ length after.links)
+      × (after.used ≤ length after.olds)
   pub full : hit ≡ false → (most ≤ after.turns) ⊎ ((length after.made ≤ after.turns)
       ⊎ ((length after.links < after.linked + MOST_TURN_LINKS) ⊎ (length after.olds < after.used + list_room)))
   pub status : result ≡ run_status hit after.turns most
 
+-- Turns of the handle's session were performed.
 abbrev pub TurnsWithOrigins : ℕ → OriginsOuts → OriginsOuts → ℕ → Type 0
 TurnsWithOrigins most before after result = MatchOption before.session (OnlyReturns CLOSED before after result)
     (λ old. IsSomeAnd after.session (λ new. RecordsOrigins most old.session new.session after result))
@@ -63,11 +66,12 @@ pub record NextOuts : Type 0 where
   pub control : List ℕ
   pub control_count : ℕ
 
+-- There is room for the links of a step and for its control places.
 abbrev pub HasRoomForNext : NextOuts → Type 0
 HasRoomForNext outs = (MOST_LINKS ≤ length outs.links) × (MOST_CONTROL ≤ length outs.control)
 
--- The next turn of a machine was written, with where each number that its processor will write comes from, and its control places. The
--- session is not changed.
+-- The next turn of a machine was written, with where each number that its processor will write comes from, and its control places.
+-- The session is not changed.
 pub record TellsNext (s : Machine) (before after : NextOuts) (result : ℕ) : Type 0 where
   pub done : result ≡ DONE
   pub session : after.session ≡ before.session
@@ -82,6 +86,7 @@ Coming s before after result =
     (HasRoomForNext before × TellsNext s before after result)
     ⊎ ((HasRoomForNext before → ⊥) × OnlyReturns ROOM before after result)
 
+-- The machine is that of the handle's session.
 abbrev pub NextOrigins : NextOuts → NextOuts → ℕ → Type 0
 NextOrigins before after result = MatchOption before.session (OnlyReturns CLOSED before after result)
     (λ old. (v : Value) → IsAt rules old.session v → Coming (present v) before after result)

@@ -31,7 +31,8 @@ SearchesOn forms most old new turns result =
 -- The turns are searched, or the forms are refused and nothing is changed.
 abbrev pub Until : List Form → ℕ → UntilOuts → UntilOuts → ℕ → Type 0
 Until forms most before after result = MatchOption before.session (OnlyReturns CLOSED before after result)
-    (λ old. (AreFormsOf old.session forms × IsSomeAnd after.session (λ new. SearchesOn forms most old.session new.session after.turns result))
+    (λ old. (AreFormsOf old.session forms
+    × IsSomeAnd after.session (λ new. SearchesOn forms most old.session new.session after.turns result))
     ⊎ ((AreFormsOf old.session forms → ⊥) × OnlyReturns REFUSED before after result))
 
 -- ---- pp6600_back_until
@@ -40,8 +41,8 @@ pub record BackUntilOuts : Type 0 where
   pub session : Option Console
   pub undone : ℕ
 
--- Actions were undone back to the last one before the newest in which the condition came to hold. If there is none, the session is where
--- it was.
+-- Actions were undone back to the last one before the newest in which the condition came to hold. If there is none, the session is
+-- where it was.
 abbrev pub SearchesBack : List Form → State → State → ℕ → ℕ → ℕ → Type 0
 SearchesBack forms old new unwritten undone result =
     (v : Value) → IsAt rules old v → MatchOption (last_before (condition_of forms) v)
@@ -51,5 +52,6 @@ SearchesBack forms old new unwritten undone result =
 -- The actions are searched, or the forms are refused and nothing is changed.
 abbrev pub BackUntil : List Form → BackUntilOuts → BackUntilOuts → ℕ → Type 0
 BackUntil forms before after result = MatchOption before.session (OnlyReturns CLOSED before after result)
-    (λ old. (AreFormsOf old.session forms × IsSomeAnd after.session (λ new. SearchesBack forms old.session new.session before.undone after.undone result))
+    (λ old. (AreFormsOf old.session forms
+    × IsSomeAnd after.session (λ new. SearchesBack forms old.session new.session before.undone after.undone result))
     ⊎ ((AreFormsOf old.session forms → ⊥) × OnlyReturns REFUSED before after result))

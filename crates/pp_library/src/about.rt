@@ -34,8 +34,8 @@ fn text_of(status: u32) -> &'static [u8]
     }
 }
 
-/// Writes the text of a status into a slice. `count` is how many bytes that are. Returns `DONE`; `ROOM` if the slice has room for fewer
-/// bytes, and then it is as it was; or `REFUSED` if there is no such status.
+/// Writes the text of a status into a slice. `count` is how many bytes that are. Returns `DONE`; `ROOM` if the slice has room for
+/// fewer bytes, and then it is as it was; or `REFUSED` if there is no such status.
 #[unsafe(no_mangle)]
 pub extern "C" fn pp6600_text_of_status(status: u32, into: &mut [u8], count: &mut usize) -> u32
     ensures { WritesStatus status

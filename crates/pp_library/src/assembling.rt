@@ -16,8 +16,8 @@ use pp_loading::load_lines;
 use pp_notation::{Cell, are_cells};
 use std::alloc::{AllocError, Global};
 
-/// A common deck as C has it: its name, in letters of either case, and its lines. With the word SYSTEM and a blank before its name it is a
-/// system text.
+/// A common deck as C has it: its name, in letters of either case, and its lines. With the word SYSTEM and a blank before its name
+/// it is a system text.
 #[repr(C)]
 #[derive(Clone, Copy)]
 pub struct CommonDeck<'a> {
@@ -107,10 +107,10 @@ fn have_own_addresses(cells: &[Cell]) -> bool
     true
 }
 
-/// Assembles a source, and writes into a slice what is wrong with it (`form` 0), its words (1), its listing (2), the numbers of the lines
-/// that the words are of (3), its names (4), all that is known of its rows (5) or the words of each of its programs (6). `count` is how many
-/// bytes that are, and `messages` how many faults the source has. Returns `DONE`; `ROOM` if the slice has room for fewer bytes, and then it is
-/// as it was; `REFUSED` if there is no such form; or `NO_MEMORY`.
+/// Assembles a source, and writes into a slice what is wrong with it (`form` 0), its words (1), its listing (2), the numbers of the
+/// lines that the words are of (3), its names (4), all that is known of its rows (5) or the words of each of its programs (6).
+/// `count` is how many bytes that are, and `messages` how many faults the source has. Returns `DONE`; `ROOM` if the slice has room
+/// for fewer bytes, and then it is as it was; `REFUSED` if there is no such form; or `NO_MEMORY`.
 #[unsafe(no_mangle)]
 pub extern "C" fn pp6600_assemble(
     alloc: Global,
@@ -155,9 +155,9 @@ pub extern "C" fn pp6600_assemble_with(
     put_text(text.as_slice(), into, count)
 }
 
-/// Assembles a source, and writes into a slice the lines of the console that load its program into a processor. `count` is how many bytes
-/// that are, and `messages` how many faults the source has. Returns `DONE`; `ROOM` if the slice has room for fewer bytes, and then nothing
-/// is written; `REFUSED` if there is a fault, or no such processor; or `NO_MEMORY`.
+/// Assembles a source, and writes into a slice the lines of the console that load its program into a processor. `count` is how many
+/// bytes that are, and `messages` how many faults the source has. Returns `DONE`; `ROOM` if the slice has room for fewer bytes, and
+/// then nothing is written; `REFUSED` if there is a fault, or no such processor; or `NO_MEMORY`.
 #[unsafe(no_mangle)]
 pub extern "C" fn pp6600_load_lines(
     alloc: Global,
@@ -190,9 +190,9 @@ pub extern "C" fn pp6600_load_lines(
     put_text(text.as_slice(), into, count)
 }
 
-/// Writes into a slice a source that assembles to cells. What a processor reaches from the entries on is code, and the rest is data.
-/// `count` is how many bytes the source has. Returns `DONE`; `ROOM` if the slice has room for fewer bytes, and then nothing is written;
-/// `REFUSED` if an address or a word has more than twelve bits; or `NO_MEMORY`.
+/// Writes into a slice a source that assembles to cells. What a processor reaches from the entries on is code, and the rest is
+/// data. `count` is how many bytes the source has. Returns `DONE`; `ROOM` if the slice has room for fewer bytes, and then nothing
+/// is written; `REFUSED` if an address or a word has more than twelve bits; or `NO_MEMORY`.
 #[unsafe(no_mangle)]
 pub extern "C" fn pp6600_disassemble(
     alloc: Global,

@@ -16,7 +16,8 @@ pub struct Console {
 impl Console {
     /// Undoes the newest actions, all of them or none.
     pub fn back(&mut self, count: u32) -> u32
-        ensures { MovesOr count (length self.old.session.records) (λ v. after_back v count) self.old.session self.new.session result }
+        ensures { MovesOr count (length self.old.session.records) (λ v. after_back v count)
+            self.old.session self.new.session result }
     {
         match self.session.back(count) {
             Ok(()) => DONE,
@@ -26,7 +27,8 @@ impl Console {
 
     /// Performs actions ahead again, all of them or none.
     pub fn forward(&mut self, count: u32) -> u32
-        ensures { MovesOr count (length self.old.session.ahead) (λ v. after_forward v count) self.old.session self.new.session result }
+        ensures { MovesOr count (length self.old.session.ahead) (λ v. after_forward v count)
+            self.old.session self.new.session result }
     {
         match self.session.forward(count) {
             Ok(()) => DONE,

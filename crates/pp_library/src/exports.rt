@@ -1,6 +1,6 @@
 //! What C calls. `pp6600.h` has the same calls, with what C owes them.
-ghost use Rattle.pp_library.specs.Calls.{Again, AnswersLines, Closes, Counts, GoesBack, GoesForward, Looks, Opens, ReadsNumbers, Turns};
-ghost use Rattle.pp_library.specs.Calls.{WritesText, wanted};
+ghost use Rattle.pp_library.specs.Calls.{Again, AnswersLines, Closes, Counts, GoesBack, GoesForward, Looks, Opens, ReadsNumbers};
+ghost use Rattle.pp_library.specs.Calls.{Turns, WritesText, wanted};
 ghost use Rattle.std.specs.Prelude.{◌≡◌};
 
 use crate::console::Console;
@@ -133,8 +133,20 @@ pub extern "C" fn pp6600_counts(
     changed: &mut u32,
 ) -> u32
     ensures { Counts
-        (record { session = session.old.value; kept = kept.old; ahead = ahead.old; capacity = capacity.old; changed = changed.old })
-        (record { session = session.new.value; kept = kept.new; ahead = ahead.new; capacity = capacity.new; changed = changed.new }) result }
+        (record {
+          session = session.old.value;
+          kept = kept.old;
+          ahead = ahead.old;
+          capacity = capacity.old;
+          changed = changed.old;
+        })
+        (record {
+          session = session.new.value;
+          kept = kept.new;
+          ahead = ahead.new;
+          capacity = capacity.new;
+          changed = changed.new;
+        }) result }
 {
     let Some(console) = session.take(alloc) else {
         return CLOSED;
@@ -260,7 +272,7 @@ pub extern "C" fn pp6600_forward(alloc: Global, session: &mut Handle, count: u32
     status
 }
 
-/// Closes a session, and gives its memory back.
+/// Closes a session, and gives its memory back (`DONE`). Returns `CLOSED` if the handle has none.
 #[unsafe(no_mangle)]
 pub extern "C" fn pp6600_close(alloc: Global, session: &mut Handle) -> u32
     ensures { Closes session.old.value session.new.value result }

@@ -29,8 +29,24 @@ pub extern "C" fn pp6600_origins(
     used: &mut usize,
 ) -> u32
     ensures { TurnsWithOrigins most
-        (record { session = session.old.value; made = made.old; links = links.old; olds = olds.old; turns = turns.old; linked = linked.old; used = used.old })
-        (record { session = session.new.value; made = made.new; links = links.new; olds = olds.new; turns = turns.new; linked = linked.new; used = used.new }) result }
+        (record {
+          session = session.old.value;
+          made = made.old;
+          links = links.old;
+          olds = olds.old;
+          turns = turns.old;
+          linked = linked.old;
+          used = used.old;
+        })
+        (record {
+          session = session.new.value;
+          made = made.new;
+          links = links.new;
+          olds = olds.new;
+          turns = turns.new;
+          linked = linked.new;
+          used = used.new;
+        }) result }
 {
     let Some(mut console) = session.take(alloc) else {
         return CLOSED;
@@ -56,8 +72,22 @@ pub extern "C" fn pp6600_next_origins(
     control_count: &mut usize,
 ) -> u32
     ensures { NextOrigins
-        (record { session = session.old.value; turn = turn.old; links = links.old; count = count.old; control = control.old; control_count = control_count.old })
-        (record { session = session.new.value; turn = turn.new; links = links.new; count = count.new; control = control.new; control_count = control_count.new }) result }
+        (record {
+          session = session.old.value;
+          turn = turn.old;
+          links = links.old;
+          count = count.old;
+          control = control.old;
+          control_count = control_count.old;
+        })
+        (record {
+          session = session.new.value;
+          turn = turn.new;
+          links = links.new;
+          count = count.new;
+          control = control.new;
+          control_count = control_count.new;
+        }) result }
 {
     let Some(console) = session.take(alloc) else {
         return CLOSED;

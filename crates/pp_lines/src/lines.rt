@@ -33,7 +33,7 @@ impl<const KEPT: usize> LineCutter<KEPT> {
         }
     }
 
-    /// Adds a byte to the line.
+    /// Adds a byte, which is no line feed, to the line.
     pub fn take_byte(&mut self, byte: u8)
         requires { byte ≢ 10 }
         ensures { (bytes : List ℕ) →

@@ -46,7 +46,7 @@ impl<D> Logged<D> {
 }
 
 impl<D: Read> Logged<D> {
-    /// Reads once.
+    /// Reads once. Returns how many bytes were read.
     ///
     /// # Errors
     /// `Failed` if the call fails, whatever its error is.
@@ -71,7 +71,7 @@ impl<D: Read> Logged<D> {
 }
 
 impl<D: Write> Logged<D> {
-    /// Writes once.
+    /// Writes once. Returns how many bytes were written.
     ///
     /// # Errors
     /// `Failed` if the call fails, whatever its error is.

@@ -50,7 +50,8 @@ command-set : (letter : ℕ) (given : WordList) → 65 ≤ letter → letter ≤
 command-set letter given h k are few =
     let all : AreWords ((letter ∷ []) ∷ given) = (letter_word letter h k, are) in
     let short : length (codes "SET" ++ spaced ((letter ∷ []) ∷ given)) ≤ 255 = omega (arith, length-spaced given are) in
-    command-words (codes "SET" ++ spaced ((letter ∷ []) ∷ given)) (line-of_line (codes "SET") ((letter ∷ []) ∷ given) set_word all) short
+    command-words (codes "SET" ++ spaced ((letter ∷ []) ∷ given)) (line-of_line (codes "SET") ((letter ∷ []) ∷ given) set_word all)
+    short
     ∙ ap sentence (words-line (codes "SET") ((letter ∷ []) ∷ given) set_word all)
 
 -- ---- numbers
@@ -107,7 +108,8 @@ unfolding request_of setting
 sentence-start given = refl
 
 -- the numbers are read if all words are octal
-if_octal-read : {A : Type 0} (given : WordList) (read : Result A LineFault) → list_all is_octal given ≡ true → if_octal given read ≡ read
+if_octal-read : {A : Type 0} (given : WordList) (read : Result A LineFault) → list_all is_octal given ≡ true →
+    if_octal given read ≡ read
 if_octal-read given read h = rw h refl
 
 two_octal : (n address : ℕ) (others : WordList) → n < 10 → address < 0o10000 → list_all is_octal others ≡ true →
@@ -154,7 +156,8 @@ cells_line-words n cell row =
     ∙ ap (λ rest. codes "SET M " ++ rest)
     (append_assoc (octal_text n 1) (word_text cell.address) (spaced (texts (cell ∷ row))))
 
-are_cells_words : (n : ℕ) (cell : Cell) (row : List Cell) → n < 10 → IsRow cell.address (cell ∷ row) → AreWords (cells_words n cell row)
+are_cells_words : (n : ℕ) (cell : Cell) (row : List Cell) → n < 10 → IsRow cell.address (cell ∷ row) →
+    AreWords (cells_words n cell row)
 unfolding cells_words
 are_cells_words n cell row h are = (
   word_of n (omega arith),

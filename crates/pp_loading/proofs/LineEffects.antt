@@ -1,6 +1,7 @@
 -- What the lines that load a program do to the machine of a session.
 use Rattle.std.proofs.Common.{◌≡◌, ◌≢◌, ◌∙◌, ℕ, zero, suc, ◌+◌, ◌%◌, ◌<◌, ◌≤◌, nat_lt, nat_le, true, false, List, [], ◌∷◌, ◌++◌}
-use Rattle.std.proofs.Common.{Some, None, Ok, codes, length, refl, sym, ap, arith, append_assoc, append-nil, get_or, set, take, drop, ◌-◌, subst, take_all, length-drop, Option}
+use Rattle.std.proofs.Common.{Some, None, Ok, codes, length, refl, sym, ap, arith, append_assoc, append-nil, get_or, set, take}
+use Rattle.std.proofs.Common.{drop, ◌-◌, subst, take_all, length-drop, Option}
 use Rattle.std.proofs.lemmas.{Bool.Decides.nat_tests, List.set_comm}
 use Rattle.std.proofs.{lemmas.List.length-take-le, Math.Seq.take-add}
 use Rattle.pp_notation.specs.Cells.{IsStart}
@@ -20,7 +21,8 @@ use Rattle.pp_console.proofs.Following.{outcome-line}
 use Rattle.pp_notation.specs.Rows.{IsRow}
 use Rattle.pp_loading.specs.Inner.Rows.{LoadsWhole, cells_line, start_line}
 use Rattle.pp_loading.specs.LoadLines.{cell_list, start_list}
-use Rattle.pp_loading.proofs.LineCommands.{cells_line-unbroken, command-cells, command-start, row-in_range, start_line-unbroken, values}
+use Rattle.pp_loading.proofs.LineCommands.{cells_line-unbroken, command-cells, command-start}
+use Rattle.pp_loading.proofs.LineCommands.{row-in_range, start_line-unbroken, values}
 
 -- ---- one more line of a text
 
@@ -65,7 +67,8 @@ loads-more : (text line : List ℕ) (list more : Writes Place) → LoadsWhole te
 loads-more text line list more before unbroken sets = record {
   whole = whole-more text line;
   loads = record {
-    accepted = λ v. rw (script-more v text line before.whole unbroken, sets.accepted (script v text).value, before.loads.accepted v) refl;
+    accepted = λ v. rw (script-more v text line before.whole unbroken, sets.accepted (script v text).value, before.loads.accepted v)
+        refl;
     machine = λ v. ap (λ (o : Outcome). present o.value) (script-more v text line before.whole unbroken)
         ∙ sets.machine (script v text).value
         ∙ ap (λ (s : Machine). over s more) (before.loads.machine v)
@@ -94,7 +97,8 @@ with_cell-commute (x ∷ ps) zero a b v w apart =
 with_cell-commute (x ∷ ps) (suc n) a b v w apart = ap (λ rest. x ∷ rest) (with_cell-commute ps n a b v w apart)
 
 -- writes to two cells of a processor, in either order
-cells-commute : (s : Machine) (n a b v w : ℕ) → a ≢ b → put (put s (Cell n a) v) (Cell n b) w ≡ put (put s (Cell n b) w) (Cell n a) v
+cells-commute : (s : Machine) (n a b v w : ℕ) → a ≢ b →
+    put (put s (Cell n a) v) (Cell n b) w ≡ put (put s (Cell n b) w) (Cell n a) v
 cells-commute s n a b v w apart =
     ap (λ (ps : List ProcessorNumbers). record s { processors = ps }) (with_cell-commute s.processors n a b v w apart)
 
@@ -176,7 +180,8 @@ loads-cells text n done (cell ∷ row) first before h are some few =
 pub loads-start : (text : List ℕ) (n address : ℕ) (list : Writes Place) → LoadsWhole text list → n < 10 → address < 0o10000 →
     LoadsWhole (text ++ (start_line n address ++ 10 ∷ [])) (start_list n (Some address) ++ list)
 loads-start text n address list before h k =
-    loads-more text (start_line n address) list (start_list n (Some address)) before (start_line-unbroken n address h k) (sets-start n address h k)
+    loads-more text (start_line n address) list (start_list n (Some address)) before (start_line-unbroken n address h k)
+    (sets-start n address h k)
 
 -- ---- the rest of the cells as a slice
 
@@ -207,7 +212,8 @@ loads-row old new n cells done count first before h begun are some within few wr
     written ∙ ap (λ k. old ++ (cells_line n (take k (drop done cells)) ++ 10 ∷ [])) same in
     let loaded : LoadsWhole (old ++ (cells_line n (take count (drop done cells)) ++ 10 ∷ []))
     (cell_list n (take done cells ++ take count (drop done cells))) =
-    loads-cells old n (take done cells) (take count (drop done cells)) first before h own (omega (arith, size)) (omega (arith, size)) in
+    loads-cells old n (take done cells) (take count (drop done cells)) first before h own (omega (arith, size))
+    (omega (arith, size)) in
     subst (λ t. LoadsWhole t (cell_list n (take (done + count) cells))) (sym text)
     (subst (λ cs. LoadsWhole (old ++ (cells_line n (take count (drop done cells)) ++ 10 ∷ [])) (cell_list n cs))
     (sym (take-add done count cells)) loaded)

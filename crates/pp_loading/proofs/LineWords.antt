@@ -29,7 +29,8 @@ abbrev pub spaced : List (List ℕ) → List ℕ
 spaced [] = []
 spaced (word ∷ others) = 32 ∷ (word ++ spaced others)
 
-plain-first : (byte : ℕ) (bytes : List ℕ) → list_all is_plain (byte ∷ bytes) ≡ true → (is_blank byte ≡ false) × (list_all is_plain bytes ≡ true)
+plain-first : (byte : ℕ) (bytes : List ℕ) → list_all is_plain (byte ∷ bytes) ≡ true →
+    (is_blank byte ≡ false) × (list_all is_plain bytes ≡ true)
 plain-first byte bytes h = (grind (arith, nat_tests), grind (arith, nat_tests))
 
 words-more : (byte : ℕ) (bytes : List ℕ) → is_blank byte ≡ false → goes_on bytes ≡ true →
@@ -134,7 +135,8 @@ pub record IsNumber (word : List ℕ) (number : ℕ) : Type 0 where
   pub value : octal_value word ≡ number
   pub short : length word ≤ 22
 
-octal_from_read : (word : List ℕ) (most value : ℕ) → octal_read word most ≡ Ok value → (is_octal word ≡ true) × (octal_value word ≡ value)
+octal_from_read : (word : List ℕ) (most value : ℕ) → octal_read word most ≡ Ok value →
+    (is_octal word ≡ true) × (octal_value word ≡ value)
 octal_from_read word most value h = by_tests (is_octal word) (nat_le (octal_value word) most) h
   where
     by_tests : (b c : Bool) →

@@ -1,5 +1,5 @@
--- The texts of the mnemonics in the instruction table, and the words of its rows. Codes 24 and 25 pass, as 00 does, and an assembler names
--- them like it.
+-- The texts of the mnemonics in the instruction table, and the words of its rows. Codes 24 and 25 pass, as 00 does, and an
+-- assembler names them like it.
 use Rattle.std.specs.Prelude.{ℕ, List, codes, map}
 use Rattle.std.specs.List.{range_with_len}
 use Rattle.pp_notation.specs.Instructions.{form, size}

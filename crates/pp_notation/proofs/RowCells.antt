@@ -1,5 +1,6 @@
 -- Rows of cells: one more cell, and the first two.
-use Rattle.std.proofs.Common.{◌≡◌, ℕ, zero, suc, ◌+◌, ◌<◌, ◌≤◌, List, [], ◌∷◌, length, take, All, refl, arith, get_or, add-one, ◌==◌, ◌&&◌, nat_lt, Bool, true, replicate}
+use Rattle.std.proofs.Common.{◌≡◌, ℕ, zero, suc, ◌+◌, ◌<◌, ◌≤◌, List, [], ◌∷◌, length, take, All, refl, arith, get_or, add-one}
+use Rattle.std.proofs.Common.{◌==◌, ◌&&◌, nat_lt, Bool, true, replicate}
 use Rattle.std.proofs.lemmas.Bool.{and_parts, Decides.nat_tests, Decides.Decides-and, Decides.Decides-by_and, Decides.Decides-ltb}
 use Rattle.std.proofs.lemmas.{Grind.common_steps, List.Folds.list_all-append}
 use Rattle.std.specs.{Bool.Decides, List.list_all}

@@ -19,7 +19,8 @@ address_at cells index = slice_index (map (λ cell. cell.address) cells) index
 
 -- The first two cells follow one another, and this is the second word.
 abbrev pub IsPair : List Cell → ℕ → Type 0
-IsPair (first ∷ second ∷ cells) word = (second.address ≡ first.address + 1) × (second.word ≡ word) × (first.address + 1 < 0o10000) × (word < 0o10000)
+IsPair (first ∷ second ∷ cells) word =
+    (second.address ≡ first.address + 1) × (second.word ≡ word) × (first.address + 1 < 0o10000) × (word < 0o10000)
 IsPair cells word = ⊥
 
 -- The words of cells.

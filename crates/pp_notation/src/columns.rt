@@ -15,7 +15,7 @@ pub fn put_number(out: &mut Vec<u8>, number: u64, width: u8) -> Result<(), Alloc
     out.extend_from_slice(octal(number, width).as_slice())
 }
 
-/// Writes a text and blanks up to a width.
+/// Writes a text and blanks up to a width in bytes.
 pub fn put_field(out: &mut Vec<u8>, text: &[u8], width: usize) -> Result<(), AllocError>
     ensures { OnOk result (out.new.items ≡ out.old.items ++ in_columns width text.now) }
 {

@@ -5,15 +5,15 @@ ghost use Rattle.pp_notation.specs.Cells.{IsProgram, IsStart};
 use crate::program::{Cell, Program};
 use std::alloc::{AllocError, Global};
 
-/// What the source puts into a cell; the line, from 1, is 0 if there is nothing.
+/// What the source puts into a cell: a word, of which twelve bits count, and the line, from 1, or 0 if there is nothing.
 #[derive(Clone, Copy, Default)]
 pub struct Slot {
     pub word: u16,
     pub line: u32,
 }
 
-/// Returns the program of the first 4096 slots, each that of the cell with its index: its words of twelve bits, and the address of its
-/// beginning, each without the bits beyond.
+/// Returns the program of the first 4096 slots, each that of the cell with its index: its words of twelve bits, and the address of
+/// its beginning, each without the bits beyond.
 ///
 /// # Errors
 /// Memory ran out.

@@ -1,5 +1,6 @@
 -- The control places decide what a step reads and writes, and what is read for a place its new number.
-use Rattle.std.proofs.Common.{◌≡◌, ℕ, ◌/◌, ◌%◌, ◌==◌, ◌&&◌, Bool, true, false, if◌then◌else◌, [], ◌∷◌, ◌++◌, ap, sym, ◌∙◌, refl, arith, length, slice_index, ◌≤◌, nat_lt, List, Option, Some, None}
+use Rattle.std.proofs.Common.{◌≡◌, ℕ, ◌/◌, ◌%◌, ◌==◌, ◌&&◌, Bool, true, false, if◌then◌else◌, [], ◌∷◌, ◌++◌, ap, sym, ◌∙◌, refl}
+use Rattle.std.proofs.Common.{arith, length, slice_index, ◌≤◌, nat_lt, List, Option, Some, None}
 use Rattle.std.proofs.lemmas.{List.get_or_past, Bool.Decides.nat_tests}
 use Rattle.std.specs.Option.{option_map}
 use Rattle.pp_arith.specs.Arith.{index12}
@@ -14,9 +15,9 @@ use Rattle.pp_origins.proofs.Explained.{step_explained}
 use Rattle.pp_origins.specs.Blocks.{block_row}
 use Rattle.pp_origins.specs.Origin.{Origin, Origins, result, results}
 use Rattle.pp_origins.specs.Rows.{Row, row_of}
-use Rattle.pp_origins.specs.Step.{AreEnough, AreReadSame, AreSame, address_places, block_origins, block_places, control_places, decided}
-use Rattle.pp_origins.specs.Step.{instruction_origins, instruction_places, operand_address, origin_of, origins_by, place_if, row_places}
-use Rattle.pp_origins.specs.Step.{step_origins, step_writes}
+use Rattle.pp_origins.specs.Step.{AreEnough, AreReadSame, AreSame, address_places, block_origins, block_places, control_places}
+use Rattle.pp_origins.specs.Step.{decided, instruction_origins, instruction_places, operand_address, origin_of, origins_by}
+use Rattle.pp_origins.specs.Step.{place_if, row_places, step_origins, step_writes}
 
 -- two machines of one shape
 pub record AreAlike (s t : Machine) : Type 0 where
@@ -48,13 +49,16 @@ state_same s t true true d h past = h.0
 state_same s t true false d h past = past refl
 state_same s t false c d h past = refl
 
-no_state : (s t : Machine) (d : ℕ) → AreAlike s t → nat_lt d 12 ≡ false → slice_index t.channels.states d ≡ slice_index s.channels.states d
+no_state : (s t : Machine) (d : ℕ) → AreAlike s t → nat_lt d 12 ≡ false →
+    slice_index t.channels.states d ≡ slice_index s.channels.states d
 no_state s t d alike past =
     let above : 12 ≤ d = grind (arith, nat_tests, past) in
-    get_or_past t.channels.states d 0 (omega (arith, above, alike.states2)) ∙ sym (get_or_past s.channels.states d 0 (omega (arith, above, alike.states)))
+    get_or_past t.channels.states d 0 (omega (arith, above, alike.states2)) ∙ sym
+    (get_or_past s.channels.states d 0 (omega (arith, above, alike.states)))
 
-origins_by_same : (n : ℕ) (s t : Machine) (row : Row) (d address address2 : ℕ) → AreAlike s t → (processor t n).p ≡ (processor s n).p →
-    address2 ≡ address → AreSame s t (row_places row n d) → origins_by row n d address2 t ≡ origins_by row n d address s
+origins_by_same : (n : ℕ) (s t : Machine) (row : Row) (d address address2 : ℕ) → AreAlike s t →
+    (processor t n).p ≡ (processor s n).p → address2 ≡ address → AreSame s t (row_places row n d) →
+    origins_by row n d address2 t ≡ origins_by row n d address s
 origins_by_same n s t row d address address2 alike p operand h =
     let states = place_if (row.deciding.state && nat_lt d 0o14) (ChannelMode d) in
     let first = split_same s t (place_if row.deciding.a (RegA n)) (place_if row.deciding.q (RegQ n) ++ states) h in
@@ -67,7 +71,8 @@ origins_by_same n s t row d address address2 alike p operand h =
 -- ---- the operand's address
 
 index_same : (n : ℕ) (s t : Machine) (b : Bool) (m m2 d : ℕ) → m2 ≡ m → AreSame s t (if b then [] else Cell n d ∷ []) →
-    (if b then m2 else index12 m2 (slice_index (processor t n).cells d)) ≡ (if b then m else index12 m (slice_index (processor s n).cells d))
+    (if b then m2 else index12 m2 (slice_index (processor t n).cells d))
+    ≡ (if b then m else index12 m (slice_index (processor s n).cells d))
 index_same n s t true m m2 d e h = e
 index_same n s t false m m2 d e h = cc (e, h.0)
 
@@ -87,8 +92,8 @@ coded n p word s = let code = word / 0o100 in let d = word % 0o100 in
     origins_by (row_of code) n d (operand_address (step_row_of code).mode
     (address_of (step_row_of code).mode d (slice_index (processor s n).cells (cell_after p 1)) (processor s n).cells)) s
 
-instruction_same : (n : ℕ) (s t : Machine) → AreAlike s t → (processor t n).p ≡ (processor s n).p → AreSame s t (instruction_places n s) →
-    instruction_origins n t ≡ instruction_origins n s
+instruction_same : (n : ℕ) (s t : Machine) → AreAlike s t → (processor t n).p ≡ (processor s n).p →
+    AreSame s t (instruction_places n s) → instruction_origins n t ≡ instruction_origins n s
 instruction_same n s t alike p h =
     let x = processor s n in
     let w = slice_index x.cells x.p in
@@ -98,8 +103,8 @@ instruction_same n s t alike p h =
     ap (λ k. coded n k (slice_index (processor t n).cells (processor t n).p) t) p ∙ ap (λ k. coded n x.p k t) word
     ∙ origins_by_same n s t (row_of (w / 0o100)) (w % 0o100) _ _ alike p (address_same n s t mode x.p (w % 0o100) parts.0) parts.1
 
-block_same : (n : ℕ) (s t : Machine) → AreAlike s t → (processor t n).phase ≡ (processor s n).phase → (processor t n).p ≡ (processor s n).p →
-    AreSame s t (block_places n s) → block_origins n t ≡ block_origins n s
+block_same : (n : ℕ) (s t : Machine) → AreAlike s t → (processor t n).phase ≡ (processor s n).phase →
+    (processor t n).p ≡ (processor s n).p → AreSame s t (block_places n s) → block_origins n t ≡ block_origins n s
 block_same n s t alike phase p h =
     let k = (processor s n).phase in
     ap (λ k. origins_by (block_row (k / 0o100)) n (k % 0o100) 0 t) phase
@@ -123,7 +128,8 @@ if_some : (b : Bool) (s : Machine) (o : Origin) (rest : Option Origin) →
 if_some true s o rest = refl
 if_some false s o rest = refl
 
-pub looked_up : (s : Machine) (ws : Origins) (place : Place) → lookup (results s ws) place ≡ option_map (result s) (origin_of ws place)
+pub looked_up : (s : Machine) (ws : Origins) (place : Place) →
+    lookup (results s ws) place ≡ option_map (result s) (origin_of ws place)
 looked_up s [] place = refl
 looked_up s (w ∷ ws) place =
     ap (λ rest. if same_place w.0 place then Some (result s w.1) else rest) (looked_up s ws place)
@@ -160,6 +166,8 @@ reads_are_enough n s t place origin ok ok2 setup deck same found =
     (origins_same n s t (alike s t ok ok2 setup) same) deck found
 
 pub others_stay : (n : ℕ) (s t : Machine) (place : Place) → IsShaped s.setup.central_words s → IsShaped t.setup.central_words t →
-    t.setup ≡ s.setup → AreSame s t (control_places n s) → origin_of (step_origins n s) place ≡ None → lookup (step_writes n t) place ≡ None
+    t.setup ≡ s.setup → AreSame s t (control_places n s) → origin_of (step_origins n s) place ≡ None →
+    lookup (step_writes n t) place ≡ None
 others_stay n s t place ok ok2 setup same found =
-    unwritten (step_writes n) (step_origins n) s t place (step_explained n t ok2.frame) (origins_same n s t (alike s t ok ok2 setup) same) found
+    unwritten (step_writes n) (step_origins n) s t place (step_explained n t ok2.frame)
+    (origins_same n s t (alike s t ok ok2 setup) same) found

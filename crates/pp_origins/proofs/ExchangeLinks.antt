@@ -1,5 +1,6 @@
 -- The links of an exchange, one after another.
-use Rattle.std.proofs.Common.{◌≡◌, ℕ, ◌+◌, ◌-◌, ◌<◌, ◌==◌, Bool, true, false, if◌then◌else◌, [], ◌∷◌, ◌++◌, ap, ◌∙◌, nat_lt, refl, arith, suc}
+use Rattle.std.proofs.Common.{◌≡◌, ℕ, ◌+◌, ◌-◌, ◌<◌, ◌==◌, Bool, true, false, if◌then◌else◌, []}
+use Rattle.std.proofs.Common.{◌∷◌, ◌++◌, ap, ◌∙◌, nat_lt, refl, arith, suc}
 use Rattle.std.specs.List.{range_with_len}
 use Rattle.pp_machine.proofs.PushedLists.{pushed_lists}
 use Rattle.pp_machine.specs.declared.place.Place.TheVariants.{Central, FrameWord}
@@ -33,7 +34,8 @@ pub next_word : (c : Situation) (i : ℕ) → i < 16 → links_of (word_origins 
     then links_of ((Central (central_after c.a i), from by.Moved ((λ c. whole (FrameWord i)) ∷ []) c) ∷ []) else [])
     ++ links_of (word_origins c (range_with_len (i + 1) (16 - (i + 1))))
 next_word c i h = ap (λ ks. links_of (word_origins c ks)) (range_step i h)
-    ∙ word_if i (central_after c.a i) c (nat_lt (central_after c.a i) c.size) (word_origins c (range_with_len (i + 1) (16 - (i + 1))))
+    ∙ word_if i (central_after c.a i) c (nat_lt (central_after c.a i) c.size)
+    (word_origins c (range_with_len (i + 1) (16 - (i + 1))))
 
 -- what the lists of links need
 pub ruleset exchange_links = (pushed_lists, next_frame, next_word, links-append)

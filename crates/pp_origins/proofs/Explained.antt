@@ -1,5 +1,6 @@
 -- Every number that a step writes is made as its origin says.
-use Rattle.std.proofs.Common.{◌≡◌, ℕ, ◌≤◌, ◌/◌, ◌%◌, ◌==◌, ◌+◌, ◌*◌, ◌^◌, ◌||◌, Bool, true, false, not, if◌then◌else◌, [], ◌∷◌, ap, zero, suc, drop, sym, subst, ⊎_elim, ◌∙◌, refl, arith, length, slice_index, map, nat_lt}
+use Rattle.std.proofs.Common.{◌≡◌, ℕ, ◌≤◌, ◌/◌, ◌%◌, ◌==◌, ◌+◌, ◌*◌, ◌^◌, ◌||◌, Bool, true, false, not, if◌then◌else◌, [], ◌∷◌, ap}
+use Rattle.std.proofs.Common.{zero, suc, drop, sym, subst, ⊎_elim, ◌∙◌, refl, arith, length, slice_index, map, nat_lt}
 use Rattle.std.proofs.lemmas.{Bool.cases_lt, List.get_or_past, List.drop_more, List.map-append, Bool.Decides.nat_tests}
 use Rattle.std.proofs.Math.ListN.{drop_of_length-le}
 use Rattle.std.specs.List.{range_with_len}
@@ -17,14 +18,15 @@ use Rattle.pp_step.specs.Exchange.{exchange as step_exchange, frame_pairs, word_
 use Rattle.pp_step.specs.Instruction.{address_of, next_of}
 use Rattle.pp_step.specs.InstructionTable.{instruction_at, row_of as step_row_of, rows as step_rows}
 use Rattle.pp_step.specs.View.{PpView, PpPlace, Central, pp_place, view_of}
-use Rattle.pp_step.specs.{Step.pp_writes, Step.instruction_writes, Blocks.block_writes, Rows.five_cells, Words.cell_after, Words.central_after, Words.joined_cells}
-use Rattle.pp_step.specs.{Codes.code_of, Codes.number_of, declared.code.Code.Code}
+use Rattle.pp_step.specs.{Step.pp_writes, Step.instruction_writes, Blocks.block_writes, Rows.five_cells, Words.cell_after}
+use Rattle.pp_step.specs.{Words.central_after, Words.joined_cells, Codes.code_of, Codes.number_of, declared.code.Code.Code}
 use Rattle.pp_step.specs.declared.code.Code.TheVariants as code
 use Rattle.pp_origins.specs.Origin.{Origin, Origins, field_of, result, results}
 use Rattle.pp_origins.specs.Rows.{Row, row_of, rows, exchange, frame_origins, from, part, word_origins}
 use Rattle.pp_origins.specs.Rows as spec
 use Rattle.pp_origins.specs.Blocks as blocks
-use Rattle.pp_origins.specs.Step.{step_writes, situation, origins_by, operand_address, instruction_origins, block_origins, step_origins}
+use Rattle.pp_origins.specs.Step.{step_writes, situation, origins_by, operand_address}
+use Rattle.pp_origins.specs.Step.{instruction_origins, block_origins, step_origins}
 use Rattle.pp_origins.specs.declared.situation.Situation.{Situation}
 use Rattle.pp_origins.specs.declared.origin.Field.{Field}
 use Rattle.pp_origins.specs.declared.origin.Field.TheVariants as field
@@ -32,7 +34,8 @@ use Rattle.pp_origins.specs.declared.origin.Operation.TheVariants as by
 
 -- what is true of the number of each code, and of a number that no code has, is true of each number
 each_number : (T : ℕ → Type 0) → ((c : Code) → T (number_of c)) → ((n : ℕ) → 64 ≤ n → T n) → (n : ℕ) → T n
-each_number T each past n = ⊎_elim (λ below. subst T (number_of-code_of n below) (each (code_of n))) (λ above. past n above) (cases_lt n 64)
+each_number T each past n = ⊎_elim (λ below. subst T (number_of-code_of n below) (each (code_of n))) (λ above. past n above)
+    (cases_lt n 64)
 
 -- what processor n sees of the machine
 abbrev seen : ℕ → Machine → PpView
@@ -47,7 +50,8 @@ coded k v = let i = instruction_at v.p v.cells in
 -- its origins
 abbrev coded_origins : ℕ → ℕ → Machine → Origins
 coded_origins k n s = let i = instruction_at (processor s n).p (processor s n).cells in
-    origins_by (row_of k) n i.d (operand_address (step_row_of k).mode (address_of (step_row_of k).mode i.d i.m (processor s n).cells)) s
+    origins_by (row_of k) n i.d (operand_address (step_row_of k).mode
+    (address_of (step_row_of k).mode i.d i.m (processor s n).cells)) s
 
 -- ---- choices
 
@@ -56,7 +60,8 @@ module _ (n : ℕ) (s : Machine) where
   abbrev Come : Writes PpPlace → Origins → Type 0
   Come x origins = renamed (pp_place n) x ≡ results s origins
 
-  either : (b : Bool) (x y : Writes PpPlace) (x2 y2 : Origins) → Come x x2 → Come y y2 → Come (if b then x else y) (if b then x2 else y2)
+  either : (b : Bool) (x y : Writes PpPlace) (x2 y2 : Origins) → Come x x2 → Come y y2 →
+      Come (if b then x else y) (if b then x2 else y2)
   either true x y x2 y2 h k = h
   either false x y x2 y2 h k = k
 
@@ -126,19 +131,22 @@ words_explained : (n : ℕ) (s : Machine) (c : Situation) (count k : ℕ) → c.
     renamed (pp_place n) (word_pairs c.size c.a k (drop k s.frame)) ≡ results s (word_origins c (range_with_len k count))
 words_explained n s c zero k size h = rw (drop_of_length-le s.frame {i = k} (omega (arith, h))) refl
 words_explained n s c (suc count) k size h = rw (drop_more s.frame k 0 (omega (arith, h)))
-    (words_if n s (nat_lt (central_after c.a k) c.size) _ _ _ _ _ refl (words_explained n s c count (k + 1) size (omega (arith, h))))
+    (words_if n s (nat_lt (central_after c.a k) c.size) _ _ _ _ _ refl
+    (words_explained n s c count (k + 1) size (omega (arith, h))))
 
 frame_field : (b : Bool) (w : ℕ) → field_of (if b then field.WithoutB0 else field.Whole) w ≡ (if b then w / 2 ^ 18 * 2 ^ 18 else w)
 frame_field true w = refl
 frame_field false w = refl
 
 frame_explained : (n : ℕ) (s : Machine) (c : Situation) (count k : ℕ) → c.size ≡ length s.central →
-    renamed (pp_place n) (frame_pairs k (map (λ i. frame_word i (slice_index s.central (central_after c.a i))) (range_with_len k count)))
+    renamed (pp_place n) (frame_pairs k (map (λ i. frame_word i (slice_index s.central (central_after c.a i)))
+    (range_with_len k count)))
     ≡ results s (frame_origins c (range_with_len k count))
 frame_explained n s c zero k size = refl
 frame_explained n s c (suc count) k size =
     let w = slice_index s.central (central_after c.a k) in
-    let first = part_explained s (central_after c.a k) (if k == 0 then field.WithoutB0 else field.Whole) c size ∙ frame_field (k == 0) w in
+    let first = part_explained s (central_after c.a k) (if k == 0 then field.WithoutB0 else field.Whole) c size ∙ frame_field
+    (k == 0) w in
     cc (first, frame_explained n s c count (k + 1) size)
 
 exchange_explained : (n : ℕ) (s : Machine) (c : Situation) → c.pp ≡ n → c.a ≡ (processor s n).a → c.size ≡ length s.central →
@@ -155,13 +163,16 @@ exchange_explained n s c here a size h =
 
 row_explained : (k : Code) (n : ℕ) (s : Machine) → length s.frame ≡ 16 →
     renamed (pp_place n) (coded (number_of k) (seen n s)) ≡ results s (coded_origins (number_of k) n s)
-row_explained code.Exn n s h = exchange_explained n s (situation (row_of 0o26) n (slice_index (processor s n).cells (processor s n).p % 0o100)
+row_explained code.Exn n s h = exchange_explained n s
+    (situation (row_of 0o26) n (slice_index (processor s n).cells (processor s n).p % 0o100)
     (slice_index (processor s n).cells (processor s n).p % 0o100) s) refl refl refl h
 row_explained code.Crd n s h = ap (λ ws. (place.RegP n, cell_after (processor s n).p 1) ∷ ws)
     (let d = slice_index (processor s n).cells (processor s n).p % 0o100 in
     five_explained n s d (processor s n).a (situation (row_of 0o60) n d d s) refl refl)
-row_explained code.Ljm n s h = chosen s (slice_index (processor s n).cells (processor s n).p % 0o100 == 0) (place.RegP n) _ _ _ _ _ refl refl
-row_explained code.Rjm n s h = returned s (slice_index (processor s n).cells (processor s n).p % 0o100 == 0) (place.RegP n) _ _ _ _ _ refl refl
+row_explained code.Ljm n s h = chosen s (slice_index (processor s n).cells (processor s n).p % 0o100 == 0) (place.RegP n) _ _ _ _ _
+    refl refl
+row_explained code.Rjm n s h = returned s (slice_index (processor s n).cells (processor s n).p % 0o100 == 0) (place.RegP n) _ _ _ _
+    _ refl refl
 row_explained code.Zjn n s h = chosen s ((processor s n).a == 0) (place.RegP n) _ _ _ _ _ refl refl
 row_explained code.Njn n s h = chosen s (not ((processor s n).a == 0)) (place.RegP n) _ _ _ _ _ refl refl
 row_explained code.Pjn n s h = chosen s (nat_lt (processor s n).a (2 ^ 17)) (place.RegP n) _ _ _ _ _ refl refl
@@ -193,7 +204,8 @@ instruction_explained : (n : ℕ) (s : Machine) → length s.frame ≡ 16 →
     renamed (pp_place n) (instruction_writes (seen n s)) ≡ results s (instruction_origins n s)
 instruction_explained n s h =
     each_number (λ k. renamed (pp_place n) (coded k (seen n s)) ≡ results s (coded_origins k n s)) (λ c. row_explained c n s h)
-    (λ k past. rw (get_or_past step_rows k _ past, get_or_past rows k _ past) refl) (slice_index (processor s n).cells (processor s n).p / 0o100)
+    (λ k past. rw (get_or_past step_rows k _ past, get_or_past rows k _ past) refl)
+    (slice_index (processor s n).cells (processor s n).p / 0o100)
 
 -- ---- block transfers
 
@@ -217,14 +229,17 @@ block_explained n s =
     let states = s.channels.states in
     by_row n s d (x.phase / 0o100 == 0o61) _ _ _ _ (central_input_explained n s d)
     (by_row n s d (x.phase / 0o100 == 0o63) _ _ _ _
-    (either n s (x.q == 0) _ _ _ _ refl (cc (either n s (nat_lt x.a (length s.central)) ((Central x.a, joined_cells x.p x.cells) ∷ []) []
-    ((place.Central x.a, spec.joined x.p (situation (spec.row blocks.by_a_and_q blocks.central_output) n d 0 s)) ∷ []) [] refl refl)))
+    (either n s (x.q == 0) _ _ _ _ refl (cc (either n s (nat_lt x.a (length s.central))
+    ((Central x.a, joined_cells x.p x.cells) ∷ []) []
+    ((place.Central x.a, spec.joined x.p (situation (spec.row blocks.by_a_and_q blocks.central_output) n d 0 s)) ∷ []) [] refl
+    refl)))
     (by_row n s d (x.phase / 0o100 == 0o71) _ _ _ _
     (either n s (x.a == 0) _ _ _ _ refl (either n s (is_clock d) _ _ _ _ refl (either n s (not (is_active d states)) _ _ _ _
     (returned s (x.p == 0) (place.RegP n) _ _ _ _ _ refl refl)
     (either n s (is_in state.Full d states) _ _ _ _ refl refl))))
     (by_row n s d (x.phase / 0o100 == 0o73) _ _ _ _
-    (either n s (x.a == 0 || not (is_active d states)) _ _ _ _ refl (either n s (is_in state.Empty d states) _ _ _ _ refl refl)) refl)))
+    (either n s (x.a == 0 || not (is_active d states)) _ _ _ _ refl (either n s (is_in state.Empty d states) _ _ _ _ refl refl))
+    refl)))
 
 -- ---- a step
 

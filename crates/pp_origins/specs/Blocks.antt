@@ -5,7 +5,8 @@ use Rattle.pp_machine.specs.declared.channel.ChannelState.TheVariants.{Empty, Fu
 use Rattle.pp_machine.specs.declared.place.Place.TheVariants.{Cell, RegA, RegP, RegQ, Phase, ChannelMode, ChannelWord, Central}
 use Rattle.pp_step.specs.Channels.{is_clock}
 use Rattle.pp_origins.specs.Origin.{Origins}
-use Rattle.pp_origins.specs.Rows.{Deciding, Row, row, nothing, whole, a, p, register, clock, from, set_to, five_cells, joined, next1, is_in, is_active}
+use Rattle.pp_origins.specs.Rows.{Deciding, Row, row, nothing, whole, a, p, register, clock, from, set_to, five_cells, joined}
+use Rattle.pp_origins.specs.Rows.{next1, is_in, is_active}
 use Rattle.pp_origins.specs.declared.situation.Situation.{Situation}
 use Rattle.pp_origins.specs.declared.origin.Operation.TheVariants as by
 

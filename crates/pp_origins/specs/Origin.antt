@@ -1,6 +1,7 @@
 -- Where a number comes from: an operation, and the places that it reads. A new number is made from the numbers that are read, and
 -- from nothing else.
-use Rattle.std.specs.Prelude.{ℕ, List, [], ◌∷◌, ◌*◌, ◌+◌, ◌-◌, ◌/◌, ◌%◌, ◌^◌, ◌==◌, ◌≡◌, map, slice_index, slice_index_or, bit_and, bit_xor, if◌then◌else◌}
+use Rattle.std.specs.Prelude.{ℕ, List, [], ◌∷◌, ◌*◌, ◌+◌, ◌-◌, ◌/◌, ◌%◌, ◌^◌, ◌==◌, ◌≡◌, map, slice_index, slice_index_or, bit_and}
+use Rattle.std.specs.Prelude.{bit_xor, if◌then◌else◌}
 use Rattle.pp_arith.specs.{Arith.add18, Arith.sub18, Arith.shift18, Arith.relative, Arith.index12, Words60.split60, Words60.join60}
 use Rattle.pp_machine.specs.{Machine.Machine, Machine.number, Writes.Writes, declared.place.Place.Place}
 use Rattle.pp_step.specs.Words.{cell_after, central_after, lower12}

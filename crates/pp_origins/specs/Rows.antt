@@ -1,9 +1,11 @@
 -- The table of origins: for each row of the instruction table the places that it writes, with where each new number comes from.
-use Rattle.std.specs.Prelude.{ℕ, Bool, true, false, List, [], ◌∷◌, ◌++◌, ◌==◌, ◌&&◌, ◌||◌, ◌^◌, not, nat_lt, if◌then◌else◌, map, slice_index_or}
+use Rattle.std.specs.Prelude.{ℕ, Bool, true, false, List, [], ◌∷◌, ◌++◌, ◌==◌, ◌&&◌, ◌||◌, ◌^◌}
+use Rattle.std.specs.Prelude.{not, nat_lt, if◌then◌else◌, map, slice_index_or}
 use Rattle.std.specs.List.{range_with_len}
 use Rattle.pp_machine.specs.{ChannelNumbers.state_number, declared.channel.ChannelState.ChannelState, declared.place.Place.Place}
 use Rattle.pp_machine.specs.declared.channel.ChannelState.TheVariants.{Inactive, Empty, Full, Function}
-use Rattle.pp_machine.specs.declared.place.Place.TheVariants.{Cell, RegA, RegP, RegQ, Phase, ChannelMode, ChannelWord, Clock, Central, FrameWord}
+use Rattle.pp_machine.specs.declared.place.Place.TheVariants.{Cell, RegA, RegP, RegQ, Phase, ChannelMode}
+use Rattle.pp_machine.specs.declared.place.Place.TheVariants.{ChannelWord, Clock, Central, FrameWord}
 use Rattle.pp_step.specs.{Channels.is_clock, Words.cell_after, Words.central_after}
 use Rattle.pp_origins.specs.Origin.{Origin, Origins, constant}
 use Rattle.pp_origins.specs.declared.origin.{Field.Field, Operation.Operation, Read.Read}
@@ -142,7 +144,8 @@ activity ready state c = if ready c then (RegP c.pp, next1 c) ∷ (ChannelMode c
 abbrev pub output : ChannelState → (Situation → Origin) → ChannelState → (Situation → Read) → Situation → Origins
 output before next state source c =
     if is_in before c
-    then (RegP c.pp, next c) ∷ (ChannelMode c.d, set_to (state_number state) c) ∷ (ChannelWord c.d, from by.Moved (source ∷ []) c) ∷ []
+    then (RegP c.pp, next c) ∷ (ChannelMode c.d, set_to (state_number state) c)
+    ∷ (ChannelWord c.d, from by.Moved (source ∷ []) c) ∷ []
     else []
 
 abbrev pub input : Situation → Origins

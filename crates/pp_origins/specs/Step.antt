@@ -1,6 +1,8 @@
 -- The origins of a step of a processor, and the places that decide what it reads and writes.
-use Rattle.std.specs.Prelude.{ℕ, Bool, List, [], ◌∷◌, ◌++◌, ◌&&◌, ◌/◌, ◌%◌, ◌==◌, ◌≡◌, nat_lt, Option, Some, None, if◌then◌else◌, length, map, slice_index}
-use Rattle.pp_machine.specs.{Machine.Machine, Machine.number, Machine.processor, Machine.lookup, Machine.same_place, Writes.Writes, Writes.renamed, declared.place.Place.Place}
+use Rattle.std.specs.Prelude.{ℕ, Bool, List, [], ◌∷◌, ◌++◌, ◌&&◌, ◌/◌, ◌%◌, ◌==◌, ◌≡◌, nat_lt, Option, Some, None, if◌then◌else◌}
+use Rattle.std.specs.Prelude.{length, map, slice_index}
+use Rattle.pp_machine.specs.{Machine.Machine, Machine.number, Machine.processor, Machine.lookup, Machine.same_place, Writes.Writes}
+use Rattle.pp_machine.specs.{Writes.renamed, declared.place.Place.Place}
 use Rattle.pp_machine.specs.declared.place.Place.TheVariants.{Cell, RegA, RegP, RegQ, Phase, ChannelMode}
 use Rattle.pp_step.specs.Instruction.{Mode, Indirect, Memory, Unindexed}
 use Rattle.pp_step.specs.InstructionTable.{instruction_at, row_of as step_row_of}
@@ -76,7 +78,8 @@ row_places row n d =
 abbrev pub instruction_places : ℕ → Machine → List Place
 instruction_places n s =
     let i = instruction_at (processor s n).p (processor s n).cells in
-    Cell n (processor s n).p ∷ (address_places (step_row_of i.code).mode n (processor s n).p i.d ++ row_places (row_of i.code) n i.d)
+    Cell n (processor s n).p
+    ∷ (address_places (step_row_of i.code).mode n (processor s n).p i.d ++ row_places (row_of i.code) n i.d)
 
 abbrev pub block_places : ℕ → Machine → List Place
 block_places n s = let phase = (processor s n).phase in row_places (block_row (phase / 0o100)) n (phase % 0o100)

@@ -116,8 +116,9 @@ pub struct Link {
     pub place: u64,
     /// The place that is read, by its number, or `NOTHING` if the new number is read nowhere.
     pub source: u64,
-    /// The number of the operation, and of the field that is read: their positions in `Operation` and `Field`, from 0.
+    /// The number of the operation: its position in `Operation`, from 0.
     pub operation: u8,
+    /// The number of the field that is read: its position in `Field`, from 0.
     pub field: u8,
     /// How many links of the same place follow.
     pub further: u16,

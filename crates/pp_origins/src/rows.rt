@@ -150,7 +150,7 @@ pub fn put_state(state: ChannelState, c: &Situation, links: &mut [Link], used: u
 
 // ---- the shapes of the rows
 
-/// Writes how P goes on, by one or two cells.
+/// Writes how P changes, to the cell that is one or two further.
 pub fn advance(next: Operation, c: &Situation, links: &mut [Link], used: usize) -> usize
     requires { used < length links.old }
     ensures items { take result links.new ≡ take used links.old ++ links_of_one (Place.RegP c.now.pp) next (spec.p c.now ∷ []) }
@@ -381,7 +381,7 @@ fn nth_cell(address: u16, i: u16, c: &Situation) -> Place
     }
 }
 
-/// Writes how five cells get the parts of the central word at A.
+/// Writes how the five cells from `address` on get the parts of the central word at A.
 pub fn put_five(address: u16, c: &Situation, links: &mut [Link], used: usize) -> usize
     requires { used + 5 ≤ length links.old }
     ensures items { take result links.new ≡ take used links.old ++ links_of (spec.five_cells address c.now.a c.now) }
@@ -394,7 +394,7 @@ pub fn put_five(address: u16, c: &Situation, links: &mut [Link], used: usize) ->
     put_part(nth_cell(address, 4, c), Field::Fifth, c.a, c, links, used)
 }
 
-/// Writes how the central word at A gets the numbers of five cells.
+/// Writes how the central word at A gets the numbers of the five cells from `address` on.
 pub fn put_joined(address: u16, c: &Situation, links: &mut [Link], used: usize) -> usize
     requires { used + 5 ≤ length links.old }
     ensures items { take result links.new ≡ take used links.old

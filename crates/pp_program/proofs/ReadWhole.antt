@@ -18,7 +18,8 @@ use Rattle.pp_trouble.specs.declared.trouble.FileKind.TheVariants.{Deck, Panel, 
 -- ---- the troubles of a file
 
 -- what was read of a file settles what holds of its content
-pub settled : (ended : Bool) (read content : Found) (Holds : Found → Type 0) → IsFoundSettled ended read content Holds → Holds content
+pub settled : (ended : Bool) (read content : Found) (Holds : Found → Type 0) → IsFoundSettled ended read content Holds →
+    Holds content
 settled ended Missing content Holds (same, p) = rw same p
 settled ended (Content read) content Holds p = p.0
 

@@ -9,8 +9,8 @@ use Rattle.pp_program.proofs.ReadWhole.{all-ended}
 use Rattle.pp_trouble.specs.{Trouble.status_of, declared.trouble.FileKind.FileKind, declared.trouble.Trouble.Trouble}
 use Rattle.pp_trouble.specs.declared.trouble.FileKind.TheVariants.{Deck}
 
-lost : (rule : Rule) (path : Option Text) (read : Found) (ended : Bool) (content : Found) (trouble : Trouble) → IsLost rule path read ended content trouble →
-    (status_of trouble ≡ 2) ⊎ (status_of trouble ≡ 3)
+lost : (rule : Rule) (path : Option Text) (read : Found) (ended : Bool) (content : Found) (trouble : Trouble) →
+    IsLost rule path read ended content trouble → (status_of trouble ≡ 2) ⊎ (status_of trouble ≡ 3)
 lost rule path read ended content trouble p = grind arith
 
 cut : (asked : Asked) (given : Given) (readings : FileKind → Found) (typed : List ℕ) (ended : Ended) (course : Course) →
@@ -38,4 +38,5 @@ ended_run before after status run small =
 
 pub cut_run : (before after : Outside) (status : ℕ) (run : IsRun before after status) →
     IsCutShort before.files.known run.given run.readings run.typed run.ended run.course → (status ≡ 2) ⊎ (status ≡ 3)
-cut_run before after status run at = rw run.exit (cut_short before.files.known run.given run.readings run.typed run.ended run.course at)
+cut_run before after status run at =
+    rw run.exit (cut_short before.files.known run.given run.readings run.typed run.ended run.course at)

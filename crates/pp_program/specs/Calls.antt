@@ -25,7 +25,8 @@ files_of H host = record { known = H.known_files host; log = H.log host; failure
 
 -- standard input, as its source shows it
 abbrev pub input_of : {R : Type 0} → SourceGhosts R → R → Input
-input_of R source = record { left = R.rest source; read = R.given source; ended = R.ended source; failures = R.failure_count source }
+input_of R source =
+    record { left = R.rest source; read = R.given source; ended = R.ended source; failures = R.failure_count source }
 
 -- an output, as its sink shows it
 abbrev pub output_of : {W : Type 0} → SinkGhosts W → W → Output

@@ -56,7 +56,8 @@ options_with wanted (Some size) =
 -- The options, or the first fault among their numbers, in the order in which the command line is read.
 abbrev pub options_of : Wanted → Result Asked Trouble
 options_of wanted =
-    if nat_le 1 wanted.history && nat_le wanted.history 10000 then options_with wanted (size_of wanted.central) else Err BadArguments
+    if nat_le 1 wanted.history && nat_le wanted.history 10000 then options_with wanted (size_of wanted.central)
+    else Err BadArguments
 
 -- The cards of a deck file with these bytes, or its first fault.
 abbrev pub cards_in : List ℕ → Result (List Row) Trouble
@@ -70,7 +71,8 @@ words_in (byte ∷ bytes) = result_map_both Some (of_load Panel) (panel_of_file 
 -- The session at its start, or the first trouble, as the program has them: the options, the deck, the panel and the machine.
 unfoldable pub opened : Wanted → Result Value Trouble
 opened wanted =
-    options_of wanted >>= λ asked. cards_in wanted.deck >>= λ cards. words_in wanted.panel >>= λ panel. session_with asked cards panel
+    options_of wanted >>= λ asked. cards_in wanted.deck >>= λ cards. words_in wanted.panel >>= λ panel.
+    session_with asked cards panel
 
 -- A session was opened, and it is at this start.
 pub record IsOpened (wanted : Wanted) (IsAt : Value → Type 0) : Type 0 where

@@ -8,7 +8,8 @@ use Rattle.pp_search.specs.Condition.{is_changed, is_of_any}
 
 -- before the first place
 pub any_start : (is : Place → Bool) (first count : ℕ) → is_of_any is first count ≡ is_of_any is (first + 0) (count - 0)
-any_start is first count = let all : count - 0 ≡ count = omega arith in let here : first + 0 ≡ first = omega arith in rw (all, here) refl
+any_start is first count =
+    let all : count - 0 ≡ count = omega arith in let here : first + 0 ≡ first = omega arith in rw (all, here) refl
 
 -- at one of them
 pub any_step : (is : Place → Bool) (first count k : ℕ) → k < count →

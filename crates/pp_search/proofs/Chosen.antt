@@ -1,5 +1,6 @@
 -- A condition, some of whose alternatives are judged.
-use Rattle.std.proofs.Common.{◌≡◌, ◌∙◌, ◌⊎◌, ◌<◌, ◌≤◌, ◌++◌, ◌∷◌, [], ℕ, zero, suc, All, Bool, Contains, List, ap, arith, false, get_or, inl, inr, length, refl, subst, sym, take, ◌+◌}
+use Rattle.std.proofs.Common.{◌≡◌, ◌∙◌, ◌⊎◌, ◌<◌, ◌≤◌, ◌++◌, ◌∷◌, [], ℕ, zero, suc, All, Bool, Contains, List, ap, arith, false}
+use Rattle.std.proofs.Common.{get_or, inl, inr, length, refl, subst, sym, take, ◌+◌}
 use Rattle.std.proofs.lemmas.List.{get_or_append_left, get_or_default, get_or_push}
 use Rattle.std.proofs.lemmas.List.Elements.{All-contains, All-push, Contains-append_left, Contains-push}
 use Rattle.std.proofs.lemmas.List.Folds.{list_any_none}
@@ -33,9 +34,9 @@ abbrev pub IsChosen : ℕ → List Alternative → Candidates → ℕ → Type 0
 IsChosen pp alternatives candidates i =
     (d : Alternative) → IsCandidate pp candidates i (get_or alternatives i d) ⊎ IsOfAnother pp (get_or alternatives i d)
 
-pub chosen_more : (old new : Candidates) (alternatives : List Alternative) (pp n : ℕ) (here : Alternative) → n < length alternatives →
-    ((j : ℕ) → Contains old.alternatives.items j → Contains new.alternatives.items j) → KeepsFlags old new →
-    ((i : ℕ) → i < n → IsChosen pp alternatives old i) → here ≡ get_or alternatives n here →
+pub chosen_more : (old new : Candidates) (alternatives : List Alternative) (pp n : ℕ) (here : Alternative) →
+    n < length alternatives → ((j : ℕ) → Contains old.alternatives.items j → Contains new.alternatives.items j) →
+    KeepsFlags old new → ((i : ℕ) → i < n → IsChosen pp alternatives old i) → here ≡ get_or alternatives n here →
     IsCandidate pp new n here ⊎ IsOfAnother pp here → (i : ℕ) → i < n + 1 → IsChosen pp alternatives new i
 chosen_more old new alternatives pp n here within keeps flags earlier is added i less d = elim (cases_lt i n) [
   | inl before ↦ elim (earlier i before d) [
@@ -56,20 +57,24 @@ pub candidates_more : (found : List Candidates) (x : Candidates) (alternatives :
     (n : ℕ) (d : Candidates) → n < pp + 1 → AreCandidates n alternatives (get_or (found ++ (x ∷ [])) n d)
 candidates_more found x alternatives pp count earlier last n d less = elim (cases_lt n pp) [
   | inl before ↦
-      subst (AreCandidates n alternatives) (sym (get_or_append_left found (x ∷ []) d n (omega (arith, before, count)))) (earlier n d before)
+      subst (AreCandidates n alternatives) (sym (get_or_append_left found (x ∷ []) d n (omega (arith, before, count))))
+      (earlier n d before)
   | inr past ↦
       let here : pp ≡ n = omega (arith, less, past) in
-      subst (AreCandidates n alternatives) (sym (get_or_push found x d n (count ∙ here))) (subst (λ (k : ℕ). AreCandidates k alternatives x) here last)
+      subst (AreCandidates n alternatives) (sym (get_or_push found x d n (count ∙ here)))
+      (subst (λ (k : ℕ). AreCandidates k alternatives x) here last)
 ]
 
 -- ---- none of the candidates comes, and no other alternative
 
 pub none_chosen : (does : Alternative → Bool) (alternatives : List Alternative) (candidates : Candidates) (pp : ℕ) →
-    AreCandidates pp alternatives candidates → ((alternative : Alternative) → IsOfAnother pp alternative → does alternative ≡ false) →
+    AreCandidates pp alternatives candidates →
+    ((alternative : Alternative) → IsOfAnother pp alternative → does alternative ≡ false) →
     All (λ (i : ℕ). (d : Alternative) → does (get_or alternatives i d) ≡ false) candidates.alternatives.items →
     list_any does alternatives ≡ false
 none_chosen does alternatives candidates pp are another none =
     list_any_none does alternatives (λ i d less. elim (are.others i d less) [
-      | inl is ↦ All-contains (λ (i : ℕ). (d : Alternative) → does (get_or alternatives i d) ≡ false) candidates.alternatives.items i none is.0 d
+      | inl is ↦ All-contains (λ (i : ℕ). (d : Alternative) → does (get_or alternatives i d) ≡ false) candidates.alternatives.items
+          i none is.0 d
       | inr of ↦ another _ of
     ])

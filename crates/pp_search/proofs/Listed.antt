@@ -1,6 +1,8 @@
 -- The places in a list.
-use Rattle.std.proofs.Common.{◌≡◌, ◌++◌, ◌∷◌, [], ◌<◌, ℕ, ◌+◌, List, All, Contains, false, get_or, length, inl, inr, arith, take, true}
-use Rattle.std.proofs.lemmas.List.Elements.{All-contains, All-contains_itself, All-more, Contains-append_left, Contains-append_right}
+use Rattle.std.proofs.Common.{◌≡◌, ◌++◌, ◌∷◌, [], ◌<◌, ℕ, ◌+◌, List, All, Contains}
+use Rattle.std.proofs.Common.{false, get_or, length, inl, inr, arith, take, true}
+use Rattle.std.proofs.lemmas.List.Elements.{All-contains, All-contains_itself, All-more, Contains-append_left}
+use Rattle.std.proofs.lemmas.List.Elements.{Contains-append_right}
 use Rattle.pp_history.proofs.Names.{cases_lt}
 use Rattle.pp_history.specs.Marks.{covers}
 use Rattle.pp_history.specs.declared.marks.Marks.{Marks}
@@ -41,10 +43,12 @@ tests_more old new grows tests i d less all last =
     All-more (IsTestListed new) tests i d less (λ k e within. test_keeps old new grows _ (all k e within)) last
 
 -- one more alternative
-pub all_more : (old new : Looked) → Grows old new → (alternatives : List Alternative) (i : ℕ) (d : Alternative) → i < length alternatives →
-    All (AreListed old) (take i alternatives) → AreListed new (get_or alternatives i d) → All (AreListed new) (take (i + 1) alternatives)
+pub all_more : (old new : Looked) → Grows old new → (alternatives : List Alternative) (i : ℕ) (d : Alternative) →
+    i < length alternatives → All (AreListed old) (take i alternatives) → AreListed new (get_or alternatives i d) →
+    All (AreListed new) (take (i + 1) alternatives)
 all_more old new grows alternatives i d less all last =
-    All-more (AreListed new) alternatives i d less (λ k e within j f inside. test_keeps old new grows _ (all k e within j f inside)) last
+    All-more (AreListed new) alternatives i d less
+    (λ k e within j f inside. test_keeps old new grows _ (all k e within j f inside)) last
 
 -- one more place
 pub places_more : (looked : Looked) (first count : ℕ) (place : Place) →

@@ -52,18 +52,25 @@ not_in_rest r m _ own = absurd own
 
 not_in_turn : (r : TurnRecord) (m : ℕ) (p : Place) → (m ≢ r.rest.slot) → IsOwnPlace m p → lookup (turn_pairs r) p ≡ None
 not_in_turn r m p other own =
-    lookup_processor r p (not_in_rest r.rest m p own) ∙ not_in_step r.rest.slot p (λ x. other_place r.rest.slot m x p other own) (pp_pairs r.pp)
+    lookup_processor r p (not_in_rest r.rest m p own) ∙ not_in_step r.rest.slot p (λ x. other_place r.rest.slot m x p other own)
+    (pp_pairs r.pp)
 
 no_slot : (n : ℕ) (x : PpPlace) → same_place (pp_place n x) Slot ≡ false
 no_slot n x = grind arith
 
 slot_of_turn : (r : TurnRecord) → lookup (turn_pairs r) Slot ≡ Some r.rest.slot
-slot_of_turn r = grind (arith, lookup_turn r Slot, not_in_step r.rest.slot Slot (no_slot r.rest.slot) (pp_pairs r.pp), lookup_by_kind r.rest Slot)
+slot_of_turn r = grind (
+  arith,
+  lookup_turn r Slot,
+  not_in_step r.rest.slot Slot (no_slot r.rest.slot) (pp_pairs r.pp),
+  lookup_by_kind r.rest Slot,
+)
 
 -- ---- so it brings no alternative of another one to hold
 
-pub other_does_not_come : (turn : ShortTurn) (back : RigRecord) (now : Machine) (pp : ℕ) (alternative : Alternative) → back ≡ whole turn →
-    turn.rest.slot ≡ pp → FitsRecord back now → IsOfAnother pp alternative → comes alternative (before back now) (record_pairs back) now ≡ false
+pub other_does_not_come : (turn : ShortTurn) (back : RigRecord) (now : Machine) (pp : ℕ) (alternative : Alternative) →
+    back ≡ whole turn → turn.rest.slot ≡ pp → FitsRecord back now → IsOfAnother pp alternative →
+    comes alternative (before back now) (record_pairs back) now ≡ false
 other_does_not_come turn back now pp alternative is slot fits (m, other, own) =
     let r = whole_turn turn in
     let pairs : record_pairs back ≡ turn_pairs r = ap record_pairs is in
@@ -94,17 +101,21 @@ neither : (a b : Bool) → (a || b) ≡ false → (a ≡ false) × (b ≡ false)
 neither false b is = (refl, is)
 neither true b is = absurd (cc)
 
-candidate_does_not_come : (alternative : Alternative) (candidates : Candidates) (n i : ℕ) (old new : Machine) (olds : Writes Place) →
-    can_hold_at candidates (number new (RegP n)) ≡ false → IsCandidate n candidates i alternative → comes alternative old olds new ≡ false
+candidate_does_not_come : (alternative : Alternative) (candidates : Candidates) (n i : ℕ) (old new : Machine) (olds : Writes Place)
+    →
+    can_hold_at candidates (number new (RegP n)) ≡ false → IsCandidate n candidates i alternative →
+    comes alternative old olds new ≡ false
 candidate_does_not_come alternative candidates n i old new olds off is =
     let (k, less, found) = is.0 in
     let some : (length candidates.alternatives.items == 0) ≡ false = grind (arith, nat_tests, less) in
     let none = neither candidates.is_anywhere (has_flag candidates (number new (RegP n))) (rw some at off) in
     awaited_does_not_come alternative candidates n i old new olds none.0 none.1 is
 
-pub none_where_it_is : (turn : ShortTurn) (back : RigRecord) (now : Machine) (pp : ℕ) (condition : Condition) (candidates : Candidates) →
+pub none_where_it_is : (turn : ShortTurn) (back : RigRecord) (now : Machine) (pp : ℕ) (condition : Condition)
+    (candidates : Candidates) →
     back ≡ whole turn → turn.rest.slot ≡ pp → FitsRecord back now → AreCandidates pp condition.alternatives.items candidates →
-    can_hold_at candidates (number now (RegP pp)) ≡ false → comes_to_hold condition (before back now) (record_pairs back) now ≡ false
+    can_hold_at candidates (number now (RegP pp)) ≡ false →
+    comes_to_hold condition (before back now) (record_pairs back) now ≡ false
 none_where_it_is turn back now pp condition candidates is slot fits are off =
     let old = before back now in
     let olds = record_pairs back in
@@ -116,7 +127,8 @@ none_where_it_is turn back now pp condition candidates is slot fits are off =
 
 -- ---- cells of one memory
 
-pub memory_place : (first count k : ℕ) → first / 4096 < 10 → count ≤ 4096 - first % 4096 → k < count → IsOwnPlace (first / 4096) (place_at (first + k))
+pub memory_place : (first count k : ℕ) → first / 4096 < 10 → count ≤ 4096 - first % 4096 → k < count →
+    IsOwnPlace (first / 4096) (place_at (first + k))
 unfolding place_at
 memory_place first count k within fits less =
     let cell : first + k < 40960 = omega (arith, within, fits, less) in

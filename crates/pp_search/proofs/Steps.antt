@@ -1,5 +1,6 @@
 -- Steps of a search, forward and back.
-use Rattle.std.proofs.Common.{◌≡◌, ◌∙◌, ℕ, zero, suc, ◌+◌, ◌-◌, ◌<◌, ◌≤◌, ◌∷◌, [], Bool, false, true, List, Some, None, ap, arith, drop, refl, replicate, sym}
+use Rattle.std.proofs.Common.{◌≡◌, ◌∙◌, ℕ, zero, suc, ◌+◌, ◌-◌, ◌<◌, ◌≤◌, ◌∷◌, [], Bool, false, true, List, Some, None, ap, arith}
+use Rattle.std.proofs.Common.{drop, refl, replicate, sym}
 use Rattle.std.proofs.lemmas.List.{drop-drop}
 use Rattle.pp_actions.specs.declared.action.Action.{Action}
 use Rattle.pp_actions.specs.declared.action.Action.TheVariants.{Turn}
@@ -29,7 +30,8 @@ setup_kept start (action ∷ earlier) =
     ap (λ s. s.setup) (next_by_writes s action) ∙ setup-over s (writes s action) ∙ setup_kept start earlier
 
 pub size_kept : (turns : ℕ) (s new : Machine) → new ≡ turned turns s → new.setup.central_words ≡ s.setup.central_words
-size_kept turns s new is = ap (λ s. s.setup.central_words) is ∙ ap (λ setup. setup.central_words) (setup_kept s (replicate turns Turn))
+size_kept turns s new is = ap (λ s. s.setup.central_words) is ∙ ap (λ setup. setup.central_words)
+    (setup_kept s (replicate turns Turn))
 
 -- turns after turns
 pub turned_add : (first turns : ℕ) (s : Machine) → turned turns (turned first s) ≡ turned (first + turns) s
@@ -58,22 +60,23 @@ later_turn condition s now turns k here some =
     sym (in_later_turn condition s turns k some) ∙ ap (λ m. comes_in_turn condition m k) (sym here)
 
 -- of the next turns none is found before the last
-passed_part : (condition : Condition) (most turns more : ℕ) (s now : Machine) → now ≡ turned turns s → 1 ≤ more → more ≤ most - turns →
-    Passed condition most s turns → ((k : ℕ) → 1 ≤ k → k < more → comes_in_turn condition now k ≡ false) →
+passed_part : (condition : Condition) (most turns more : ℕ) (s now : Machine) → now ≡ turned turns s → 1 ≤ more →
+    more ≤ most - turns → Passed condition most s turns → ((k : ℕ) → 1 ≤ k → k < more → comes_in_turn condition now k ≡ false) →
     first_turn condition most s ≡ least (comes_in_turn condition s) (turns + more) (most - (turns + more) + 1)
 unfolding Passed
 passed_part condition most turns more s now here some within passed earlier =
     let is = comes_in_turn condition s in
     let none = λ (k : ℕ) (least : turns + 1 ≤ k) (less : k < turns + 1 + (more - 1)).
     (let at : turns + (k - turns) ≡ k = omega (arith, least) in
-    sym (ap is at) ∙ later_turn condition s now turns (k - turns) here (omega (arith, least)) ∙ earlier (k - turns) (omega (arith, least)) (omega (arith, less, some))) in
+    sym (ap is at) ∙ later_turn condition s now turns (k - turns) here (omega (arith, least)) ∙ earlier (k - turns)
+    (omega (arith, least)) (omega (arith, less, some))) in
     let from : turns + 1 + (more - 1) ≡ turns + more = omega (arith, some) in
     let left : most - turns - (more - 1) ≡ most - (turns + more) + 1 = omega (arith, some, within) in
     passed ∙ rw (from, left) at (least_passed is (turns + 1) (more - 1) (most - turns) (omega (arith, within)) none)
 
 -- it comes to hold in the last
-pub found_part : (condition : Condition) (most turns more : ℕ) (s now : Machine) (found : Bool) → now ≡ turned turns s → 1 ≤ more → more ≤ most - turns →
-    Passed condition most s turns → ((k : ℕ) → 1 ≤ k → k < more → comes_in_turn condition now k ≡ false) →
+pub found_part : (condition : Condition) (most turns more : ℕ) (s now : Machine) (found : Bool) → now ≡ turned turns s → 1 ≤ more →
+    more ≤ most - turns → Passed condition most s turns → ((k : ℕ) → 1 ≤ k → k < more → comes_in_turn condition now k ≡ false) →
     found ≡ comes_in_turn condition now more → found ≡ true → first_turn condition most s ≡ Some (turns + more)
 found_part condition most turns more s now found here some within passed earlier is holds =
     let last = later_turn condition s now turns more here some ∙ sym is ∙ holds in
@@ -81,8 +84,8 @@ found_part condition most turns more s now found here some within passed earlier
     ∙ least_found (comes_in_turn condition s) (turns + more) (most - (turns + more) + 1) (omega arith) last
 
 -- or it does not, and the turns are passed
-pub passed_more : (condition : Condition) (most turns more : ℕ) (s now : Machine) (found : Bool) → now ≡ turned turns s → 1 ≤ more → more ≤ most - turns →
-    Passed condition most s turns → ((k : ℕ) → 1 ≤ k → k < more → comes_in_turn condition now k ≡ false) →
+pub passed_more : (condition : Condition) (most turns more : ℕ) (s now : Machine) (found : Bool) → now ≡ turned turns s → 1 ≤ more →
+    more ≤ most - turns → Passed condition most s turns → ((k : ℕ) → 1 ≤ k → k < more → comes_in_turn condition now k ≡ false) →
     found ≡ comes_in_turn condition now more → found ≡ false → Passed condition most s (turns + more)
 unfolding Passed
 passed_more condition most turns more s now found here some within passed earlier is none =
@@ -95,7 +98,8 @@ passed_more condition most turns more s now found here some within passed earlie
 pub passed_all : (condition : Condition) (most turns : ℕ) (s : Machine) → most ≤ turns → Passed condition most s turns →
     first_turn condition most s ≡ None
 unfolding Passed
-passed_all condition most turns s past passed = passed ∙ least_end (comes_in_turn condition s) (turns + 1) (most - turns) (omega (arith, past))
+passed_all condition most turns s past passed = passed ∙ least_end (comes_in_turn condition s) (turns + 1) (most - turns)
+    (omega (arith, past))
 
 -- back, one action after another
 pub in_earlier_action : (condition : Condition) (v : SessionValue Machine Action) (undone : ℕ) →
@@ -112,31 +116,36 @@ unfolding last_before PassedBack
 back_none condition v = let all : v.kept - 1 - 0 ≡ v.kept - 1 = omega arith in rw all refl
 
 pub back_found : (condition : Condition) (v : SessionValue Machine Action) (undone : ℕ) (found : Bool) → undone + 1 < v.kept →
-    PassedBack condition v undone → found ≡ came_in condition (after_back v undone) 1 → found ≡ true → last_before condition v ≡ Some (undone + 1)
+    PassedBack condition v undone → found ≡ came_in condition (after_back v undone) 1 → found ≡ true →
+    last_before condition v ≡ Some (undone + 1)
 unfolding PassedBack
 back_found condition v undone found less passed is holds =
-    passed ∙ least_found (came_in condition v) (undone + 1) (v.kept - 1 - undone) (omega (arith, less)) (sym (in_earlier_action condition v undone) ∙ sym is ∙ holds)
+    passed ∙ least_found (came_in condition v) (undone + 1) (v.kept - 1 - undone) (omega (arith, less))
+    (sym (in_earlier_action condition v undone) ∙ sym is ∙ holds)
 
 pub back_passed : (condition : Condition) (v : SessionValue Machine Action) (undone : ℕ) (found : Bool) → undone + 1 < v.kept →
-    PassedBack condition v undone → found ≡ came_in condition (after_back v undone) 1 → found ≡ false → PassedBack condition v (undone + 1)
+    PassedBack condition v undone → found ≡ came_in condition (after_back v undone) 1 → found ≡ false →
+    PassedBack condition v (undone + 1)
 unfolding PassedBack
 back_passed condition v undone found less passed is none =
     let here = sym (in_earlier_action condition v undone) ∙ sym is ∙ none in
     let left : v.kept - 1 - undone ≡ suc (v.kept - 1 - (undone + 1)) = omega (arith, less) in
     passed ∙ rw left (least_past (came_in condition v) (undone + 1) (v.kept - 1 - (undone + 1)) here)
 
-pub back_all : (condition : Condition) (v : SessionValue Machine Action) (undone : ℕ) → v.kept ≤ undone + 1 → PassedBack condition v undone →
-    last_before condition v ≡ None
+pub back_all : (condition : Condition) (v : SessionValue Machine Action) (undone : ℕ) → v.kept ≤ undone + 1 →
+    PassedBack condition v undone → last_before condition v ≡ None
 unfolding PassedBack
-back_all condition v undone past passed = passed ∙ least_end (came_in condition v) (undone + 1) (v.kept - 1 - undone) (omega (arith, past))
+back_all condition v undone past passed = passed ∙ least_end (came_in condition v) (undone + 1) (v.kept - 1 - undone)
+    (omega (arith, past))
 
 -- the same start, so the same places
-pub size_at : (old new : Contents Machine Action RigRecord) (v w : SessionValue Machine Action) → IsAt rules old v → IsAt rules new w →
-    w.start ≡ v.start → new.machine.setup.central_words ≡ old.machine.setup.central_words
+pub size_at : (old new : Contents Machine Action RigRecord) (v w : SessionValue Machine Action) → IsAt rules old v →
+    IsAt rules new w → w.start ≡ v.start → new.machine.setup.central_words ≡ old.machine.setup.central_words
 size_at old new v w at then start =
     let size = λ (s : Machine). s.setup.central_words in
     let words = λ (actions : List Action) (s : Machine). ap (λ setup. setup.central_words) (setup_kept s actions) in
-    ap size (machine_at rules new w then) ∙ words w.standing w.start ∙ ap size start ∙ sym (words v.standing v.start) ∙ sym (ap size (machine_at rules old v at))
+    ap size (machine_at rules new w then) ∙ words w.standing w.start ∙ ap size start ∙ sym (words v.standing v.start) ∙ sym
+    (ap size (machine_at rules old v at))
 
 -- so many turns are the newest actions
 acts_capacity : (turns : ℕ) (v : SessionValue Machine Action) → (after_acts turns Turn v).capacity ≡ v.capacity
@@ -151,7 +160,8 @@ some_kept (suc turns) v some room = grind (arith, acts_capacity turns v, room)
 
 pub last_comes : (condition : Condition) (turns : ℕ) (v : SessionValue Machine Action) (s : Machine) (found : Bool) → 1 ≤ turns →
     s ≡ replay rules v.start v.standing →
-    found ≡ came_in_newest condition (after_acts turns Turn v).start (after_acts turns Turn v).standing → found ≡ comes_in_turn condition s turns
+    found ≡ came_in_newest condition (after_acts turns Turn v).start (after_acts turns Turn v).standing →
+    found ≡ comes_in_turn condition s turns
 unfolding after_acts
 last_comes condition zero v s found some is found_is = absurd (omega (arith, some))
 last_comes condition (suc turns) v s found some is found_is =
@@ -159,7 +169,8 @@ last_comes condition (suc turns) v s found some is found_is =
     found_is ∙ ap (λ m. comes_in condition m Turn) (acts_replayed rules turns Turn v ∙ ap (turned turns) (sym is)) ∙ rw one refl
 
 -- the newest action, by its undo record
-pub newest_comes : (condition : Condition) (start : Machine) (standing : List Action) (back : RigRecord) (now : Machine) (found : Bool) →
+pub newest_comes : (condition : Condition) (start : Machine) (standing : List Action) (back : RigRecord) (now : Machine)
+    (found : Bool) →
     now ≡ replay rules start standing → before back now ≡ replay rules start (drop 1 standing) →
     AreNewest rules start standing (record_pairs back) → found ≡ comes_to_hold condition (before back now) (record_pairs back) now →
     found ≡ came_in_newest condition start standing

@@ -1,5 +1,6 @@
 -- Conditions on the machine, and in which actions one comes to hold.
-use Rattle.std.specs.Prelude.{ℕ, zero, suc, ◌+◌, ◌<◌, ◌≤◌, ◌==◌, Bool, false, not, ◌&&◌, ◌||◌, nat_lt, List, All, Option, Some, None, is_some}
+use Rattle.std.specs.Prelude.{ℕ, zero, suc, ◌+◌, ◌<◌, ◌≤◌, ◌==◌, Bool, false, not, ◌&&◌, ◌||◌}
+use Rattle.std.specs.Prelude.{nat_lt, List, All, Option, Some, None, is_some}
 use Rattle.std.specs.List.{list_all, list_any}
 use Rattle.pp_actions.specs.declared.action.Action.{Action}
 use Rattle.pp_machine.specs.Machine.{Machine, number}
@@ -59,14 +60,16 @@ all_hold tests old old_values new = list_all (λ test. holds test old old_values
 abbrev pub all_met : List Test → Machine → Bool
 all_met tests s = list_all (λ test. is_met test s) tests
 
--- An alternative comes to hold in an action: all its tests hold of it, and not all held of the machine before. So one that has a test
--- of an action comes to hold in each action of which all its tests hold.
+-- An alternative comes to hold in an action: all its tests hold of it, and not all held of the machine before. So one that has a
+-- test of an action comes to hold in each action of which all its tests hold.
 abbrev pub comes : Alternative → Machine → Writes Place → Machine → Bool
-comes alternative old old_values new = all_hold alternative.tests.items old old_values new && not (all_met alternative.tests.items old)
+comes alternative old old_values new =
+    all_hold alternative.tests.items old old_values new && not (all_met alternative.tests.items old)
 
 -- A condition comes to hold if one of its alternatives does.
 abbrev pub comes_to_hold : Condition → Machine → Writes Place → Machine → Bool
-comes_to_hold condition old old_values new = list_any (λ alternative. comes alternative old old_values new) condition.alternatives.items
+comes_to_hold condition old old_values new =
+    list_any (λ alternative. comes alternative old old_values new) condition.alternatives.items
 
 -- The condition comes to hold in this action on this machine.
 abbrev pub comes_in : Condition → Machine → Action → Bool

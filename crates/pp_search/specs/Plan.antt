@@ -16,8 +16,8 @@ use Rattle.pp_search.specs.declared.plan.Candidates.{Candidates}
 use Rattle.pp_search.specs.declared.plan.Looked.{Looked}
 use Rattle.pp_search.specs.declared.plan.Plan.{Plan}
 
--- Of a test a property of each place on whose number it depends, of each place of which it matters whether it was written, and of the
--- processor whose turn it must have been.
+-- Of a test a property of each place on whose number it depends, of each place of which it matters whether it was written, and of
+-- the processor whose turn it must have been.
 abbrev pub OfPlaces : (Place → Type 0) → (Place → Type 0) → (ℕ → Type 0) → Test → Type 0
 OfPlaces Number Written Turn (Inside place first last) = Number place
 OfPlaces Number Written Turn (Outside place first last) = Number place
@@ -79,8 +79,8 @@ can_hold_at candidates address =
 abbrev pub KeepsFlags : Candidates → Candidates → Type 0
 KeepsFlags old new = (address : Option ℕ) → IsAwaited old address → IsAwaited new address
 
--- The number of an alternative is among the candidates of this processor. It has a test that the processor performs at an address, and
--- this has a flag; or any address may do.
+-- The number of an alternative is among the candidates of this processor. It has a test that the processor performs at an address,
+-- and this has a flag; or any address may do.
 abbrev pub IsCandidate : ℕ → Candidates → ℕ → Alternative → Type 0
 IsCandidate n candidates i alternative = Contains candidates.alternatives.items i × (address : Option ℕ)
     × IfSome address (λ a. Contains alternative.tests.items (Performs n a)) × IsAwaited candidates address

@@ -1,5 +1,7 @@
--- The first turn in which a condition comes to hold, the last action before the newest in which it did, and the last that wrote a place.
-use Rattle.std.specs.Prelude.{◌≡◌, ℕ, zero, suc, ◌+◌, ◌-◌, ◌<◌, ◌≤◌, Bool, false, true, List, [], ◌∷◌, drop, Option, Some, None, if◌then◌else◌}
+-- The first turn in which a condition comes to hold, the last action before the newest in which it did, and the last that wrote a
+-- place.
+use Rattle.std.specs.Prelude.{◌≡◌, ℕ, zero, suc, ◌+◌, ◌-◌, ◌<◌, ◌≤◌, Bool, false, true, List}
+use Rattle.std.specs.Prelude.{[], ◌∷◌, drop, Option, Some, None, if◌then◌else◌}
 use Rattle.pp_actions.specs.declared.action.Action.{Action}
 use Rattle.pp_actions.specs.declared.action.Action.TheVariants.{Turn}
 use Rattle.pp_history.specs.SessionValue.{SessionValue, replay}
@@ -40,7 +42,8 @@ last_before condition v = least (came_in condition v) 1 (v.kept - 1)
 -- The newest of these actions, the newest first, wrote one of so many places from the one with this number on.
 abbrev pub wrote_newest : ℕ → ℕ → Machine → List Action → Bool
 wrote_newest first count start [] = false
-wrote_newest first count start (action ∷ earlier) = is_of_any (is_written (old_values_of (replay rules start earlier) action)) first count
+wrote_newest first count start (action ∷ earlier) =
+    is_of_any (is_written (old_values_of (replay rules start earlier) action)) first count
 
 -- The action with k newer ones wrote one of them.
 abbrev pub wrote_in : ℕ → ℕ → SessionValue Machine Action → ℕ → Bool

@@ -3,7 +3,7 @@
 use arrayvec::ArrayVec;
 use pp_machine::Place;
 
-/// The most tests of an alternative.
+/// The most tests of an alternative, decimal.
 pub const MOST_TESTS: usize = 8;
 
 /// The most alternatives of a condition, decimal.

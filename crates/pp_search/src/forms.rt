@@ -40,7 +40,9 @@ pub struct Form {
     pub kind: u32,
     /// The number of a place in the order of all places, or a processor.
     pub place: u32,
+    /// The least number, how many places, or the address, as the kind says.
     pub first: u64,
+    /// The greatest number.
     pub last: u64,
 }
 

@@ -78,7 +78,8 @@ fn has_changed_of_many(
 ) -> bool
     requires fits { FitsRecord (whole_record unpacked back.now) machine.now }
     requires has { first + count ≤ fixed_places + machine.now.setup.central_words }
-    ensures { result ≡ spec.is_of_any (spec.is_changed (before (whole_record unpacked back.now) machine.now) machine.now) first count }
+    ensures { result
+        ≡ spec.is_of_any (spec.is_changed (before (whole_record unpacked back.now) machine.now) machine.now) first count }
 {
     let _count = pp_rig::place_count(machine);
     let end = u64::from(first) + u64::from(count);
@@ -105,7 +106,8 @@ fn has_changed(
 ) -> bool
     requires fits { FitsRecord (whole_record unpacked back.now) machine.now }
     requires has { first + count ≤ fixed_places + machine.now.setup.central_words }
-    ensures { result ≡ spec.is_of_any (spec.is_changed (before (whole_record unpacked back.now) machine.now) machine.now) first count }
+    ensures { result
+        ≡ spec.is_of_any (spec.is_changed (before (whole_record unpacked back.now) machine.now) machine.now) first count }
 {
     if count > FEW {
         return has_changed_of_many(machine, back, first, count);

@@ -149,7 +149,8 @@ impl Looked {
 
     /// Adds the places of alternatives.
     fn add_all(&mut self, machine: &Rig, alternatives: &[Alternative])
-        requires has { All (λ alternative. All (HasPlaces machine.now.setup.central_words) alternative.tests.items) alternatives.now }
+        requires has { All (λ alternative. All (HasPlaces machine.now.setup.central_words) alternative.tests.items)
+            alternatives.now }
         ensures added { All (λ alternative. All (IsTestListed self.new) alternative.tests.items) alternatives.now }
     {
         for alternative in alternatives {

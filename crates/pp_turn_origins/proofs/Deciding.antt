@@ -34,8 +34,8 @@ without_links (w ∷ ws) used = adds_some used (length (links_of (w ∷ ws))) (o
   some_link w.0 w.1.operation w.1.reads,
 ))
 
-pub waits : (links front : List Link) (origins : Origins) (used end : ℕ) → end ≤ length links → take end links ≡ front ++ links_of origins →
-    length front ≡ used → (end == used) ≡ writes_nothing origins
+pub waits : (links front : List Link) (origins : Origins) (used end : ℕ) → end ≤ length links →
+    take end links ≡ front ++ links_of origins → length front ≡ used → (end == used) ≡ writes_nothing origins
 waits links front origins used end within is count =
     let reached : end ≡ used + length (links_of origins) =
     omega (arith, length-take-le end links within, ap length is, length-append front (links_of origins), count) in

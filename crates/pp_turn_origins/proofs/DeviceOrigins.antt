@@ -1,19 +1,23 @@
--- Every number that a device, the clock or the slot writes is made as its origin says, and the places that it wrote tell the origins.
-use Rattle.std.proofs.Common.{◌≡◌, ℕ, ◌+◌, ◌<◌, ◌==◌, ◌&&◌, Bool, true, false, if◌then◌else◌, ap, sym, refl, arith, length, nat_le, nat_lt, Some, None, is_some, unwrap_or}
+-- Every number that a device, the clock or the slot writes is made as its origin says, and the places that it wrote tell the
+-- origins.
+use Rattle.std.proofs.Common.{◌≡◌, ℕ, ◌+◌, ◌<◌, ◌==◌, ◌&&◌, Bool, true, false, if◌then◌else◌, ap, sym, refl, arith, length, nat_le}
+use Rattle.std.proofs.Common.{nat_lt, Some, None, is_some, unwrap_or}
 use Rattle.std.proofs.lemmas.{Bool.Decides.nat_tests}
 use Rattle.pp_machine.specs.Machine.{Machine, has_function, is_in_state, lookup, number}
 use Rattle.pp_machine.specs.{Printer.fit, Printer.printer_status, Printer.printer_step, Printer.word_writes}
 use Rattle.pp_machine.specs.{PrinterNumbers.printer_mode_number, Reader.mode_at, Reader.reader_status, Reader.reader_step}
 use Rattle.pp_machine.specs.{ReaderNumbers.reader_mode_number, Writes.Writes, declared.place.Place.Place}
 use Rattle.pp_machine.specs.declared.channel.ChannelState.TheVariants.{Empty, Full}
-use Rattle.pp_machine.specs.declared.place.Place.TheVariants.{ChannelWord, Card, CardColumn, ReaderMode, PaperLength, PaperColumn, PrinterMode}
+use Rattle.pp_machine.specs.declared.place.Place.TheVariants.{ChannelWord, Card, CardColumn, ReaderMode}
+use Rattle.pp_machine.specs.declared.place.Place.TheVariants.{PaperLength, PaperColumn, PrinterMode}
 use Rattle.pp_machine.specs.declared.printer.PrinterMode.TheVariants as printing
 use Rattle.pp_machine.specs.declared.reader.ReaderMode.TheVariants as reading
 use Rattle.pp_origins.proofs.Agreement.{enough, unwritten}
 use Rattle.pp_origins.specs.Origin.{Origin, Origins, result, results}
 use Rattle.pp_origins.specs.Step.{AreEnough, AreSame, origin_of}
 use Rattle.pp_rig.specs.Turn.{clock_step, slot_step}
-use Rattle.pp_turn_origins.specs.Devices.{clock_origins, printer_control, printer_origins, reader_control, reader_origins, set_to, slot_origins, word_origins}
+use Rattle.pp_turn_origins.specs.Devices.{clock_origins, printer_control, printer_origins, reader_control, reader_origins, set_to}
+use Rattle.pp_turn_origins.specs.Devices.{slot_origins, word_origins}
 use Rattle.pp_turn_origins.specs.Inner.{printer_by, reader_by}
 
 -- ---- numbers
@@ -109,7 +113,8 @@ module _ (s : Machine) (x y : ℕ) where
   -- these origins are told by these writes of the reader
   abbrev ByReader : Writes Place → Origins → Type 0
   ByReader w origins = reader_by s.setup.reader_channel (is_some (lookup w ReaderMode)) (is_some (lookup w CardColumn))
-      (is_some (lookup w Card)) (unwrap_or (lookup w ReaderMode) x) (unwrap_or (lookup w (ChannelWord s.setup.reader_channel)) y) ≡ origins
+      (is_some (lookup w Card)) (unwrap_or (lookup w ReaderMode) x) (unwrap_or (lookup w (ChannelWord s.setup.reader_channel)) y)
+      ≡ origins
 
   by_reader : (b : Bool) (w v : Writes Place) (a e : Origins) → ByReader w a → ByReader v e →
       ByReader (if b then w else v) (if b then a else e)
@@ -158,7 +163,8 @@ module _ (s : Machine) (x y z : ℕ) where
   is_word c word =
       let column = s.printer.column in
       word_if (nat_le (column + 2) 136) _ _ (λ h. record { mode = refl; paper = refl; column = positive column 2 (omega arith) })
-      (λ past. word_if (nat_le (column + 1) 136) _ _ (λ h. record { mode = refl; paper = refl; column = positive column 1 (omega arith) })
+      (λ past. word_if (nat_le (column + 1) 136) _ _
+      (λ h. record { mode = refl; paper = refl; column = positive column 1 (omega arith) })
       (λ far. record { mode = refl; paper = refl; column = grind (arith, nat_tests, far) }))
 
   word_told : (word : ℕ) → ByPrinter (word_writes s.setup.printer_channel s.printer word)
@@ -175,5 +181,6 @@ module _ (s : Machine) (x y z : ℕ) where
       (by_printer (is_in_state s c Full && (p.mode == printer_mode_number printing.Printing && fit p 2)) _ _ _ _
       (word_told (number s (ChannelWord c)))
       (by_printer (is_in_state s c Empty && p.mode == printer_mode_number printing.Status) _ _ _ _
-      (ap (λ b. printer_by c true false p.length p.column 3 y (unwrap_or (if b then Some (printer_status p) else None) z)) (same_channel c))
+      (ap (λ b. printer_by c true false p.length p.column 3 y (unwrap_or (if b then Some (printer_status p) else None) z))
+      (same_channel c))
       (by_printer (is_in_state s c Empty && p.mode == printer_mode_number printing.Sent) _ _ _ _ refl refl)))))

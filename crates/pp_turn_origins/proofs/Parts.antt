@@ -1,10 +1,12 @@
 -- Which part of a turn writes which places.
-use Rattle.std.proofs.Common.{◌≡◌, ℕ, ◌+◌, ◌==◌, ◌&&◌, Bool, true, false, not, if◌then◌else◌, [], ◌∷◌, ◌++◌, ap, sym, ◌∙◌, refl, arith, nat_le, nat_lt, Option, Some, None, is_some}
+use Rattle.std.proofs.Common.{◌≡◌, ℕ, ◌+◌, ◌==◌, ◌&&◌, Bool, true, false, not, if◌then◌else◌, [], ◌∷◌, ◌++◌, ap, sym, ◌∙◌, refl}
+use Rattle.std.proofs.Common.{arith, nat_le, nat_lt, Option, Some, None, is_some}
 use Rattle.std.proofs.lemmas.Bool.{and_parts, eqb-true, false≢true}
 use Rattle.pp_machine.specs.declared.place.Place.{Place}
-use Rattle.pp_machine.specs.Prelude.{Machine, Writes, first_of_two, has_function, is_in_state, lookup, lookup-append, number, old_values, over, put, renamed, same_place}
-use Rattle.pp_machine.specs.{Printer.fit, Printer.printer_step, Printer.word_writes, PrinterNumbers.PrinterNumbers, PrinterNumbers.printer_mode_number}
-use Rattle.pp_machine.specs.{Reader.reader_step, ReaderNumbers.reader_mode_number}
+use Rattle.pp_machine.specs.Prelude.{Machine, Writes, first_of_two, has_function, is_in_state, lookup, lookup-append, number}
+use Rattle.pp_machine.specs.Prelude.{old_values, over, put, renamed, same_place}
+use Rattle.pp_machine.specs.{Printer.fit, Printer.printer_step, Printer.word_writes, PrinterNumbers.PrinterNumbers}
+use Rattle.pp_machine.specs.{PrinterNumbers.printer_mode_number, Reader.reader_step, ReaderNumbers.reader_mode_number}
 use Rattle.pp_machine.specs.declared.channel.ChannelState.TheVariants.{Empty, Full}
 use Rattle.pp_machine.specs.declared.place.Place.TheVariants as place
 use Rattle.pp_machine.specs.declared.printer.PrinterMode.TheVariants as printing
@@ -44,7 +46,8 @@ none_of f (pair ∷ w) p h k =
     let parts = and_parts (f pair.0) (all_of f w) h in
     past_if (same_place pair.0 p) pair.1 (lookup w p) (apart f pair.0 p parts.0 k) ∙ none_of f w p parts.1 k
 
-some_if : (b : Bool) (m n : ℕ) (x y : Option ℕ) → is_some x ≡ is_some y → is_some (if b then Some m else x) ≡ is_some (if b then Some n else y)
+some_if : (b : Bool) (m n : ℕ) (x y : Option ℕ) → is_some x ≡ is_some y →
+    is_some (if b then Some m else x) ≡ is_some (if b then Some n else y)
 some_if true m n x y h = refl
 some_if false m n x y h = h
 
@@ -72,7 +75,8 @@ alone p late early h = lookup-append same_place late early p ∙ ap (first_of_tw
 
 -- ---- parts
 
-if_all : (f : Place → Bool) (b : Bool) (x y : Writes Place) → all_of f x ≡ true → all_of f y ≡ true → all_of f (if b then x else y) ≡ true
+if_all : (f : Place → Bool) (b : Bool) (x y : Writes Place) → all_of f x ≡ true → all_of f y ≡ true →
+    all_of f (if b then x else y) ≡ true
 if_all f true x y h k = h
 if_all f false x y h k = k
 
@@ -154,7 +158,8 @@ by_printer s =
     if_all f (has_function s c 0o0001) _ _ one
     (if_all f (has_function s c 0o0002) _ _ one
     (if_all f (has_function s c 0o0003 && fit p 1) _ _ one
-    (if_all f (is_in_state s c Full && (p.mode == printer_mode_number printing.Printing && fit p 2)) _ _ (of_word c p (number s (place.ChannelWord c)))
+    (if_all f (is_in_state s c Full && (p.mode == printer_mode_number printing.Printing && fit p 2)) _ _
+    (of_word c p (number s (place.ChannelWord c)))
     (if_all f (is_in_state s c Empty && p.mode == printer_mode_number printing.Status) _ _ two
     (if_all f (is_in_state s c Empty && p.mode == printer_mode_number printing.Sent) _ _ one refl)))))
 
@@ -212,7 +217,8 @@ not_paper2 c _ h = cc
 pub printer_waits : (s : Machine) → let s1 = over s (processor_step s) in (over s1 (reader_step s1)).printer ≡ s.printer
 printer_waits s =
     let s1 = over s (processor_step s) in
-    printer_over s1 (reader_step s1) (weaker (is_readers s1.setup.reader_channel) (λ p. not (is_paper p)) (not_paper2 s1.setup.reader_channel)
+    printer_over s1 (reader_step s1) (weaker (is_readers s1.setup.reader_channel) (λ p. not (is_paper p))
+    (not_paper2 s1.setup.reader_channel)
     (reader_step s1) (by_reader s1))
     ∙ printer_over s (processor_step s) (weaker is_processors (λ p. not (is_paper p)) not_paper (processor_step s) (by_processor s))
 
@@ -241,12 +247,15 @@ not_end3 c place.Slot h = h
 not_end3 c _ h = cc
 
 -- the slot is the same until the end
-pub slot_waits : (s : Machine) → let s1 = over s (processor_step s) in let s2 = over s1 (reader_step s1) in (over s2 (printer_step s2)).slot ≡ s.slot
+pub slot_waits : (s : Machine) →
+    let s1 = over s (processor_step s) in let s2 = over s1 (reader_step s1) in (over s2 (printer_step s2)).slot ≡ s.slot
 slot_waits s =
     let s1 = over s (processor_step s) in
     let s2 = over s1 (reader_step s1) in
-    slot_over s2 (printer_step s2) (weaker (is_printers s2.setup.printer_channel) (λ p. not (is_end p)) (not_end3 s2.setup.printer_channel)
+    slot_over s2 (printer_step s2) (weaker (is_printers s2.setup.printer_channel) (λ p. not (is_end p))
+    (not_end3 s2.setup.printer_channel)
     (printer_step s2) (by_printer s2))
-    ∙ slot_over s1 (reader_step s1) (weaker (is_readers s1.setup.reader_channel) (λ p. not (is_end p)) (not_end2 s1.setup.reader_channel)
+    ∙ slot_over s1 (reader_step s1) (weaker (is_readers s1.setup.reader_channel) (λ p. not (is_end p))
+    (not_end2 s1.setup.reader_channel)
     (reader_step s1) (by_reader s1))
     ∙ slot_over s (processor_step s) (weaker is_processors (λ p. not (is_end p)) not_end (processor_step s) (by_processor s))

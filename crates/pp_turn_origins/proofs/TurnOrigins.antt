@@ -15,8 +15,8 @@ use Rattle.pp_rig.specs.Inner.ActionRecords.{admits_turn}
 use Rattle.pp_rig.specs.Inner.TurnRecords.{turn_old_values, turn_writes}
 use Rattle.pp_rig.specs.Turn.{clock_step, processor_step, slot_step, turn}
 use Rattle.pp_rig.specs.WellFormed.{IsWellFormed}
-use Rattle.pp_turn_origins.proofs.Parts.{alone, by_clock, by_printer, by_processor, by_reader, by_slot, is_end, is_printers, is_processors, is_readers}
-use Rattle.pp_turn_origins.proofs.Parts.{none_of, old_none, skipped}
+use Rattle.pp_turn_origins.proofs.Parts.{alone, by_clock, by_printer, by_processor, by_reader, by_slot, is_end, is_printers}
+use Rattle.pp_turn_origins.proofs.Parts.{is_processors, is_readers, none_of, old_none, skipped}
 use Rattle.pp_turn_origins.specs.Turn.{is_of_processors, processor_origins, turn_control}
 
 -- ---- the processor's part
@@ -76,12 +76,13 @@ module _ (s : Machine) (p : Place) where
       (ap (λ setup. is_printers setup.printer_channel p) (setup_after_reader s) ∙ h)
 
   not_at_end : is_end p ≡ false → lookup (slot_step (after_clock s) ++ clock_step (after_printer s)) p ≡ None
-  not_at_end h = skipped p (slot_step (after_clock s)) (clock_step (after_printer s)) (none_of is_end (slot_step (after_clock s)) p (by_slot (after_clock s)) h)
+  not_at_end h = skipped p (slot_step (after_clock s)) (clock_step (after_printer s))
+      (none_of is_end (slot_step (after_clock s)) p (by_slot (after_clock s)) h)
       ∙ none_of is_end (clock_step (after_printer s)) p (by_clock (after_printer s)) h
 
   -- the new number of a place
-  pub writes_of_processor : is_readers s.setup.reader_channel p ≡ false → is_printers s.setup.printer_channel p ≡ false → is_end p ≡ false →
-      lookup (turn_writes s) p ≡ lookup (processor_step s) p
+  pub writes_of_processor : is_readers s.setup.reader_channel p ≡ false → is_printers s.setup.printer_channel p ≡ false →
+      is_end p ≡ false → lookup (turn_writes s) p ≡ lookup (processor_step s) p
   unfolding turn_writes
   writes_of_processor r q e = skipped p (after_end s ++ reader_step (after_processor s)) (processor_step s)
       (skipped p (after_end s) (reader_step (after_processor s))
@@ -98,16 +99,20 @@ module _ (s : Machine) (p : Place) where
       lookup (turn_writes s) p ≡ first_of_two (lookup (printer_step (after_reader s)) p) (lookup (processor_step s) p)
   unfolding turn_writes
   writes_of_printer r e = lookup-append same_place (after_end s ++ reader_step (after_processor s)) (processor_step s) p
-      ∙ ap (λ o. first_of_two o (lookup (processor_step s) p)) (alone p (after_end s) (reader_step (after_processor s)) (not_by_reader r)
+      ∙ ap (λ o. first_of_two o (lookup (processor_step s) p))
+      (alone p (after_end s) (reader_step (after_processor s)) (not_by_reader r)
       ∙ skipped p (at_end s) (printer_step (after_reader s)) (not_at_end e))
 
   -- its old number
   old_at_end : is_end p ≡ false → lookup (old_values (after_printer s) (clock_step (after_printer s))
       ++ (old_values (after_clock s) (slot_step (after_clock s)) ++ [])) p ≡ None
-  old_at_end h = skipped p (old_values (after_printer s) (clock_step (after_printer s))) (old_values (after_clock s) (slot_step (after_clock s)) ++ [])
-      (old_none (after_printer s) (clock_step (after_printer s)) p (none_of is_end (clock_step (after_printer s)) p (by_clock (after_printer s)) h))
+  old_at_end h = skipped p (old_values (after_printer s) (clock_step (after_printer s)))
+      (old_values (after_clock s) (slot_step (after_clock s)) ++ [])
+      (old_none (after_printer s) (clock_step (after_printer s)) p
+      (none_of is_end (clock_step (after_printer s)) p (by_clock (after_printer s)) h))
       ∙ skipped p (old_values (after_clock s) (slot_step (after_clock s))) []
-      (old_none (after_clock s) (slot_step (after_clock s)) p (none_of is_end (slot_step (after_clock s)) p (by_slot (after_clock s)) h))
+      (old_none (after_clock s) (slot_step (after_clock s)) p
+      (none_of is_end (slot_step (after_clock s)) p (by_slot (after_clock s)) h))
 
   pub old_of_reader : is_processors p ≡ false → is_printers s.setup.printer_channel p ≡ false → is_end p ≡ false →
       lookup (turn_old_values s) p ≡ lookup (old_values (after_processor s) (reader_step (after_processor s))) p
@@ -144,11 +149,13 @@ not_end place.Slot h = sym h
 not_end _ h = cc
 
 own_lookup : (s : Machine) (p : Place) → is_of_processors p ≡ true → lookup (turn_writes s) p ≡ lookup (processor_step s) p
-own_lookup s p own = writes_of_processor s p (not_readers s.setup.reader_channel p own) (not_printers s.setup.printer_channel p own) (not_end p own)
+own_lookup s p own = writes_of_processor s p (not_readers s.setup.reader_channel p own) (not_printers s.setup.printer_channel p own)
+    (not_end p own)
 
 pub turn_decided : (s t : Machine) (p : Place) (origin : Origin) → IsWellFormed s → IsWellFormed t → t.setup ≡ s.setup →
     t.reader.deck ≡ s.reader.deck → AreSame s t (turn_control s) → origin_of (processor_origins s) p ≡ Some origin →
-    is_of_processors p ≡ true → AreReadSame s t origin.reads → (number (turn s) p ≡ result s origin) × (number (turn t) p ≡ result s origin)
+    is_of_processors p ≡ true → AreReadSame s t origin.reads →
+    (number (turn s) p ≡ result s origin) × (number (turn t) p ≡ result s origin)
 turn_decided s t p origin ok ok2 setup deck same found own reads =
     let are = part_decided s t p origin ok ok2 setup deck same found in (
       new_number s p ok ∙ ap (λ o. unwrap_or o (number s p)) (own_lookup s p own ∙ are.written),

@@ -1,5 +1,6 @@
 -- A whole turn, and turns one after another.
-use Rattle.std.proofs.Common.{◌≡◌, ℕ, ◌+◌, ◌≤◌, ◌==◌, true, false, zero, suc, List, [], ◌∷◌, ◌++◌, add-one, ap, append-nil, append_assoc, arith, if◌then◌else◌, length, refl, subst, sym, take, ◌∙◌}
+use Rattle.std.proofs.Common.{◌≡◌, ℕ, ◌+◌, ◌≤◌, ◌==◌, true, false, zero, suc, List, [], ◌∷◌, ◌++◌, add-one, ap, append-nil}
+use Rattle.std.proofs.Common.{append_assoc, arith, if◌then◌else◌, length, refl, subst, sym, take, ◌∙◌}
 use Rattle.std.proofs.lemmas.List.{length-append, length-take-le}
 use Rattle.pp_machine.specs.declared.place.Place.{Place}
 use Rattle.pp_machine.specs.Prelude.{Machine, Writes}
@@ -27,12 +28,14 @@ use Rattle.pp_turn_origins.specs.declared.recording.Made.{Made}
 use Rattle.pp_origins.specs.declared.origin.Operation.TheVariants as by
 
 pub rest_links : (s : Machine) → links_of (rest_origins s)
-    ≡ links_of (reader_origins (after_processor s)) ++ (links_of (printer_origins (after_reader s)) ++ (links_of (clock_origins s) ++ links_of (slot_origins s)))
+    ≡ links_of (reader_origins (after_processor s)) ++
+    (links_of (printer_origins (after_reader s)) ++ (links_of (clock_origins s) ++ links_of (slot_origins s)))
 unfolding rest_origins
 rest_links s =
     links-append (reader_origins (after_processor s)) _ ∙ ap (λ ls. links_of (reader_origins (after_processor s)) ++ ls)
     (links-append (printer_origins (after_reader s)) _ ∙ ap (λ ls. links_of (printer_origins (after_reader s)) ++ ls)
-    (ap (λ n. links_of ((if n == 0o11 then (Clock, from by.After1 (Clock ∷ [])) ∷ [] else []) ++ (slot_origins s ++ []))) (slot_waits s)
+    (ap (λ n. links_of ((if n == 0o11 then (Clock, from by.After1 (Clock ∷ [])) ∷ [] else []) ++ (slot_origins s ++ [])))
+    (slot_waits s)
     ∙ links-append (clock_origins s) (slot_origins s ++ [])))
 
 pub turn_links : (s : Machine) → links_of (turn_origins s) ≡ links_of (processor_origins s) ++ links_of (rest_origins s)
@@ -66,8 +69,8 @@ pub newest_turn : (start : Machine) (standing earlier : List Action) (pairs : Wr
 newest_turn start standing earlier pairs newest same = newest_pairs start standing earlier Turn pairs newest same
 
 -- what was put behind others is counted by how far it reaches
-pub reaches : {X : Type 0} (links front xs : List X) (used end : ℕ) → end ≤ length links → take end links ≡ front ++ xs → length front ≡ used →
-    end ≡ used + length xs
+pub reaches : {X : Type 0} (links front xs : List X) (used end : ℕ) → end ≤ length links → take end links ≡ front ++ xs →
+    length front ≡ used → end ≡ used + length xs
 reaches links front xs used end within is count =
     omega (arith, length-take-le end links within, ap length is, length-append front xs, count)
 
@@ -82,7 +85,8 @@ pub are_put : (s : Machine) (front first second : List Link) (used middle end : 
     take end second ≡ take middle first ++ links_of (rest_origins s) → ArePut s front second used middle end
 are_put s front first second used middle end count within within2 own rest =
     let items = rest ∙ ap (λ ls. ls ++ links_of (rest_origins s)) own
-    ∙ append_assoc front (links_of (processor_origins s)) (links_of (rest_origins s)) ∙ ap (λ ls. front ++ ls) (sym (turn_links s)) in
+    ∙ append_assoc front (links_of (processor_origins s)) (links_of (rest_origins s)) ∙ ap (λ ls. front ++ ls) (sym (turn_links s))
+    in
     record {
       own = reaches first front (links_of (processor_origins s)) used middle within own count;
       all = reaches second front (links_of (turn_origins s)) used end within2 items count;
@@ -90,9 +94,18 @@ are_put s front first second used middle end count within within2 own rest =
     }
 
 -- a turn is as it is told, if each part is
-pub made_same : {processor processor2 address address2 word word2 kind kind2 links links2 own own2 olds olds2 : ℕ} → processor ≡ processor2 →
-    address ≡ address2 → word ≡ word2 → kind ≡ kind2 → links ≡ links2 → own ≡ own2 → olds ≡ olds2 →
-    ◌≡◌ {A = Made} (record { processor = processor; address = address; word = word; kind = kind; links = links; own = own; olds = olds })
+pub made_same : {processor processor2 address address2 word word2 kind kind2 links links2 own own2 olds olds2 : ℕ} →
+    processor ≡ processor2 → address ≡ address2 → word ≡ word2 → kind ≡ kind2 → links ≡ links2 → own ≡ own2 → olds ≡ olds2 →
+    ◌≡◌ {A = Made} (record {
+      processor = processor;
+      address = address;
+      word = word;
+      kind = kind;
+      links = links;
+      own = own;
+      olds =
+          olds;
+    })
     (record { processor = processor2; address = address2; word = word2; kind = kind2; links = links2; own = own2; olds = olds2 })
 made_same h i j k l m n = cc (h, i, j, k, l, m, n)
 
@@ -111,6 +124,7 @@ links_other s Turn is = absurd (cc)
 links_other s action is = refl
 
 -- three lists behind another, one after the other
-pub three_more : {X : Type 0} (front a b c x y z rest : List X) → x ≡ front ++ a → y ≡ x ++ b → z ≡ y ++ c → a ++ (b ++ c) ≡ rest → z ≡ front ++ rest
+pub three_more : {X : Type 0} (front a b c x y z rest : List X) → x ≡ front ++ a → y ≡ x ++ b → z ≡ y ++ c → a ++ (b ++ c) ≡ rest →
+    z ≡ front ++ rest
 three_more front a b c x y z rest h i j k = j ∙ ap (λ ls. ls ++ c) i ∙ ap (λ ls. (ls ++ b) ++ c) h ∙ append_assoc (front ++ a) b c
     ∙ append_assoc front a (b ++ c) ∙ ap (λ ls. front ++ ls) k

@@ -1,8 +1,8 @@
--- The origins of what the parts of a turn after the processor's write: the card reader, the printer, the clock and the slot. Each part
--- reads the machine that the parts before it left.
+-- The origins of what the parts of a turn after the processor's write: the card reader, the printer, the clock and the slot. Each
+-- part reads the machine that the parts before it left.
 use Rattle.std.specs.Prelude.{ℕ, List, [], ◌∷◌, ◌+◌, ◌==◌, ◌&&◌, nat_le, nat_lt, if◌then◌else◌, map}
-use Rattle.pp_machine.specs.{Machine.Machine, Machine.has_function, Machine.is_in_state, ChannelNumbers.state_number, declared.place.Place.Place}
-use Rattle.pp_machine.specs.{Reader.mode_at, Reader.reader_status, ReaderNumbers.reader_mode_number}
+use Rattle.pp_machine.specs.{Machine.Machine, Machine.has_function, Machine.is_in_state, ChannelNumbers.state_number}
+use Rattle.pp_machine.specs.{declared.place.Place.Place, Reader.mode_at, Reader.reader_status, ReaderNumbers.reader_mode_number}
 use Rattle.pp_machine.specs.{Printer.fit, Printer.printer_status, PrinterNumbers.printer_mode_number}
 use Rattle.pp_machine.specs.declared.channel.ChannelState.TheVariants.{Inactive, Empty, Full}
 use Rattle.pp_machine.specs.declared.place.Place.TheVariants.{ChannelMode, ChannelWord, Card, CardColumn, ReaderMode, Clock, Slot}
@@ -72,11 +72,13 @@ printer_origins s =
     let p = s.printer in
     let inactive = set_to (state_number Inactive) in
     if has_function s c 0o0001 then (ChannelMode c, inactive) ∷ (PrinterMode, set_to (printer_mode_number printing.Printing)) ∷ []
-    else (if has_function s c 0o0002 then (ChannelMode c, inactive) ∷ (PrinterMode, set_to (printer_mode_number printing.Status)) ∷ []
+    else (if has_function s c 0o0002 then
+    (ChannelMode c, inactive) ∷ (PrinterMode, set_to (printer_mode_number printing.Status)) ∷ []
     else (if has_function s c 0o0003 && fit p 1 then
     (ChannelMode c, inactive) ∷ (PaperSymbol p.length, set_to 0o100) ∷ (PaperLength, from by.CountUp (PaperLength ∷ []))
     ∷ (PaperColumn, set_to 0) ∷ []
-    else (if is_in_state s c Full && (p.mode == printer_mode_number printing.Printing && fit p 2) then word_origins c p.column p.length
+    else (if is_in_state s c Full && (p.mode == printer_mode_number printing.Printing && fit p 2) then
+    word_origins c p.column p.length
     else (if is_in_state s c Empty && p.mode == printer_mode_number printing.Status then
     (ChannelWord c, set_to (printer_status p)) ∷ (ChannelMode c, set_to (state_number Full))
     ∷ (PrinterMode, set_to (printer_mode_number printing.Sent)) ∷ []

@@ -15,9 +15,11 @@ use Rattle.pp_rig.specs.Turn.{clock_step, processor_step, slot_step}
 use Rattle.pp_turn_origins.specs.Devices.{clock_origins, from, printer_origins, reader_origins, set_to, slot_origins, word_origins}
 use Rattle.pp_turn_origins.specs.Recording.{made_of}
 use Rattle.pp_turn_origins.specs.Turn.{address_of, kind_of, parts_origins, processor_origins, turn_origins, word_of, writes_nothing}
-use Rattle.pp_turn_origins.specs.declared.{devices.Before.Before, reading.NextTurn.NextTurn, recording.Begun.Begun, recording.Made.Made}
+use Rattle.pp_turn_origins.specs.declared.{devices.Before.Before, reading.NextTurn.NextTurn}
+use Rattle.pp_turn_origins.specs.declared.{recording.Begun.Begun, recording.Made.Made}
 
--- The reader on channel c wrote its mode, its column and its card or not; the new mode, and the new number of its channel's register.
+-- The reader on channel c wrote its mode, its column and its card or not; the new mode, and the new number of its channel's
+-- register.
 abbrev pub reader_by : (c : ℕ) (has_mode has_column has_card : Bool) (mode word : ℕ) → Origins
 reader_by c has_mode has_column has_card mode word =
     if has_mode then
@@ -33,8 +35,8 @@ reader_by c has_mode has_column has_card mode word =
     ∷ (CardColumn, from by.CountUp (CardColumn ∷ [])) ∷ []
     else [])
 
--- The printer on channel c wrote its mode and the paper or not; the paper's symbols and the column before; and the new mode, column,
--- and number of its channel's register.
+-- The printer on channel c wrote its mode and the paper or not; the paper's symbols and the column before; and the new mode,
+-- column, and number of its channel's register.
 abbrev pub printer_by : (c : ℕ) (has_mode has_paper : Bool) (at before mode column word : ℕ) → Origins
 printer_by c has_mode has_paper at before mode column word =
     if has_mode then
@@ -61,8 +63,8 @@ abbrev pub is_turn : Action → Bool
 is_turn Turn = true
 is_turn action = false
 
--- What is known of the next turn of a machine: what its record will not tell, and what its processor will do, whose links are behind
--- others.
+-- What is known of the next turn of a machine: what its record will not tell, and what its processor will do, whose links are
+-- behind others.
 pub record IsBegun (s : Machine) (front links : List Link) (begun : Begun) : Type 0 where
   pub formed : IsWellFormed s
   pub slot : begun.before.slot ≡ s.slot

@@ -82,7 +82,8 @@ fn put_row(code: Code, pp: u8, d: u8, places: &mut [u64], used: usize) -> usize
 /// Writes the places that decide in a block transfer.
 fn put_block(code: Code, pp: u8, d: u8, places: &mut [u64], used: usize) -> usize
     requires { used + 2 ≤ length places.old }
-    ensures items { take result places.new ≡ take used places.old ++ map place_number (row_places (block_row (number_of code)) pp d) }
+    ensures items { take result places.new
+        ≡ take used places.old ++ map place_number (row_places (block_row (number_of code)) pp d) }
     ensures at_most { result ≤ used + 2 }
 {
     match code {

@@ -158,7 +158,8 @@ fn half(field: Field, c: u8) -> Read
 fn put_word(t: &PrinterTurn, links: &mut [Link], used: usize) -> usize
     requires small { t.now.symbols < 2 ^ 31 }
     requires room { used + 5 ≤ length links.old }
-    ensures items { take result links.new ≡ take used links.old ++ links_of (word_origins t.now.channel t.now.before t.now.symbols) }
+    ensures items { take result links.new
+        ≡ take used links.old ++ links_of (word_origins t.now.channel t.now.before t.now.symbols) }
     ensures at_most { result ≤ used + 5 }
 {
     let lower = [half(Field::LowerSix, t.channel)];
@@ -310,7 +311,8 @@ pub fn put_rest(
 ) -> usize
     requires small { before.now.symbols ≤ 65536 }
     requires room { used + MOST_REST_LINKS ≤ length links.old }
-    ensures items { (s : Machine) → IsWellFormed s → machine.now ≡ turn s → record_pairs (whole_record unpacked back.now) ≡ turn_old_values s →
+    ensures items { (s : Machine) → IsWellFormed s → machine.now ≡ turn s →
+        record_pairs (whole_record unpacked back.now) ≡ turn_old_values s →
         before.now.slot ≡ s.slot → before.now.symbols ≡ s.printer.length → before.now.column ≡ s.printer.column →
         take result links.new ≡ take used links.old ++ links_of (rest_origins s) }
     ensures at_most { result ≤ used + MOST_REST_LINKS }

@@ -5,7 +5,8 @@ ghost use Rattle.pp_origins.specs.Origin.{Origin, result as number_of, results};
 ghost use Rattle.pp_origins.specs.Step.{AreEnough, AreReadSame, AreSame, origin_of};
 ghost use Rattle.pp_rig.specs.Turn.{clock_step, processor_step, slot_step, turn};
 ghost use Rattle.pp_rig.specs.WellFormed.{IsWellFormed};
-ghost use Rattle.pp_turn_origins.specs.Devices.{clock_origins, printer_control, printer_origins, reader_control, reader_origins, slot_origins};
+ghost use Rattle.pp_turn_origins.specs.Devices.{clock_origins, printer_control, printer_origins};
+ghost use Rattle.pp_turn_origins.specs.Devices.{reader_control, reader_origins, slot_origins};
 ghost use Rattle.pp_turn_origins.specs.Turn.{is_of_processors, processor_origins, turn_control};
 ghost use Rattle.std.specs.Prelude.{◌≡◌, None, Some, true};
 
@@ -40,7 +41,8 @@ pub fn device_reads_are_enough()
     ensures reader { (s t : Machine) (place : Place) (origin : Origin) → t.setup ≡ s.setup → t.reader.deck ≡ s.reader.deck →
         AreSame s t (reader_control s) → origin_of (reader_origins s) place ≡ Some origin → AreEnough reader_step s t place origin }
     ensures printer { (s t : Machine) (place : Place) (origin : Origin) → t.setup ≡ s.setup → t.reader.deck ≡ s.reader.deck →
-        AreSame s t (printer_control s) → origin_of (printer_origins s) place ≡ Some origin → AreEnough printer_step s t place origin }
+        AreSame s t (printer_control s) → origin_of (printer_origins s) place ≡ Some origin → AreEnough printer_step s t place
+        origin }
     ensures reader_others { (s t : Machine) (place : Place) → t.setup ≡ s.setup → t.reader.deck ≡ s.reader.deck →
         AreSame s t (reader_control s) → origin_of (reader_origins s) place ≡ None → lookup (reader_step t) place ≡ None }
     ensures printer_others { (s t : Machine) (place : Place) → t.setup ≡ s.setup → AreSame s t (printer_control s) →

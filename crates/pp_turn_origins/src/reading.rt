@@ -225,14 +225,17 @@ fn put_transfer(machine: &Rig, pp: u8, p: u16, phase: u16, links: &mut [Link], u
     put_block(op.code, &situation, links, used)
 }
 
-/// The next turn: its processor, 0 to 9, the address and the word of its instruction, what it is, and how many links there
-/// are behind those of its processor's step.
+/// The next turn.
 #[derive(Clone, Copy, Drop)]
 pub struct NextTurn {
+    /// The processor, 0 to 9 (decimal).
     pub processor: u8,
+    /// The address of its instruction, 0 to 7777.
     pub address: u16,
+    /// The word of its instruction, 0 to 7777.
     pub word: u16,
     pub kind: TurnKind,
+    /// How many links there are in the slice, with those of its processor's step.
     pub links: usize,
 }
 
@@ -294,8 +297,8 @@ pub fn next_origins(machine: &Rig, links: &mut [Link], used: usize) -> NextTurn
     ensures processor { result.processor ≡ machine.now.slot }
     ensures address { result.address ≡ address_of machine.now }
     ensures word { result.word ≡ word_of machine.now }
-    ensures kind { result.kind ≡ kind_of (writes_nothing (processor_origins machine.now)) (processor machine.now machine.now.slot).phase
-        (word_of machine.now) }
+    ensures kind { result.kind ≡ kind_of (writes_nothing (processor_origins machine.now))
+        (processor machine.now machine.now.slot).phase (word_of machine.now) }
     ensures items { take result.links links.new ≡ take used links.old ++ links_of (processor_origins machine.now) }
     ensures at_most { result.links ≤ used + MOST_LINKS }
 {

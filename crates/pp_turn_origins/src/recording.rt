@@ -31,16 +31,19 @@ pub const MOST_TURN_LINKS: usize = MOST_LINKS + MOST_REST_LINKS;
 #[repr(C)]
 #[derive(Clone, Copy, Default, Drop)]
 pub struct Made {
-    /// The processor, 0 to 9, and the address and the word of its instruction. In a block transfer these are the address
-    /// before the one in cell 0000, and the phase.
+    /// The processor, 0 to 9, or 10 (decimal) if the action is no turn.
     pub processor: u16,
+    /// The address of its instruction, 0 to 7777. In a block transfer it is the one before that in cell 0000.
     pub address: u16,
+    /// The word of its instruction, 0 to 7777. In a block transfer it is the phase.
     pub word: u16,
     /// What the turn is, by its position in `TurnKind`, from 0.
     pub kind: u16,
-    /// How many links it has, how many of them are its processor's, the first ones, and how many places it overwrote.
+    /// How many links it has.
     pub links: u16,
+    /// How many of the links are its processor's, the first ones.
     pub own: u16,
+    /// How many places it overwrote.
     pub olds: u32,
 }
 
@@ -69,8 +72,9 @@ pub fn coming(machine: &Rig, links: &mut [Link]) -> Made
 pub struct Recorded {
     /// How many turns were performed.
     pub turns: usize,
-    /// How many links they have, and how many places they overwrote.
+    /// How many links they have.
     pub links: usize,
+    /// How many places they overwrote.
     pub olds: usize,
     /// Whether the last one changed the number of a watched place.
     pub hit: bool,
@@ -124,9 +128,10 @@ fn put_newest_rest(
     requires small { before.now.symbols ≤ 65536 }
     requires room { used + MOST_REST_LINKS ≤ length links.old }
     ensures at_most { result ≤ used + MOST_REST_LINKS }
-    ensures links { (v : SessionValue Machine Action) (earlier : List Action) → IsAt rules session.now v → v.standing ≡ Turn ∷ earlier →
-        let s = replay rules v.start earlier in IsWellFormed s → before.now.slot ≡ s.slot → before.now.symbols ≡ s.printer.length →
-        before.now.column ≡ s.printer.column → take result links.new ≡ take used links.old ++ links_of (rest_origins s) }
+    ensures links { (v : SessionValue Machine Action) (earlier : List Action) → IsAt rules session.now v →
+        v.standing ≡ Turn ∷ earlier → let s = replay rules v.start earlier in IsWellFormed s → before.now.slot ≡ s.slot →
+        before.now.symbols ≡ s.printer.length → before.now.column ≡ s.printer.column →
+        take result links.new ≡ take used links.old ++ links_of (rest_origins s) }
 {
     let Some(back) = session.newest() else {
         unreachable!()

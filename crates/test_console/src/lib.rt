@@ -1,5 +1,5 @@
-//! Worked examples of bytes, lines, files, options, troubles, sessions, hosts and the program. They are in a crate of their own, because a
-//! crate with tests is proved twice.
+//! Worked examples of bytes, lines, files, options, troubles, sessions, hosts and the program. They are in a crate of their own,
+//! because a crate with tests is proved twice.
 #![tactic(auto)]
 
 #[cfg(test)]

@@ -3,7 +3,8 @@
 import sys
 
 from ..language.assembling import assembled_lines
-from ..language.symbol_options import add_texts, texts_given
+from ..language.given import Given
+from ..language.symbol_options import TEXT_OPTIONS
 from ..shell.command_line import Parser, bytes_of, processor, write_lines
 
 DESCRIPTION = """Assembles a program of a peripheral processor, in COMPASS notation, and writes a line for each word: its address
@@ -21,12 +22,11 @@ def main() -> int:
     group = parser.add_mutually_exclusive_group()
     group.add_argument("--set", metavar="N", type=processor, help="SET lines for processor N, and SET P if END says where it begins")
     parser.add_forms(FORMS, group)
-    add_texts(parser)
-    parser.add_argument("--unit", metavar="NAME", help="the program that an IDENT of the source names; else the first one")
-    parser.add_argument("file", nargs="?", metavar="FILE", help="the source; without it, standard input is the source")
-    asked = parser.parse()
+    asked = parser.parse(TEXT_OPTIONS, [
+        ("--unit", {"metavar": "NAME", "help": "the program that an IDENT of the source names; else the first one"}),
+        ("file", {"nargs": "?", "metavar": "FILE", "help": "the source; without it, standard input is the source"})])
     form = asked.form or ("words" if asked.set is None else "set")
-    made = assembled_lines(bytes_of(asked.file), asked.file, form, asked.set or 0, texts_given(asked), asked.unit)
+    made = assembled_lines(bytes_of(asked.file), asked.file, form, asked.set or 0, Given(asked.text, asked.system), asked.unit)
     if made.complaints:
         print(*made.complaints, sep="\n", file=sys.stderr)
     if made.is_wrong:

@@ -4,7 +4,7 @@ from typing import Callable, Dict, Iterable, List, Optional, Sequence
 
 from ..devices.options import replayed
 from ..language.cells import in_rows, set_lines
-from ..language.symbol_options import add_sources, symbols_of
+from ..language.symbol_options import SOURCE_OPTIONS, symbols_of
 from ..run.forms import COLUMNS_OF_CARD, ROW
 from ..shell.command_line import Failure, arguments, cell, processor, words_after, write_bytes, write_lines
 
@@ -52,7 +52,7 @@ def main() -> int:
                       "--as-panel": "the words of a panel, as the simulator's --panel takes them",
                       "--set": "SET lines for processor N"})
     parser.add_argument("words", nargs="*", metavar="N A B SCRIPT", help="octal; without a script, standard input is it")
-    asked = parser.parse(add_sources)
+    asked = parser.parse(SOURCE_OPTIONS)
     if len(asked.words) < 3:
         raise Failure("give a processor, its first and its last cell, as save 0 100 177")
     (path,) = words_after(asked.words[3:], 1, "give a processor, two cells, one script")

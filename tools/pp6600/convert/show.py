@@ -1,9 +1,9 @@
 """Lines with their answers, as a session is shown."""
 
-from ..language.symbol_options import add_sources, symbols_of
+from ..language.symbol_options import SOURCE_OPTIONS, symbols_of
 from ..run.session import Session
 from ..run.tape import Position
-from ..shell.command_line import add_script, add_turn, arguments, script_lines, simulator
+from ..shell.command_line import SCRIPT_WORD, TURN_OPTION, arguments, script_lines, simulator
 from ..shell.script import performed, show_lines
 
 DESCRIPTION = """Shows each line of a script after '> ', and below it the answer. The exit status is 0 if no line was refused, else
@@ -14,12 +14,13 @@ there, with the last STEP cut short. At a terminal a line that is refused has th
 def main() -> int:
     parser = arguments(DESCRIPTION)
     parser.add_argument("--stop", action="store_true", help="stop at the first line that is refused")
-    asked = parser.parse(add_turn, add_sources, add_script)
+    asked = parser.parse(TURN_OPTION, SOURCE_OPTIONS, SCRIPT_WORD)
     words = simulator(asked)
     lines, status = symbols_of(asked).loading(script_lines(asked.script)), 0
     if asked.turn is not None:
         script = performed(words, lines)
-        lines, status = list(script.tape.lines(Position(0), script.tape.after_turn(asked.turn))), script.refusals.status()
+        tape, status = script.tape, script.refusals.status()
+        lines = list(tape.lines(Position(0), tape.after_turn(asked.turn)))
     run = Session(words)
     status |= show_lines(run, lines, asked.stop)
     return max(run.end(), status)

@@ -8,13 +8,12 @@ from argparse import Namespace
 from typing import Any, Dict, List, Optional, Sequence, Tuple, Type
 
 from .. import devices
-from ..failure import Failure, naming_line
+from ..failure import Failure
 from ..run.attached import Attached
-from ..run.device import Device, DeviceFailure
+from ..run.device import Device
 from ..run.forms import CHANNELS
 from ..run.session import Session
-from ..run.tape import Position
-from ..shell.options import Parser, simulator, up_to
+from ..shell.options import Arguments, simulator, up_to
 from ..shell.script import Refusals, Script, performed
 from ..shell.text_files import bytes_of, lines_of, script_lines
 
@@ -22,10 +21,9 @@ FORM = "NAME[:WORD,..]@CHANNEL"
 NAMES = sorted({module.name for module in pkgutil.iter_modules(devices.__path__)} - {"controller", "converter", "options", "pictures", "tape_file"})
 
 
-def add_devices(parser: Parser) -> None:
-    parser.add_argument("--device", metavar=FORM, action="append", default=[],
-                        help=f"put a device on a channel: {', '.join(NAMES)}, or FILE.py:CLASS; its constructor gets the words; "
-                             "for each one")
+DEVICE_OPTIONS: Arguments = [("--device", {
+    "metavar": FORM, "action": "append", "default": [],
+    "help": f"put a device on a channel: {', '.join(NAMES)}, or FILE.py:CLASS; its constructor gets the words; for each one"})]
 
 
 def devices_of(asked: Namespace) -> List[Device]:
@@ -53,8 +51,8 @@ def replayed(asked: Namespace, symbols: Any, path: Optional[str], turn: Optional
     words = simulator(asked)
     devices = devices_of(asked) if getattr(asked, "device", None) else []
     script = performed(words, symbols.loading(script_lines(path)), devices)
-    tape = script.tape
-    run = Session.of_tape(words, tape if turn is None else tape.part(Position(0), tape.after_turn(turn)))
+    tape = script.tape if turn is None else script.tape.replay(script.tape.after_turn(turn))
+    run = Session.of_tape(words, tape)
     run.device_channels = frozenset(device.channel for device in devices)
     return run, script
 
@@ -62,12 +60,8 @@ def replayed(asked: Namespace, symbols: Any, path: Optional[str], turn: Optional
 def script_with(words: Sequence[str], attached: Sequence[Device], script: bytes) -> Tuple[bytes, Refusals]:
     """Performs a script, given as bytes, with devices. Returns the script for the simulator alone that gives the same session, as bytes
     too, and the lines that were refused."""
-    run, refusals = Attached(words, attached), Refusals()
-    for number, line in enumerate(lines_of(script.decode("latin-1")), 1):
-        with naming_line(number, DeviceFailure):
-            refusals.note(number, line, run.act(line))
-    run.end()
-    return "".join(f"{line}\n" for line in run.sent).encode("latin-1"), refusals
+    done = performed(words, lines_of(script.decode("latin-1")), attached)
+    return "".join(f"{line}\n" for line in done.run.sent).encode("latin-1"), done.refusals
 
 
 def device_of(text: str) -> Device:

@@ -2,7 +2,6 @@
 
 from __future__ import annotations
 
-import bisect
 from array import array
 from typing import List, NamedTuple, Optional, Protocol, Sequence, Tuple
 
@@ -17,9 +16,6 @@ FIRST = {"M": CELLS, "A": A, "P": P, "Q": Q, "PHASE": PHASE, "S": STATES, "H": R
          "CR CARD": CARD, "CR COLUMN": CARD + 1, "CR MODE": CARD + 2,
          "LP SYMBOLS": PAPER_LENGTH, "LP COLUMN": PAPER_COLUMN, "LP MODE": PAPER_COLUMN + 1, "LP": PAPER,
          "SLOT": SLOT, "W": WATCHES, "C": CENTRAL}
-KINDS, FIRSTS = list(FIRST), list(FIRST.values())
-ONE = [kind for kind in KINDS if " " in kind or kind == "SLOT"]  # kinds with one place
-CELLS_OF_PROCESSOR = 0o10000
 # Of a form: the number at a place is inside or outside a range; one of some numbers changes; one of some places is written; a processor is
 # about to perform the instruction at an address; a processor waits; another alternative begins.
 INSIDE, OUTSIDE, CHANGES, WRITES, PERFORMS, WAITS, OR = range(7)
@@ -112,17 +108,3 @@ class Engine(Protocol):
     def forward(self, count: int) -> bool: ...
 
     def close(self) -> None: ...
-
-
-def place_number(kind: str, numbers: Sequence[int]) -> int:
-    """Returns the number of a place in the flat order, by its kind and its numbers."""
-    if kind == "M":
-        return CELLS + CELLS_OF_PROCESSOR * numbers[0] + numbers[1]
-    return FIRST[kind] + sum(numbers)
-
-
-def place_at(number: int) -> Tuple[str, Tuple[int, ...]]:
-    """Returns the kind and the numbers of a place, by its number in the flat order."""
-    kind = KINDS[bisect.bisect_right(FIRSTS, number) - 1]
-    at = number - FIRST[kind]
-    return kind, divmod(at, CELLS_OF_PROCESSOR) if kind == "M" else () if kind in ONE else (at,)

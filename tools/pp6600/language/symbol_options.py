@@ -3,43 +3,28 @@
 from __future__ import annotations
 
 from argparse import Namespace
-from typing import Iterable, Sequence
+from typing import Any, Iterable, Mapping, Sequence
 
 from ..failure import Failure
 from ..run.names import AllSymbols
-from ..shell.options import Parser, processor
+from ..shell.options import Arguments, processor
 from .given import Given
 
 
-def add_files(parser: Parser, option: str, text: str) -> None:
-    parser.add_argument(option, nargs=2, metavar=("N", "FILE"), action="append", default=[], help=text)
-
-
-def add_texts(parser: Parser) -> None:
-    parser.add_argument("--text", metavar="DIR", help="the folder of common decks, which XTEXT reads: a file for each")
-    parser.add_argument("--system", metavar="FILE", action="append", default=[],
-                        help="a system text, whose names, macros and micros a source has; for each one")
-
-
-def texts_given(asked: Namespace) -> Given:
-    """Returns where a command line says that the texts of sources are."""
-    return Given(asked.text, asked.system)
-
-
-def add_sources(parser: Parser) -> None:
-    add_texts(parser)
-    add_files(parser, "--source", "assemble FILE, or read a printed listing, and load it into processor N before the script; "
-              "show its lines and names; for each one")
-
-
-def add_symbols(parser: Parser) -> None:
-    add_files(parser, "--symbols", "show addresses of processor N by the labels of a listing, or of lines NAME ADDRESS; for each one")
-    add_sources(parser)
+FILES: Mapping[str, Any] = {"nargs": 2, "metavar": ("N", "FILE"), "action": "append", "default": []}
+TEXT_OPTIONS: Arguments = [("--text", {"metavar": "DIR", "help": "the folder of common decks, which XTEXT reads: a file for each"}),
+                           ("--system", {"metavar": "FILE", "action": "append", "default": [],
+                                         "help": "a system text, whose names, macros and micros a source has; for each one"})]
+SOURCE_OPTIONS: Arguments = [*TEXT_OPTIONS, ("--source", {
+    **FILES, "help": "assemble FILE, or read a printed listing, and load it into processor N before the script; show its lines and names; "
+                     "for each one"})]
+SYMBOL_OPTIONS: Arguments = [("--symbols", {
+    **FILES, "help": "show addresses of processor N by the labels of a listing, or of lines NAME ADDRESS; for each one"}), *SOURCE_OPTIONS]
 
 
 def symbols_of(asked: Namespace) -> AllSymbols:
     """Returns the symbols and the sources that a command line names."""
-    return symbols_from(getattr(asked, "symbols", ()), asked.source, texts_given(asked))
+    return symbols_from(getattr(asked, "symbols", ()), asked.source, Given(asked.text, asked.system))
 
 
 def symbols_from(listings: Iterable[Sequence[str]], sources: Iterable[Sequence[str]], given: Given = Given()) -> AllSymbols:

@@ -2,10 +2,11 @@
 
 from __future__ import annotations
 
+import bisect
 import re
 from typing import Dict, Iterable, List, NamedTuple, Optional, Sequence, Tuple
 
-from ..engine.interface import place_at, place_number
+from ..engine.interface import FIRST
 from ..failure import Failure
 
 PROCESSORS = 10
@@ -54,6 +55,8 @@ UNWATCHED = {
     "LP SYMBOLS": Kind((), (), 6), "LP COLUMN": Kind((), (), 3), "LP MODE": Kind((), (), 1),
 }
 ALL_KINDS = {**KINDS, **UNWATCHED}
+IN_ORDER, FIRSTS = list(FIRST), list(FIRST.values())
+ONE = [kind for kind in FIRST if " " in kind or kind == "SLOT"]  # kinds with one place
 
 
 class Place(NamedTuple):
@@ -84,12 +87,14 @@ class Place(NamedTuple):
     @classmethod
     def at(cls, number: int) -> Place:
         """Returns the place with a number in the flat order of the engines."""
-        return cls(*place_at(number))
+        kind = IN_ORDER[bisect.bisect_right(FIRSTS, number) - 1]
+        at = number - FIRST[kind]
+        return cls(kind, divmod(at, CELLS) if kind == "M" else () if kind in ONE else (at,))
 
     @property
     def number(self) -> int:
         """Its number in the flat order of the engines."""
-        return place_number(*self)
+        return FIRST[self.kind] + (CELLS * self.numbers[0] + self.numbers[1] if self.kind == "M" else sum(self.numbers))
 
     @property
     def text(self) -> str:

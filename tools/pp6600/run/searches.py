@@ -140,7 +140,7 @@ def turn_of_next_line(session: Any, number: int, source: Any, count: int, progre
     """Returns after how many turns a processor begins the line that comes so many lines later, by a turn that was made or a new one."""
     with closing(going_on(session)) as run:
         begins = LineFinder(number, source)
-        here = session.history.in_effect().without_watches().end
+        here = session.history.in_effect().replay().end
         run.goto(here)
         begins.see(run)
         found = next(itertools.islice(Search(run, [begins], (), progress).onward(begins, here), count - 1, None), None)

@@ -42,7 +42,8 @@ class Session(Console):
     def __init__(self, words: Sequence[str] = (), tape: Optional[Tape] = None, is_search: bool = False) -> None:
         """It begins at the beginning of the tape. A search counts the watches of the tape, and performs none."""
         super().__init__(words)
-        self.history, self.is_search = History(room_of(self.words), tape), is_search
+        self.tape, self.is_search = tape or Tape(), is_search
+        self.history = History(room_of(self.words), self.tape)
         self.counts = UnitCounts(self.history)
         self.watched: List[str] = []  # places, beside those of the tape
         self.written: List[str] = []  # what the engine was sent since it began
@@ -51,11 +52,7 @@ class Session(Console):
     @classmethod
     def of_tape(cls, words: Sequence[str], tape: Tape) -> Session:
         """Returns a session that performs the actions of a tape anew. The watches are left out."""
-        return cls(without_history(words), tape.without_watches(), True)
-
-    @property
-    def tape(self) -> Tape:
-        return self.history.tape
+        return cls(without_history(words), tape.replay(), True)
 
     @property
     def position(self) -> Position:

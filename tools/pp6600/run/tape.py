@@ -29,7 +29,8 @@ STEP = "STEP"
 NOTE_OF_DEVICE = re.compile(r"\* DEVICE (\S+)((?: [A-Z]+(?: [0-7]+)?)*)\r?")  # the line after it is a reply of this device, with a remark
 REJECT = "REJECT"  # the remark of a device that takes no such code
 REPLY = "SET H "
-WATCH_WORDS = ("WATCH", "UNWATCH")
+WATCH = re.compile(r"[ \t]*(?:UN)?WATCH\b", re.I)
+DEAD_START = re.compile(r"[ \t]*DEADSTART\b", re.I)
 
 
 def room_of(words: Sequence[str]) -> int:
@@ -97,25 +98,15 @@ class Action(NamedTuple):
     times: int = 1
 
     @property
-    def word(self) -> str:
-        """The first word of its line."""
-        return self.line.upper().split()[0]
-
-    @property
     def turns(self) -> int:
         return self.times if self.line == STEP else 0
 
     @property
     def is_watch(self) -> bool:
-        return self.word in WATCH_WORDS
+        return WATCH.match(self.line) is not None
 
 
 turns_of = functools.lru_cache(maxsize=4096)(functools.partial(Action, STEP))
-
-
-def sums() -> Any:
-    """Returns the beginning of a list of sums, which has no object for each of them."""
-    return array("q", [0])
 
 
 def interleaved(first: int, step: int, count: int, more: int = 0) -> Any:
@@ -130,9 +121,10 @@ class Tape:
 
     def __init__(self, actions: Iterable[Action] = ()) -> None:
         self.runs: List[Action] = []
-        self.starts: MutableSequence[Position] = sums()  # of each run of actions, and of the end; and the turns and units before them
-        self.turns_before: MutableSequence[int] = sums()
-        self.units_before: MutableSequence[int] = sums()
+        sums: Any = array("q", [0])  # which has no object for each
+        self.starts: MutableSequence[Position] = sums[:]  # of each run of actions, and of the end; and the turns and units before them
+        self.turns_before: MutableSequence[int] = sums[:]
+        self.units_before: MutableSequence[int] = sums[:]
         self.dead_starts: List[Position] = []  # the positions after them
         self.watches = 0  # how many of them are WATCH or UNWATCH
         self.seen: Dict[Any, List[Tuple[Position, Any]]] = {}  # what has been found out, each at some positions in their order
@@ -147,9 +139,9 @@ class Tape:
         if is_turn and self.runs and self.runs[-1].line == STEP:
             times += self._pop().times
         self._add(Action(line, times), times * is_turn, times * (not is_reply))
-        word = "" if is_turn or is_reply else self.runs[-1].word
-        self.watches += word in WATCH_WORDS
-        self.dead_starts += [self.end] * (word == "DEADSTART")
+        if not (is_turn or is_reply):
+            self.watches += WATCH.match(line) is not None
+            self.dead_starts += [self.end] * (DEAD_START.match(line) is not None)
 
     def append_replies(self, turns: Sequence[int], replies: Sequence[Action]) -> None:
         """Adds replies, and the turns before each of them: it comes after so many in all. A range of them is added at once."""
@@ -294,13 +286,9 @@ class Tape:
             elif begin == self.starts[run]:
                 yield end, action.line
 
-    def part(self, first: Position, last: Position) -> Tape:
-        """Returns a tape of the actions from a position to a later one."""
-        return Tape(self.actions(first, last))
-
-    def without_watches(self) -> Tape:
-        """Returns the tape of a replay, which stops nowhere."""
-        return Tape(action for action in self.runs if not action.is_watch)
+    def replay(self, last: Optional[Position] = None) -> Tape:
+        """Returns the tape of a replay up to a position, or to the end: it stops nowhere, so it watches nothing."""
+        return Tape(action for action in self.actions(Position(0), last) if not action.is_watch)
 
 
 def lines_of(action: Action) -> Iterator[str]:
@@ -339,7 +327,7 @@ class History:
 
     def in_effect(self) -> Tape:
         """Returns the actions that were not taken back, or were performed again."""
-        return self.tape.part(Position(0), self.position)
+        return Tape(self.tape.actions(Position(0), self.position))
 
     # ---- what the simulator did
 

@@ -5,9 +5,8 @@ from __future__ import annotations
 from typing import List, NamedTuple, Optional, Sequence, Tuple
 
 from ..engine import origins as of
-from ..engine.interface import CELLS_OF_PROCESSOR
 from ..engine.origins import Origin, Origins
-from .forms import Place
+from .forms import CELLS, Place
 from .session import Session
 from .turn import A_IS_AN_ADDRESS, BLOCKS_OF_CENTRAL, CONDITIONAL_JUMPS, INDEXED, INDIRECT, RELATIVE_JUMPS, TWO_WORDS, Processor
 
@@ -112,6 +111,6 @@ def goes_on(turn: Origins, origin: Origin, p: int) -> bool:
         return False
     code, d = divmod(turn.word, 0o100)
     if turn.kind != of.IN_BLOCK and code in CONDITIONAL_JUMPS:
-        following = (turn.address + 1 + (code in TWO_WORDS)) % CELLS_OF_PROCESSOR
+        following = (turn.address + 1 + (code in TWO_WORDS)) % CELLS
         return p == following or code in RELATIVE_JUMPS and d in (0o00, 0o77)
     return origin.operation in ADVANCES and origin.reads[0].place == origin.place

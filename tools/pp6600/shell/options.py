@@ -1,16 +1,20 @@
 """The words that a tool is given: the simulator's options, octal numbers and places."""
 
 import argparse
+import itertools
 import re
 import sys
 from functools import partial
-from typing import Any, Callable, List, Mapping, NamedTuple, NoReturn, Optional, Sequence
+from typing import Any, List, Mapping, NamedTuple, NoReturn, Optional, Sequence, Tuple
 
 from ..engine.choice import version
 from ..engine.choose import default_engine
 from ..failure import Failure
 from ..run.forms import CELLS, CLOCK, PROCESSORS
 from .ending import write
+
+
+Arguments = Sequence[Tuple[str, Mapping[str, Any]]]  # of each its name, and what argparse is told of it
 
 
 class Option(NamedTuple):
@@ -77,15 +81,15 @@ class Parser(argparse.ArgumentParser):
     def _print_message(self, message: str, file: Any = None) -> None:  # argparse takes no notice of an output that is full
         write(message.rstrip("\n"))
 
-    def parse(self, *adds: Callable[["Parser"], None]) -> argparse.Namespace:
-        """Returns what is asked by the words of the command line. The functions add more options first."""
-        for add in adds:
-            add(self)
+    def parse(self, *tables: Arguments) -> argparse.Namespace:
+        """Returns what is asked by the words of the command line. The arguments of tables are added first."""
+        for name, form in itertools.chain(*tables):
+            self.add_argument(name, **form)
         words = sys.argv[1:]
-        if "--" in words:
-            at = words.index("--")
-            words = words[:at] + [PLAIN + word if word.startswith("-") else word for word in words[at + 1:]]
-        asked = self.parse_intermixed_args(words)
+        if "--" not in words:
+            return self.parse_intermixed_args(words)
+        at = words.index("--")
+        asked = self.parse_intermixed_args(words[:at] + [PLAIN + word if word.startswith("-") else word for word in words[at + 1:]])
         for name, value in vars(asked).items():
             setattr(asked, name, unmarked(value))
         return asked
@@ -125,8 +129,8 @@ def count(text: str) -> int:
     return number
 
 
-def add_turn(parser: Parser) -> None:
-    parser.add_argument("--turn", metavar="N", type=octal, help="as it is after turn N, octal, with the settings before the next one")
+TURN_OPTION: Arguments = [("--turn", {"metavar": "N", "type": octal, "help": "as it is after turn N, octal, with the settings before the next one"})]
+SCRIPT_WORD: Arguments = [("script", {"nargs": "?", "metavar": "SCRIPT", "help": "without it, standard input is the script"})]
 
 
 def words_after(words: List[str], most: int, what: str) -> List[Any]:
@@ -155,7 +159,3 @@ def arguments(description: str, usage: Optional[str] = None) -> Parser:
     for name, option in OPTIONS.items():
         parser.add_argument(f"--{name}", metavar=option.metavar, help=option.help)
     return parser
-
-
-def add_script(parser: Parser) -> None:
-    parser.add_argument("script", nargs="?", metavar="SCRIPT", help="without it, standard input is the script")

@@ -2,21 +2,20 @@
 
 import re
 import sys
-from typing import Callable, Iterable, List, Optional, Sequence, Tuple
+from typing import Iterable, List, NamedTuple, Optional, Sequence
 
 from ..failure import naming_line
-from ..run.console import COUNTED, LONGEST_LINE, Console
+from ..run.console import COUNTED, LONGEST_LINE
 from ..run.device import Device, DeviceFailure
 from ..run.forms import MOST_TURNS, is_refusal
 from ..run.reasons import reason
 from ..run.session import Session
-from ..run.tape import History, Tape, counted, room_of
+from ..run.tape import Tape, counted
 from .ending import complain, flush, shown_text, write
 from .text_files import shown
 
 MOST_SHOWN = 60  # characters of a line that was refused
 BY_TURNS = re.compile(r"[ \t]*(?:BACK|FORWARD|WATCH)", re.I)  # lines after which it counts what turns did
-Took = Callable[[str, List[str], Optional[Tuple[int, int]]], object]
 
 
 class Refusals:
@@ -73,26 +72,19 @@ def show_lines(run: Session, lines: Iterable[str], stop: bool = False) -> int:
     return refusals.status()
 
 
-class Script:
-    """A script, performed line by line: what is in effect at its end, and which lines were refused."""
+class Script(NamedTuple):
+    """A script that was performed: its session, which has ended, and the lines that were refused."""
 
-    def __init__(self, console: Console, lines: Iterable[str], took: Took = lambda line, answer, turns: None) -> None:
-        """The function `took` is called with each line and its answer, and how many turns are in effect before and after it; these are
-        None if it did nothing."""
-        self.history, self.refusals = History(room_of(console.words)), Refusals()
-        for (number, line), answer in zip(counted(lines), console.ask_each(lines)):
-            before = self.history.turns
-            did_something = self.history.take(line, answer)
-            took(line, answer, (before, self.history.turns) if did_something else None)
-            self.refusals.note(number, line, answer)
+    run: Session
+    refusals: Refusals
 
     @property
     def tape(self) -> Tape:
-        """The actions in effect: neither refused nor taken back. Watches are left out."""
-        return self.history.in_effect().without_watches()
+        """The actions in effect at its end: neither refused nor taken back. Watches are left out."""
+        return self.run.tape.replay(self.run.position)
 
 
-class WithoutTurns(Console):
+class WithoutTurns(Session):
     """A simulator that makes no turns: for a script of which nothing counts but which lines are refused and what is in effect at its end."""
 
     def ask(self, line: str) -> List[str]:
@@ -100,26 +92,16 @@ class WithoutTurns(Console):
         return [f"TURNS {asked[2] or '1'}"] if asked and int(asked[2] or "1", 8) <= MOST_TURNS else super().ask(line)
 
 
-class ScriptWithDevices(Script):
-    """The same with devices of one's own: what is in effect has their replies."""
-
-    def __init__(self, words: Sequence[str], lines: Iterable[str], devices: Sequence[Device]) -> None:
-        from ..run.attached import Attached  # few sessions have devices
-        self.refusals = Refusals()
-        run = Attached(words, devices)
-        for number, line in counted(lines):
-            with naming_line(number, DeviceFailure):
-                self.refusals.note(number, line, run.act(line))
-        self.history = run.history
-        run.end()
-
-
-def performed(words: Sequence[str], lines: Iterable[str], devices: Sequence[Device] = ()) -> Script:
-    """Performs a script in a simulator of its own, with devices if there are any."""
+def performed(words: Sequence[str], lines: Sequence[str], devices: Sequence[Device] = ()) -> Script:
+    """Performs a script in a simulator of its own, with devices if there are any: then what is in effect has their replies."""
     if devices:
-        return ScriptWithDevices(words, lines, devices)
-    lines = list(lines)
-    console = (Console if any(map(BY_TURNS.match, lines)) else WithoutTurns)(words)
-    script = Script(console, lines)
-    console.end()
+        from ..run.attached import Attached  # few sessions have devices
+        run: Session = Attached(words, devices)
+    else:
+        run = (Session if any(map(BY_TURNS.match, lines)) else WithoutTurns)(words)
+    script = Script(run, Refusals())
+    for number, line in counted(lines):
+        with naming_line(number, DeviceFailure):
+            script.refusals.note(number, line, run.act(line))
+    run.end()
     return script

@@ -269,8 +269,8 @@ fn performs_single_commands(rt: HostRuntime) -> Result<(), Fail> {
     Ok(())
 }
 
-/// Lines, how many calls of a sink of 4096 bytes write their answers, and how many bytes these have. The second dump is longer than a
-/// piece: the second call takes 7 bytes, and the third fails.
+/// Lines, how many calls of a sink of 4096 bytes write their answers, and how many bytes these have. The second dump is longer than
+/// a piece: the second call takes 7 bytes, and the third fails.
 const WRITES: [(&[u8], u64, usize); 4] = [
     (b"DUMP M 0 0 777\n", 1, 2880),
     (b"DUMP C 0 215\n", 3, 4118),

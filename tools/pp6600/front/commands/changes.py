@@ -4,10 +4,10 @@ from collections import ChainMap
 from itertools import takewhile
 from typing import Any, Dict, Iterator, List, Mapping, Tuple
 
-from ...devices.options import add_devices, replayed
+from ...devices.options import DEVICE_OPTIONS, replayed
 from ...engine.interface import PAPER, PAPER_LENGTH
 from ...language.display_code import SYMBOLS
-from ...language.symbol_options import add_symbols, symbols_of
+from ...language.symbol_options import SYMBOL_OPTIONS, symbols_of
 from ...run.conditions import changes, column_of, first_place
 from ...run.forms import Place
 from ...run.names import AllSymbols
@@ -15,7 +15,7 @@ from ...run.recording import Numbers, next_turn
 from ...run.search import Search, TurnFinder
 from ...run.session import Session
 from ...run.state import differences
-from ...run.tape import STEP, WATCH_WORDS, Position, SourceLine
+from ...run.tape import STEP, Position, SourceLine
 from ...run.turn import places_of_setting
 from ...shell.command_line import arguments, count, words_after, write_lines
 
@@ -33,7 +33,7 @@ it shows the state and the register in one; of the paper the number of symbols a
 def place_changes(run: Session, place: Place, symbols: Any = AllSymbols()) -> Iterator[str]:
     """Yields the line of each change of a place."""
     column = column_of(place)
-    for word in WATCH_WORDS:
+    for word in ("WATCH", "UNWATCH"):
         run.demand(f"{word} {place.short}")  # which is refused if the machine has no such place
     finder = TurnFinder([[form] for form in changes(column).forms])
     search = Search(run, [finder], [column])
@@ -47,7 +47,7 @@ def place_changes(run: Session, place: Place, symbols: Any = AllSymbols()) -> It
             run.goto(end)
             (_, now), = column.shown(run)
             if was.split()[-1] != now.split()[-1]:
-                yield f"TURN {run.turn:o} {action.word} WAS {was} NOW {now}{source_of(action.line, place)}"
+                yield f"TURN {run.turn:o} {action.line.upper().split()[0]} WAS {was} NOW {now}{source_of(action.line, place)}"
     run.close()
 
 
@@ -101,7 +101,7 @@ def main() -> int:
     parser = arguments(DESCRIPTION, "[OPTION ..] (PLACE | --turns COUNT) [SCRIPT]")
     parser.add_argument("--turns", metavar="COUNT", type=count, help="show what each of the last turns changed, octal")
     parser.add_argument("words", nargs="*", metavar="PLACE [SCRIPT]", help="without a script, standard input is it")
-    asked = parser.parse(add_symbols, add_devices)
+    asked = parser.parse(SYMBOL_OPTIONS, DEVICE_OPTIONS)
     symbols = symbols_of(asked)
     place, rest = (None, asked.words) if asked.turns else first_place(asked.words, symbols)
     (path,) = words_after(rest, 1, "give --turns, one script" if asked.turns else "give one place, one script")

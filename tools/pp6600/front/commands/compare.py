@@ -4,7 +4,8 @@ from argparse import Namespace
 from typing import Any, Iterator, List, Optional, Sequence, Set, Tuple, Union
 
 from ...engine.interface import P
-from ...language.symbol_options import add_files, add_symbols, symbols_from, symbols_of, texts_given
+from ...language.given import Given
+from ...language.symbol_options import FILES, SYMBOL_OPTIONS, symbols_from, symbols_of
 from ...language.versions import Versions, address_name
 from ...run.forms import PROCESSORS
 from ...run.names import AllSymbols
@@ -152,7 +153,7 @@ def other_symbols(asked: Namespace) -> AllSymbols:
     """Returns the symbols and sources of the second run: its own, and for the other processors those of the first one."""
     own = of_its_own(asked)
     listings, sources = ([one for one in pairs if processor(one[0]) not in own] for pairs in (asked.symbols, asked.source))
-    return symbols_from([*listings, *asked.other_symbols], [*sources, *asked.other_source], texts_given(asked))
+    return symbols_from([*listings, *asked.other_symbols], [*sources, *asked.other_source], Given(asked.text, asked.system))
 
 
 def main() -> int:
@@ -161,12 +162,11 @@ def main() -> int:
     parser.add_argument("--other-panel", metavar="F", help="the panel of the second run")
     parser.add_argument("--path", action="store_true",
                         help="compare the way of each processor from address to address alone, by labels where there are some")
-    add_symbols(parser)
-    add_files(parser, "--other-symbols", "the labels of the second run, if it has others")
-    add_files(parser, "--other-source", "the source of the second run, if it has another")
-    parser.add_argument("scripts", nargs="*", metavar="SCRIPT",
-                        help="with another deck or panel one script is enough, and without it standard input is the script")
-    asked = parser.parse()
+    asked = parser.parse(SYMBOL_OPTIONS, [
+        ("--other-symbols", {**FILES, "help": "the labels of the second run, if it has others"}),
+        ("--other-source", {**FILES, "help": "the source of the second run, if it has another"}),
+        ("scripts", {"nargs": "*", "metavar": "SCRIPT",
+                     "help": "with another deck or panel one script is enough, and without it standard input is the script"})])
     has_other = asked.other_deck is not None or asked.other_panel is not None or bool(asked.other_source)
     words_after(asked.scripts, 2, "give two scripts")
     if len(asked.scripts) < 2 and not has_other:

@@ -4,9 +4,9 @@ import sys
 import time
 from typing import Any, List, Optional, Sequence, Tuple
 
-from ...devices.options import add_devices, devices_of
+from ...devices.options import DEVICE_OPTIONS, devices_of
 from ...language.origin_text import MOST_STEPS, origin_rows
-from ...language.symbol_options import add_symbols, symbols_of
+from ...language.symbol_options import SYMBOL_OPTIONS, symbols_of
 from ...run.conditions import first_place
 from ...run.forms import Place
 from ...run.names import AllSymbols
@@ -74,7 +74,7 @@ def main() -> int:
     parser.add_argument("--addresses", action="store_true", help="follow also the cells and registers that addresses came from")
     parser.add_argument("--why", action="store_true", help="say also what decided: A, a count, or the state of a channel")
     parser.add_argument("words", nargs="*", metavar="PLACE [SCRIPT]", help="without a script, standard input is it")
-    asked = parser.parse(add_symbols, add_devices)
+    asked = parser.parse(SYMBOL_OPTIONS, DEVICE_OPTIONS)
     words, symbols = simulator(asked), symbols_of(asked)
     place, rest = place_of(asked.words, symbols)
     (script,) = words_after(rest, 1, "give one place, one script")

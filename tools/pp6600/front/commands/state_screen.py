@@ -3,15 +3,15 @@
 from argparse import Namespace
 from typing import Any, List, Sequence, Tuple
 
-from ...devices.options import add_devices, devices_of, timeline
+from ...devices.options import DEVICE_OPTIONS, devices_of, timeline
 from ...language.calls import calls, sentence
-from ...language.symbol_options import add_symbols, symbols_of
+from ...language.symbol_options import SYMBOL_OPTIONS, symbols_of
 from ...run.console import Console
 from ...run.forms import PROCESSORS
 from ...run.session import Session
 from ...run.tape import counted
 from ...run.turn import states_of
-from ...shell.command_line import add_script, add_turn, arguments, script_lines, simulator, write_lines
+from ...shell.command_line import SCRIPT_WORD, TURN_OPTION, arguments, script_lines, simulator, write_lines
 from ...shell.script import Refusals
 
 DESCRIPTION = """Shows the machine at the end of a script, or after a turn, on one screen: the ten processors with the two words
@@ -78,7 +78,7 @@ def performed(asked: Namespace, symbols: Any) -> Tuple[Session, Refusals]:
 
 
 def main() -> int:
-    asked = arguments(DESCRIPTION).parse(add_turn, add_symbols, add_devices, add_script)
+    asked = arguments(DESCRIPTION).parse(TURN_OPTION, SYMBOL_OPTIONS, DEVICE_OPTIONS, SCRIPT_WORD)
     symbols = symbols_of(asked)
     run, refusals = performed(asked, symbols)
     write_lines(screen(run, symbols))

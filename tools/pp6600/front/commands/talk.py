@@ -2,8 +2,8 @@
 
 from typing import Any, Optional, Tuple
 
-from ...devices.options import add_devices, devices_of, timeline
-from ...language.symbol_options import add_sources, symbols_of
+from ...devices.options import DEVICE_OPTIONS, devices_of, timeline
+from ...language.symbol_options import SOURCE_OPTIONS, symbols_of
 from ...run.session import Session
 from ...shell.command_line import Failure, arguments, script_lines, simulator, words_after
 from ...shell.keyboard import converse, edit_lines
@@ -51,7 +51,7 @@ def main() -> int:
     parser = arguments(DESCRIPTION, "[OPTION ..] [SCRIPT]")
     parser.add_argument("--save", metavar="FILE", help="write the session into a new file, as a script")
     parser.add_argument("script", metavar="SCRIPT", nargs="*", help="without it, only what is typed")
-    asked = parser.parse(add_sources, add_devices)
+    asked = parser.parse(SOURCE_OPTIONS, DEVICE_OPTIONS)
     (script,) = words_after(asked.script, 1, "give one script")
     edit_lines()
     lines = symbols_of(asked).loading([] if script is None else script_lines(script))

@@ -7,10 +7,10 @@ from bisect import bisect_right
 from itertools import accumulate, takewhile
 from typing import Any, Iterable, Iterator, List, Optional, Set, Tuple
 
-from ...devices.options import add_devices, replayed
+from ...devices.options import DEVICE_OPTIONS, replayed
 from ...engine import interface as flat
 from ...engine.interface import INSIDE, Form
-from ...language.symbol_options import add_symbols, symbols_of
+from ...language.symbol_options import SYMBOL_OPTIONS, symbols_of
 from ...run.conditions import is_written
 from ...run.forms import CELLS, CLOCK, PROCESSORS
 from ...run.names import AllSymbols
@@ -18,7 +18,7 @@ from ...run.search import TurnFinder, around, ranges_of, spans
 from ...run.session import Session
 from ...run.tape import REJECT, STEP, Position, ReplyLine, Tape
 from ...run.turn import BLOCK_GOES_ON, CHANNEL_CODES, CHANNEL_JUMPS, Processor, places_of_setting
-from ...shell.command_line import add_script, arguments, channel, count, processor, write_lines
+from ...shell.command_line import SCRIPT_WORD, arguments, channel, count, processor, write_lines
 
 DESCRIPTION = """Shows each turn of a script, as the processor stood before it: the turn, counted in octal from 1, the
 processor, P, the one or two words of the instruction, its name, A, Q and the phase; and WAITS if the turn was a wait.
@@ -196,7 +196,7 @@ def main() -> int:
     parser.add_argument("--last", metavar="COUNT", type=count, help="the last of these turns alone, octal")
     parser.add_argument("--from", metavar="N", type=count, dest="first", default=1, help="the turns from N on, octal")
     parser.add_argument("--to", metavar="N", type=count, dest="to", help="the turns up to N, octal")
-    asked = parser.parse(add_symbols, add_devices, add_script)
+    asked = parser.parse(SYMBOL_OPTIONS, DEVICE_OPTIONS, SCRIPT_WORD)
     symbols = symbols_of(asked)
     run, script = replayed(asked, symbols, asked.script)
     last = run.tape.turns if asked.to is None else min(asked.to, run.tape.turns)

@@ -4,8 +4,8 @@ from argparse import Namespace
 from itertools import islice
 from typing import Any, Iterable, List, Optional, Tuple
 
-from ...devices.options import add_devices, replayed
-from ...language.symbol_options import add_symbols, symbols_of
+from ...devices.options import DEVICE_OPTIONS, replayed
+from ...language.symbol_options import SYMBOL_OPTIONS, symbols_of
 from ...run.conditions import Condition, first_of
 from ...run.names import AllSymbols
 from ...run.search import FoundTurn
@@ -51,7 +51,7 @@ def main() -> int:
     much.add_argument("--all", action="store_true", help="show each turn that is found, not one alone")
     much.add_argument("--count", metavar="K", type=count, help="show at most K turns, octal")
     parser.add_argument("words", nargs="*", metavar="CONDITION [SCRIPT]", help="without a script, standard input is it")
-    asked = parser.parse(add_symbols, add_devices)
+    asked = parser.parse(SYMBOL_OPTIONS, DEVICE_OPTIONS)
     symbols = symbols_of(asked)
     condition, path = condition_and_script(asked.words, symbols)
     run, script = replayed(asked, symbols, path)
@@ -59,7 +59,7 @@ def main() -> int:
     for found in turns_found(asked, condition, run):
         write(found.text(symbols), at_once=not asked.all)
         is_found = True
-    run.close()
+    run.end()
     if not is_found:
         write("NONE")
     return script.refusals.status() or int(not is_found)

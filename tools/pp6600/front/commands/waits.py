@@ -4,11 +4,11 @@ import sys
 from contextlib import closing
 from typing import Any, Iterator, List, NamedTuple, Optional, Sequence, Set, Tuple
 
-from ...devices.options import add_devices, replayed
+from ...devices.options import DEVICE_OPTIONS, replayed
 from ...engine import interface as flat
 from ...engine.choose import is_proved
 from ...engine.interface import CHANGES, Form
-from ...language.symbol_options import add_symbols, symbols_of
+from ...language.symbol_options import SYMBOL_OPTIONS, symbols_of
 from ...run.conditions import Column, Condition, changes
 from ...run.forms import CELLS, CLOCK, MOST_TURNS, MOST_WATCHES, PROCESSORS, REGISTERS, Place
 from ...run.names import AllSymbols
@@ -19,7 +19,7 @@ from ...run.state import State, central_of, state_of
 from ...run.tape import STEP, Position, Tape
 from ...run.turn import JUMPS_IN, Processor, places_of_setting
 from ...run.written import made_turn
-from ...shell.command_line import add_script, add_turn, arguments, write_lines
+from ...shell.command_line import SCRIPT_WORD, TURN_OPTION, arguments, write_lines
 
 DESCRIPTION = """Shows each processor that waits at the end of a script: the address of its instruction and its name, P,
 the channel that it waits for with its state and register, and the turn since which it waits, counted in octal from 1.
@@ -181,7 +181,7 @@ def waits(run: Session, symbols: Any = AllSymbols()) -> Iterator[str]:
 
 
 def main() -> int:
-    asked = arguments(DESCRIPTION).parse(add_turn, add_symbols, add_devices, add_script)
+    asked = arguments(DESCRIPTION).parse(TURN_OPTION, SYMBOL_OPTIONS, DEVICE_OPTIONS, SCRIPT_WORD)
     symbols = symbols_of(asked)
     run, script = replayed(asked, symbols, asked.script, asked.turn)
     if not is_proved(run.engine) and sys.stderr and sys.stderr.isatty():

@@ -1,10 +1,10 @@
 """The tool that makes a film: a run as one web page, from which one goes on."""
 
-from ...devices.options import add_devices, devices_of, script_with
-from ...language.symbol_options import add_symbols, symbols_of
+from ...devices.options import DEVICE_OPTIONS, devices_of, script_with
+from ...language.symbol_options import SYMBOL_OPTIONS, symbols_of
 from ...run.attached import names_of
 from ...run.tape import NOTE_OF_DEVICE
-from ...shell.command_line import Failure, add_script, arguments, bytes_of, octal, simulator
+from ...shell.command_line import SCRIPT_WORD, Failure, arguments, bytes_of, octal, simulator
 from ...shell.installation import page_module
 from ...shell.script import performed
 from ...shell.text_files import lines_of, write_whole
@@ -21,10 +21,7 @@ def main() -> int:
     parser.add_argument("-o", "--output", metavar="FILE.html", required=True, help="the page to write")
     parser.add_argument("--around", metavar="N", type=octal, help="open after turn N, octal")
     parser.add_argument("--title", metavar="TEXT", help="the heading of the page (else the name of the script's file or folder)")
-    add_symbols(parser)
-    add_devices(parser)
-    add_script(parser)
-    asked = parser.parse()
+    asked = parser.parse(SYMBOL_OPTIONS, DEVICE_OPTIONS, SCRIPT_WORD)
     if not asked.output:
         raise Failure("--output needs the name of a file")
     symbols, devices, words = symbols_of(asked), devices_of(asked), simulator(asked)
@@ -36,7 +33,7 @@ def main() -> int:
         script, refusals = script_with(words, silent, script)
     lines = lines_of(script.decode("latin-1"))
     done = performed(words, lines)
-    highest = done.history.tape.turns
+    highest = done.run.tape.turns
     if asked.around is not None and asked.around > highest:
         raise Failure(f"there is no turn {asked.around:o}: the highest is {highest:o} (octal)")
     files = Files(script, *(b"" if path is None else bytes_of(path) for path in (asked.deck, asked.panel)))

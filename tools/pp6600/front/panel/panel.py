@@ -1,7 +1,7 @@
 """Shows the live machine on a full screen, and steps it forward and back by keys."""
 
-from ...devices.options import add_devices, devices_of
-from ...language.symbol_options import add_symbols, symbols_of
+from ...devices.options import DEVICE_OPTIONS, devices_of
+from ...language.symbol_options import SYMBOL_OPTIONS, symbols_of
 from ...shell.command_line import Failure, arguments, octal, script_lines, simulator, words_after
 from .app import Panel
 from .logged_session import LoggedSession
@@ -15,7 +15,7 @@ def main() -> None:
     parser = arguments(DESCRIPTION, "[OPTION ..] [SCRIPT]")
     parser.add_argument("--turn", metavar="N", type=octal, help="go to this turn of the script, counted in octal from 1")
     parser.add_argument("script", metavar="SCRIPT", nargs="*", help="lines of the console to begin with")
-    asked = parser.parse(add_symbols, add_devices)
+    asked = parser.parse(SYMBOL_OPTIONS, DEVICE_OPTIONS)
     (script,) = words_after(asked.script, 1, "give one script")
     try:
         from . import terminal  # it needs a module of Python's that is not everywhere

@@ -10,4 +10,14 @@ loop-i-preserved c =
     let next : length watches - c.loop-i.i ≡ j + 1 = omega (arith, more) in
     let cut = drop_more watches j (Cell 0 0) (omega (arith, more)) in
     let at : length watches - 1 - c.loop-i.i ≡ j = omega (arith, more) in
-    grind (arith, cut, next, at, c.loop-i.invariant.longest, c.loop-i.invariant.within, c.hit_size.ensures.value, c.hit_size.ensures.within, c.max-longest.ensures)
+    grind (
+      arith,
+      cut,
+      next,
+      at,
+      c.loop-i.invariant.longest,
+      c.loop-i.invariant.within,
+      c.hit_size.ensures.value,
+      c.hit_size.ensures.within,
+      c.max-longest.ensures,
+    )

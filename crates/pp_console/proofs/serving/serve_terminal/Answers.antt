@@ -37,7 +37,8 @@ returns-in-Err-clause-order g c = λ others same start at.
     let (taken, consumed, given, has_read, on_time) = c.pieces.invariant.has_read in
     let nil = ap (λ bytes. g.R.Source.given (source_of c.args.terminal.now) ++ bytes) (sym (append-nil taken)) in
     same-reads _ _ (taken ++ []) others (c.in-Err.ensures.given ∙ given ∙ nil) same
-    (one-more-read _ _ c.in-Err.ensures.at_reads c.in-Err.ensures.called tt (HasRead-on_time _ given (has_read start at)) (on_time start at))
+    (one-more-read _ _ c.in-Err.ensures.at_reads c.in-Err.ensures.called tt (HasRead-on_time _ given (has_read start at))
+    (on_time start at))
 
 pub returns-in-Ok-eq0-clause-script : goal.returns-in-Ok-eq0-clause-script
 returns-in-Ok-eq0-clause-script g c =

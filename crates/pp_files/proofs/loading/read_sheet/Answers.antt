@@ -55,9 +55,10 @@ returns-in_err-feed-in-Ok-clause-file g c =
     let (taken, consumed, given, has_read) = c.pieces.invariant.has_read in
     let (fault, is_err, is) = err_from_is_err_and c.from_residual.result c.from_residual.ensures.1 in
     let all = Consumes-again _ (g.R.Source.rest c.pieces.source) _ taken _ consumed c.in-Ok.ensures.bytes.0 in
+    let rest = g.R.Source.rest c.take.new.self in
     rw (is_err, is) (
       taken ++ take c.in-Ok.count c.take.new.into,
       all,
       c.in-Ok.ensures.given ∙ ap (λ front. front ++ take c.in-Ok.count c.take.new.into) given ∙ append_assoc _ taken _,
-      fails-after g.S.Sheet.rule _ _ (g.R.Source.rest c.take.new.self) _ _ all (c.in_err-feed-in-Ok.ensures.has_read taken has_read),
+      fails-after g.S.Sheet.rule _ _ rest _ _ all (c.in_err-feed-in-Ok.ensures.has_read taken has_read),
     )

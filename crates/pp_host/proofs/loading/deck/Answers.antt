@@ -31,5 +31,6 @@ returns-in-Err-clause-deck g c =
       content = Content all;
       logged = grind (arith, common_steps);
       known = grind (arith, common_steps);
-      follows = rw (some, c.load.ensures) (fails_or_lost (λ cards. cards) Deck card_rule deck_of_file (string_bytes c.in-Some.path) _ file.0 all _ file.3);
+      follows = rw (some, c.load.ensures) (fails_or_lost (λ cards. cards) Deck card_rule deck_of_file (string_bytes c.in-Some.path)
+          _ file.0 all _ file.3);
     }

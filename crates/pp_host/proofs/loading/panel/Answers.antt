@@ -31,5 +31,6 @@ returns-in-Err-clause-panel g c =
       content = Content all;
       logged = grind (arith, common_steps);
       known = grind (arith, common_steps);
-      follows = rw (some, c.load.ensures) (fails_or_broke_off Some Panel panel_rule panel_of_file (string_bytes c.in-Some.path) _ file.0 all _ c.in-Err.ensures.no_memory file.3);
+      follows = rw (some, c.load.ensures) (fails_or_broke_off Some Panel panel_rule panel_of_file (string_bytes c.in-Some.path) _
+          file.0 all _ c.in-Err.ensures.no_memory file.3);
     }

@@ -6,7 +6,8 @@ pub returns-then-has_address : goal.returns-then-has_address
 returns-then-has_address c =
     let below : c.loop-k.k < length c.args.cells.now = omega arith in (
       λ wrong i j d before after same. cc,
-      λ each. absurd (twice c.args.cells.now _ c.loop-k.k _ below (grind arith) (c.has_address.ensures.0 c.if-has_address.true) each),
+      λ each. absurd (twice c.args.cells.now _ c.loop-k.k _ below (grind arith) (c.has_address.ensures.0 c.if-has_address.true)
+          each),
     )
 
 pub loop-k-preserved : goal.loop-k-preserved

@@ -42,18 +42,22 @@ returns-then-is_full-clause-some c = λ are. absurd (full_length _ _ c.is_full.r
     (drop c.loop-form.form-index c.args.forms.now) are.0 c.loop-form.invariant.is))
 
 pub returns-then-is_full-2-clause-some : goal.returns-then-is_full-2-clause-some
-returns-then-is_full-2-clause-some c = λ are. absurd (full_length _ _ c.is_full-else-form-eq-OR.result c.is_full-else-form-eq-OR.ensures.value
-    c.if-is_full-2.true (no_room_for_tests c.args.forms.now c.loop-form.alternatives.items c.loop-form.tests.items c.loop-form.form-index _ are.0
+returns-then-is_full-2-clause-some c = λ are. absurd
+    (full_length _ _ c.is_full-else-form-eq-OR.result c.is_full-else-form-eq-OR.ensures.value
+    c.if-is_full-2.true (no_room_for_tests c.args.forms.now c.loop-form.alternatives.items c.loop-form.tests.items
+    c.loop-form.form-index _ are.0
     c.loop-form.invariant.is c.loop-form-test.true c.if-form-eq-OR.false))
 
 pub returns-then-is_full-3-clause-some : goal.returns-then-is_full-3-clause-some
-returns-then-is_full-3-clause-some c = λ are. absurd (full_length _ _ c.is_full-2.result c.is_full-2.ensures.value c.if-is_full-3.true
+returns-then-is_full-3-clause-some c = λ are. absurd
+    (full_length _ _ c.is_full-2.result c.is_full-2.ensures.value c.if-is_full-3.true
     (no_room_for_alternatives c.args.forms.now c.loop-form.alternatives.items c.loop-form.tests.items
     (drop c.loop-form.form-index c.args.forms.now) are.0 c.loop-form.invariant.is))
 
 pub returns-clause-is : goal.returns-clause-is
 returns-clause-is c = λ _.
-    condition_is c.args.forms.now (record { alternatives = c.push-2.new.self }) c.loop-form.alternatives.items c.loop-form.tests.items _
+    condition_is c.args.forms.now (record { alternatives = c.push-2.new.self }) c.loop-form.alternatives.items
+    c.loop-form.tests.items _
     (drop_of_length-le c.args.forms.now c.loop-form-test.false) c.loop-form.invariant.is c.push-2.ensures.items
 
 pub returns-clause-are_forms : goal.returns-clause-are_forms
@@ -61,7 +65,8 @@ returns-clause-are_forms c = λ _.
     let is = returns-clause-is c refl in
     let begun = c.loop-form.invariant in
     let all = c.push-2.new.self.items in
-    let few : length all ≤ MOST_ALTERNATIVES = grind (arith, nat_tests, c.push-2.ensures.len, c.is_full-2.ensures, c.if-is_full-3.false) in
+    let few : length all ≤ MOST_ALTERNATIVES = grind
+    (arith, nat_tests, c.push-2.ensures.len, c.is_full-2.ensures, c.if-is_full-3.false) in
     let small : All IsSmall all =
     rw c.push-2.ensures.items (All-push IsSmall c.loop-form.alternatives.items _ begun.small begun.begun_small) in
     (subst HasRoom is (few, small), rw (take_whole c.args.forms.now c.loop-form.form-index c.loop-form-test.false) at begun.are)

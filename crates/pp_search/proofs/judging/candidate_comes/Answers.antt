@@ -17,4 +17,5 @@ returns c =
     let one = λ (alternative : Alternative). comes alternative (before back now) (record_pairs back) now in
     sym (none_chosen one alternatives c.args.candidates.now turn.rest.slot are
     (λ alternative of. other_does_not_come turn back now turn.rest.slot alternative is refl c.requires.fits of)
-    (rw (take_whole c.args.candidates.now.alternatives.items c.loop-i.i-index (rw c.as_slice-i-items.ensures.value at c.loop-i-test.false)) at c.loop-i.invariant))
+    (rw (take_whole c.args.candidates.now.alternatives.items c.loop-i.i-index
+    (rw c.as_slice-i-items.ensures.value at c.loop-i-test.false)) at c.loop-i.invariant))

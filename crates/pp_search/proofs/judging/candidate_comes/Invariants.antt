@@ -10,5 +10,6 @@ abbrev pub invariant-loop-i : goal.invariant-loop-i
 invariant-loop-i l =
     let back = whole_record unpacked l.back in
     let alternatives = l.condition.alternatives.items in
-    All (λ (i : ℕ). (d : Alternative) → comes (get_or alternatives i d) (before back l.machine) (record_pairs back) l.machine ≡ false)
+    All (λ (i : ℕ). (d : Alternative) → comes (get_or alternatives i d) (before back l.machine) (record_pairs back) l.machine
+    ≡ false)
     (take l.i-index l.candidates.alternatives.items)

@@ -9,7 +9,8 @@ loop-i-preserved c =
       few = omega (arith, added.few, c.loop-i.invariant.few);
       within = added.within (length c.args.alternatives.now) c.loop-i-test.true c.loop-i.invariant.within;
       others = chosen_more c.loop-i.found c.add_candidate.new.candidates c.args.alternatives.now c.args.pp
-          c.loop-i.i c.index-alternatives-i.result c.loop-i-test.true added.keeps_numbers added.keeps c.loop-i.invariant.others c.index-alternatives-i.is added.added;
+          c.loop-i.i c.index-alternatives-i.result c.loop-i-test.true added.keeps_numbers added.keeps c.loop-i.invariant.others
+          c.index-alternatives-i.is added.added;
     }
 
 pub returns : goal.returns

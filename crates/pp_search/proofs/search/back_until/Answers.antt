@@ -17,7 +17,8 @@ loop-undone-init c = record {
 pub returns-then-is_found-clause-last : goal.returns-then-is_found-clause-last
 returns-then-is_found-clause-last c = λ v at.
     let less : c.loop-undone.undone + 1 < v.kept = omega (arith, at.kept, c.loop-undone.invariant.last, c.loop-undone-test.true) in
-    sym (back_found c.args.condition.now v c.loop-undone.undone c.back_once-is_found.result less (c.loop-undone.invariant.passed v at)
+    sym (back_found c.args.condition.now v c.loop-undone.undone c.back_once-is_found.result less
+    (c.loop-undone.invariant.passed v at)
     (c.back_once-is_found.ensures.came _ (c.loop-undone.invariant.at v at)) c.if-is_found.true)
 
 pub returns-then-is_found-clause-moves : goal.returns-then-is_found-clause-moves
@@ -30,9 +31,11 @@ loop-undone-preserved c = record {
   within = omega (arith, c.loop-undone-test.true);
   left = omega (arith, c.back_once-is_found.ensures.kept, c.loop-undone.invariant.left);
   has = c.back_once-is_found.ensures.has;
-  at = λ v at. rw (after_steps-more v c.loop-undone.undone 1).0 at (c.back_once-is_found.ensures.at _ (c.loop-undone.invariant.at v at));
+  at = λ v at. rw (after_steps-more v c.loop-undone.undone 1).0 at
+      (c.back_once-is_found.ensures.at _ (c.loop-undone.invariant.at v at));
   passed = λ v at.
-      let less : c.loop-undone.undone + 1 < v.kept = omega (arith, at.kept, c.loop-undone.invariant.last, c.loop-undone-test.true) in
+      let less : c.loop-undone.undone + 1 < v.kept = omega (arith, at.kept, c.loop-undone.invariant.last, c.loop-undone-test.true)
+      in
       back_passed c.args.condition.now v c.loop-undone.undone c.back_once-is_found.result less (c.loop-undone.invariant.passed v at)
       (c.back_once-is_found.ensures.came _ (c.loop-undone.invariant.at v at)) c.if-is_found.false;
 }
@@ -55,4 +58,5 @@ returns-clause-last c = λ v at.
 pub returns-clause-moves : goal.returns-clause-moves
 returns-clause-moves c = λ v at.
     let kept : c.loop-undone.undone ≤ v.kept = omega (arith, at.kept, c.loop-undone.invariant.left) in
-    rw (back_forward v c.loop-undone.undone kept (kept_le rules c.args.session.now v at)) at (c.in-Ok.ensures.moves _ (c.loop-undone.invariant.at v at))
+    rw (back_forward v c.loop-undone.undone kept (kept_le rules c.args.session.now v at)) at
+    (c.in-Ok.ensures.moves _ (c.loop-undone.invariant.at v at))

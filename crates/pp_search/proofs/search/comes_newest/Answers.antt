@@ -60,6 +60,7 @@ returns-then-not-may_be_marked c = λ v at.
     let back = whole_record unpacked c.in-Some.back in
     let unmarked = c.may_be_marked.ensures c.if-not-may_be_marked.true in
     let newest = c.in-Some.ensures in
-    newest_comes c.args.condition.now v.start v.standing back now _ (machine_at rules c.args.session.now v at) (newest.leads_back v at)
+    newest_comes c.args.condition.now v.start v.standing back now _ (machine_at rules c.args.session.now v at)
+    (newest.leads_back v at)
     (newest.old_values v at) (sym (skipped_action c.args.condition.now c.args.plan.now back now (record_pairs back)
     newest.fits c.requires.plan c.if-not-plan.true unmarked))

@@ -18,7 +18,8 @@ loop-undone-init c = record {
 pub returns-then-has_newest_written-clause-write : goal.returns-then-has_newest_written-clause-write
 returns-then-has_newest_written-clause-write c = λ v at.
     let less : c.loop-undone.undone < v.kept = omega (arith, at.kept, c.loop-undone.invariant.kept, c.loop-undone-test.true) in
-    sym (write_found c.args.first c.args.count v c.loop-undone.undone c.has_newest_written.result less (c.loop-undone.invariant.passed v at)
+    sym (write_found c.args.first c.args.count v c.loop-undone.undone c.has_newest_written.result less
+    (c.loop-undone.invariant.passed v at)
     (c.has_newest_written.ensures _ (c.loop-undone.invariant.at v at)) c.if-has_newest_written.true)
 
 pub loop-undone-preserved : goal.loop-undone-preserved
@@ -29,13 +30,24 @@ loop-undone-preserved c =
     record {
       kept = c.loop-undone.invariant.kept;
       within = omega (arith, c.loop-undone-test.true);
-      left = omega (arith, moved.kept, here.kept, at.kept, c.loop-undone.invariant.left, c.loop-undone.invariant.kept, c.loop-undone-test.true);
-      has = rw (size_at c.loop-undone.session c.back.new.self (after_back v c.loop-undone.undone) (after_back (after_back v c.loop-undone.undone) 1)
+      left = omega (
+        arith,
+        moved.kept,
+        here.kept,
+        at.kept,
+        c.loop-undone.invariant.left,
+        c.loop-undone.invariant.kept,
+        c.loop-undone-test.true,
+      );
+      has = rw (size_at c.loop-undone.session c.back.new.self (after_back v c.loop-undone.undone)
+          (after_back (after_back v c.loop-undone.undone) 1)
           here moved refl) c.loop-undone.invariant.has;
       at = λ v at. rw (after_steps-more v c.loop-undone.undone 1).0 at (c.in-Ok.ensures.moves _ (c.loop-undone.invariant.at v at));
       passed = λ v at.
-          let less : c.loop-undone.undone < v.kept = omega (arith, at.kept, c.loop-undone.invariant.kept, c.loop-undone-test.true) in
-          write_passed c.args.first c.args.count v c.loop-undone.undone c.has_newest_written.result less (c.loop-undone.invariant.passed v at)
+          let less : c.loop-undone.undone < v.kept = omega (arith, at.kept, c.loop-undone.invariant.kept, c.loop-undone-test.true)
+          in
+          write_passed c.args.first c.args.count v c.loop-undone.undone c.has_newest_written.result less
+          (c.loop-undone.invariant.passed v at)
           (c.has_newest_written.ensures _ (c.loop-undone.invariant.at v at)) c.if-has_newest_written.false;
     }
 

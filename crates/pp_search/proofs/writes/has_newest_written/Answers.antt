@@ -6,5 +6,6 @@ use Rattle.pp_search.proofs.writes.has_newest_written.Goals as goal
 
 pub returns : goal.returns
 returns c = λ v at.
-    newest_wrote c.args.first c.args.count v.start v.standing (record_pairs (whole_record unpacked c.in-Some.back)) c.has_written.result
+    newest_wrote c.args.first c.args.count v.start v.standing (record_pairs (whole_record unpacked c.in-Some.back))
+    c.has_written.result
     (c.in-Some.ensures.old_values v at) c.has_written.ensures

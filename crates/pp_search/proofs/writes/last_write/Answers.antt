@@ -27,5 +27,6 @@ returns-clause-stays c = λ v at.
 pub returns-clause-kept : goal.returns-clause-kept
 returns-clause-kept c =
     let (v, at) = c.has_session_value.ensures in
-    let same : length c.forward.new.self.records ≡ length c.args.session.now.records = (returns-clause-stays c v at).kept ∙ sym at.kept in
+    let same : length c.forward.new.self.records ≡ length c.args.session.now.records =
+    (returns-clause-stays c v at).kept ∙ sym at.kept in
     rw same c.back_to_write-found.ensures.kept

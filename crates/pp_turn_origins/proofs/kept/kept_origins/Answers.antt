@@ -19,4 +19,5 @@ returns-clause-stays c = λ v at.
     rw (back_forward v c.args.newer kept (kept_le rig c.args.session.now v at)) at (c.in-Ok-forward.ensures.moves _ here)
 
 pub returns-clause-kept : goal.returns-clause-kept
-returns-clause-kept c = λ v at action earlier same. c.tell_newest-made.ensures.kept _ (c.in-Ok.ensures.moves v at) action earlier same
+returns-clause-kept c = λ v at action earlier same. c.tell_newest-made.ensures.kept _ (c.in-Ok.ensures.moves v at) action earlier
+    same

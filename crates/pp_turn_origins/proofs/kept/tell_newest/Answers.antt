@@ -20,7 +20,8 @@ returns-clause-stays c = λ v at.
 pub returns-clause-kept : goal.returns-clause-kept
 returns-clause-kept c = λ v at action earlier same.
     let moved = c.in-Ok.ensures.moves v at in
-    let ahead : c.back.new.self.ahead ≡ action ∷ v.ahead = moved.ahead ∙ ap (λ standing. reverse (take 1 standing) ++ v.ahead) same in
+    let ahead : c.back.new.self.ahead ≡ action ∷ v.ahead =
+    moved.ahead ∙ ap (λ standing. reverse (take 1 standing) ++ v.ahead) same in
     let machine : c.back.new.self.machine ≡ replay rig v.start earlier =
     machine_at rig c.back.new.self (after_back v 1) moved ∙ ap (λ standing. replay rig v.start (drop 1 standing)) same in (
       c.tell_next.ensures.made action v.ahead ahead ∙ ap (λ s. made_by s action) machine,

@@ -14,9 +14,12 @@ returns-clause-kind c =
     let links = c.put_step-end.new.links in
     let front = take c.args.used c.args.links.now in
     let room : c.args.used ≤ length c.args.links.now = omega (arith, c.requires.room) in
-    let within : c.put_step-end.result ≤ length links = omega (arith, c.put_step-end.ensures.at_most, c.requires.room, c.put_step-end.auto.links) in
-    let items = subst (λ n. take c.put_step-end.result links ≡ front ++ links_of (step_origins n m)) slot c.put_step-end.ensures.items in
-    let wait = waits links front (processor_origins m) c.args.used c.put_step-end.result within items (length-take-le c.args.used c.args.links.now room) in
+    let within : c.put_step-end.result ≤ length links = omega
+    (arith, c.put_step-end.ensures.at_most, c.requires.room, c.put_step-end.auto.links) in
+    let items = subst (λ n. take c.put_step-end.result links ≡ front ++ links_of (step_origins n m)) slot
+    c.put_step-end.ensures.items in
+    let wait = waits links front (processor_origins m) c.args.used c.put_step-end.result within items
+    (length-take-le c.args.used c.args.links.now room) in
     let phase : c.phase_and_p-phase.result.0 ≡ (processor m m.slot).phase =
     c.phase_and_p-phase.ensures.phase ∙ ap (λ n. (processor m n).phase) slot in
     c.kind.ensures ∙ cc (wait, phase, c.address_and_word-address.ensures.word)

@@ -18,10 +18,12 @@ returns-clause-ended c = λ v earlier front at same is_count begun.
     let within : next.links ≤ length c.args.links.now = omega (arith, c.requires.at_most, c.requires.links) in
     let within2 : end.result ≤ length end.new.links =
     omega (arith, end.ensures.at_most, c.requires.at_most, c.requires.links, end.auto.links) in
-    let put = are_put s front c.args.links.now end.new.links c.args.used next.links end.result is_count within within2 begun.items rest in
+    let put = are_put s front c.args.links.now end.new.links c.args.used next.links end.result is_count within within2 begun.items
+    rest in
     let (count, olds) = c.put_overwritten-count.ensures.olds v Turn earlier at same in
     let all : c.saturating_sub.result ≡ length (links_of (turn_origins s)) = omega (arith, put.all, c.saturating_sub.ensures) in
-    let own : c.saturating_sub-2.result ≡ length (links_of (processor_origins s)) = omega (arith, put.own, c.saturating_sub-2.ensures) in
+    let own : c.saturating_sub-2.result ≡ length (links_of (processor_origins s)) = omega
+    (arith, put.own, c.saturating_sub-2.ensures) in
     let here : length front + c.saturating_sub.result ≡ end.result = omega (arith, put.all, is_count, c.saturating_sub.ensures) in
     let before : length (take c.args.overwritten c.args.olds.now) ≡ c.args.overwritten =
     length-take-le c.args.overwritten c.args.olds.now (omega (arith, c.requires.olds)) in

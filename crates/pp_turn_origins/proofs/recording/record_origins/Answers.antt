@@ -28,30 +28,39 @@ loop-turns-init c = record {
 
 pub returns-then-hit-clause-moves : goal.returns-then-hit-clause-moves
 returns-then-hit-clause-moves c =
-    moved_more c.loop-turns.turns c.args.session.now c.loop-turns.session c.record_turn-hit.new.session c.loop-turns.invariant.ran c.record_turn-hit.ensures.at
+    moved_more c.loop-turns.turns c.args.session.now c.loop-turns.session c.record_turn-hit.new.session c.loop-turns.invariant.ran
+    c.record_turn-hit.ensures.at
 
 pub returns-then-hit-clause-stops : goal.returns-then-hit-clause-stops
 returns-then-hit-clause-stops c =
-    ends_with_hit c.loop-turns.turns c.args.session.now c.loop-turns.session c.record_turn-hit.result.1 c.loop-turns.invariant.ran c.record_turn-hit.ensures.hit
+    ends_with_hit c.loop-turns.turns c.args.session.now c.loop-turns.session c.record_turn-hit.result.1 c.loop-turns.invariant.ran
+    c.record_turn-hit.ensures.hit
 
 pub returns-then-hit-clause-made : goal.returns-then-hit-clause-made
 returns-then-hit-clause-made c =
     let room : c.loop-turns.turns < length c.loop-turns.made = search rules in
     let is : c.record_turn-hit.result.0 ≡ made_of (turned c.loop-turns.turns c.args.session.now.machine) =
     c.record_turn-hit.ensures.made ∙ ap made_of c.loop-turns.invariant.ran.machine in
-    rw (take_more_set c.loop-turns.made c.loop-turns.turns c.record_turn-hit.result.0 room, made_more, is, c.loop-turns.invariant.made) refl
+    rw (
+      take_more_set c.loop-turns.made c.loop-turns.turns c.record_turn-hit.result.0 room,
+      made_more,
+      is,
+      c.loop-turns.invariant.made,
+    ) refl
 
 pub returns-then-hit-clause-links : goal.returns-then-hit-clause-links
 returns-then-hit-clause-links c =
     rw links_more (c.record_turn-hit.ensures.links
     ∙ ap (λ links. links ++ links_of (turn_origins c.loop-turns.session.machine)) c.loop-turns.invariant.links
-    ∙ ap (λ s. all_links c.loop-turns.turns c.args.session.now.machine ++ links_of (turn_origins s)) c.loop-turns.invariant.ran.machine)
+    ∙ ap (λ s. all_links c.loop-turns.turns c.args.session.now.machine ++ links_of (turn_origins s))
+    c.loop-turns.invariant.ran.machine)
 
 pub returns-then-hit-clause-olds : goal.returns-then-hit-clause-olds
 returns-then-hit-clause-olds c =
     rw olds_more (c.record_turn-hit.ensures.olds
     ∙ ap (λ olds. olds ++ numbered (old_values_of c.loop-turns.session.machine Turn)) c.loop-turns.invariant.olds
-    ∙ ap (λ s. olds_of c.args.session.now.machine (replicate c.loop-turns.turns Turn) ++ numbered (old_values_of s Turn)) c.loop-turns.invariant.ran.machine)
+    ∙ ap (λ s. olds_of c.args.session.now.machine (replicate c.loop-turns.turns Turn) ++ numbered (old_values_of s Turn))
+    c.loop-turns.invariant.ran.machine)
 
 pub loop-turns-preserved : goal.loop-turns-preserved
 loop-turns-preserved c =
@@ -63,12 +72,20 @@ loop-turns-preserved c =
       made_room = search rules;
       links_room = search rules;
       olds_room = search rules;
-      ran = ran_more c.loop-turns.turns c.args.session.now c.loop-turns.session c.record_turn-hit.new.session c.record_turn-hit.result.1
-          c.loop-turns.invariant.ran c.record_turn-hit.ensures.at c.record_turn-hit.ensures.machine c.record_turn-hit.ensures.hit c.if-hit.false;
-      made = rw (take_more_set c.loop-turns.made c.loop-turns.turns c.record_turn-hit.result.0 room, made_more, is, c.loop-turns.invariant.made) refl;
+      ran = ran_more c.loop-turns.turns c.args.session.now c.loop-turns.session c.record_turn-hit.new.session
+          c.record_turn-hit.result.1
+          c.loop-turns.invariant.ran c.record_turn-hit.ensures.at c.record_turn-hit.ensures.machine c.record_turn-hit.ensures.hit
+          c.if-hit.false;
+      made = rw (
+        take_more_set c.loop-turns.made c.loop-turns.turns c.record_turn-hit.result.0 room,
+        made_more,
+        is,
+        c.loop-turns.invariant.made,
+      ) refl;
       links = rw links_more (c.record_turn-hit.ensures.links
           ∙ ap (λ links. links ++ links_of (turn_origins c.loop-turns.session.machine)) c.loop-turns.invariant.links
-          ∙ ap (λ s. all_links c.loop-turns.turns c.args.session.now.machine ++ links_of (turn_origins s)) c.loop-turns.invariant.ran.machine);
+          ∙ ap (λ s. all_links c.loop-turns.turns c.args.session.now.machine ++ links_of (turn_origins s))
+          c.loop-turns.invariant.ran.machine);
       olds = rw olds_more (c.record_turn-hit.ensures.olds
           ∙ ap (λ olds. olds ++ numbered (old_values_of c.loop-turns.session.machine Turn)) c.loop-turns.invariant.olds
           ∙ ap (λ s. olds_of c.args.session.now.machine (replicate c.loop-turns.turns Turn) ++ numbered (old_values_of s Turn))

@@ -24,7 +24,8 @@ returns-clause-made c =
     let here = machine_at rig c.args.session.now v at in
     let begun = subst (λ s. IsBegun s (take c.args.used links) c.begin_turn-begun.new.links c.begin_turn-begun.result)
     (c.machine.ensures.value ∙ here) c.begin_turn-begun.ensures.begun in
-    let count : length (take c.args.used links) ≡ c.args.used = length-take-le c.args.used links (omega (arith, c.requires.links)) in
+    let count : length (take c.args.used links) ≡ c.args.used = length-take-le c.args.used links (omega (arith, c.requires.links))
+    in
     let ended = c.end_turn-made.ensures.ended (after_act v Turn) v.standing (take c.args.used links) moved refl count begun in
     rw here ended.turn
 
@@ -37,7 +38,8 @@ returns-clause-links c =
     let here = machine_at rig c.args.session.now v at in
     let begun = subst (λ s. IsBegun s (take c.args.used links) c.begin_turn-begun.new.links c.begin_turn-begun.result)
     (c.machine.ensures.value ∙ here) c.begin_turn-begun.ensures.begun in
-    let count : length (take c.args.used links) ≡ c.args.used = length-take-le c.args.used links (omega (arith, c.requires.links)) in
+    let count : length (take c.args.used links) ≡ c.args.used = length-take-le c.args.used links (omega (arith, c.requires.links))
+    in
     let ended = c.end_turn-made.ensures.ended (after_act v Turn) v.standing (take c.args.used links) moved refl count begun in
     rw here (rw count at ended.items)
 
@@ -50,7 +52,8 @@ returns-clause-olds c =
     let here = machine_at rig c.args.session.now v at in
     let begun = subst (λ s. IsBegun s (take c.args.used links) c.begin_turn-begun.new.links c.begin_turn-begun.result)
     (c.machine.ensures.value ∙ here) c.begin_turn-begun.ensures.begun in
-    let count : length (take c.args.used links) ≡ c.args.used = length-take-le c.args.used links (omega (arith, c.requires.links)) in
+    let count : length (take c.args.used links) ≡ c.args.used = length-take-le c.args.used links (omega (arith, c.requires.links))
+    in
     let before : length (take c.args.overwritten c.args.olds.now) ≡ c.args.overwritten =
     length-take-le c.args.overwritten c.args.olds.now (omega (arith, c.requires.olds)) in
     let ended = c.end_turn-made.ensures.ended (after_act v Turn) v.standing (take c.args.used links) moved refl count begun in

@@ -27,12 +27,21 @@ meets : {M : Type 1} {𝓤 : Ura M} (𝓛 : Logic 𝓤) (mem : Memory → SProp 
     → Meets 𝓛 f.signature (WpFn 𝓤 𝓛.H 𝓣.C 𝓣.Λ code.function) (f.spec 𝓛 mem run)
 meets {𝓤 = 𝓤} 𝓛 mem run 𝓣 = walk_Meets 𝓛 f.ended stayed (
   Goes-none_ref 𝓛 3 (0 ∷ []) tt (plain (λ _. trail.the_row)) yes,
-  (Goes-none_ref 𝓛 3 (1 ∷ []) tt (plain (λ _. event.the_row)) yes, (Goes-none_ref 𝓛 3 (2 ∷ []) tt (plain (λ _. moved.the_row)) yes, tt)),
+  (
+    Goes-none_ref 𝓛 3 (1 ∷ []) tt (plain (λ _. event.the_row)) yes,
+    (Goes-none_ref 𝓛 3 (2 ∷ []) tt (plain (λ _. moved.the_row)) yes, tt),
+  ),
 ) (f.clauses 𝓛 mem run) (WpFn 𝓤 𝓛.H 𝓣.C 𝓣.Λ code.function)
     (WpFn-mono 𝓤 𝓛.H 𝓛.laws 𝓣 code.function)
     (walked 𝓛 f.ended stayed (f.clauses 𝓛 mem run) (WpFn 𝓤 𝓛.H 𝓣.C 𝓣.Λ code.function)
     (λ κs. (shr_vals, (shr_vals, (shr_vals, tt))))
-    (λ κs. (shr_Tells (named 0) κs.0 trail.the_row, (shr_Tells (named 1) κs.1.0 event.the_row, (shr_Tells (named 2) κs.1.1.0 moved.the_row, tt))))
+    (λ κs. (
+      shr_Tells (named 0) κs.0 trail.the_row,
+      (
+        shr_Tells (named 1) κs.1.0 event.the_row,
+        (shr_Tells (named 2) κs.1.1.0 moved.the_row, tt),
+      ),
+    ))
     (λ κs qs bounds a g are. via 𝓤 _ (fst∗ 𝓤 _ (emp 𝓤)) (
     let before : Val = vptr a.0.ref_ptr.0 a.0.ref_ptr.1 in let happened : Val = vptr a.1.0.ref_ptr.0 a.1.0.ref_ptr.1 in
     let bytes : Val = vptr a.1.1.0.ref_ptr.0 a.1.1.0.ref_ptr.1 in

@@ -19,7 +19,8 @@ use types.Logic.{Logic, sem}
 use contract.Monad.{Fun, fact_use}
 use contract.Running.{tables, tables_of}
 use sound.WpLaws.{WpFn-mono}
-use types.Kit.{Item, at_ret, ‵, raw, ◌⊛◌, ◌$◌, ◌∵◌, !, qed, by, move, keep, drop, use0, use1, join, split, fsplit, fjoin, fpick, feq_l, suffices, rewrite, done}
+use types.Kit.{Item, at_ret, ‵, raw, ◌⊛◌, ◌$◌, ◌∵◌, !, qed, by, move, keep, drop, use0, use1, join, split, fsplit, fjoin, fpick}
+use types.Kit.{feq_l, suffices, rewrite, done}
 use types.Match.{live}
 use types.Part.{whole, sub, agg}
 use types.Run.{stop, fld, lit, bin, no_more, and_then, of_opd, returns, enter, first, branches, exec}
@@ -65,21 +66,26 @@ module _ {M : Type 1} {𝓤 : Ura M} (𝓛 : Logic 𝓤) (at_mem : Memory → SP
   open 𝓛 use {H}
 
   at_value : (z : (walk_of 𝓛 F.ended stayed (F.clauses 𝓛 at_mem run)).Ghost) (o : Option Held.the_row.Denot) → z.0.3.0.value ≡ o
-      → ent 𝓤 ((walk_of 𝓛 F.ended stayed (F.clauses 𝓛 at_mem run)).pre z) (WpFn 𝓤 H 𝓣.C 𝓣.Λ code.function (z.0.4.0 ++ []) ((walk_of 𝓛 F.ended stayed (F.clauses 𝓛 at_mem run)).post z))
+      → ent 𝓤 ((walk_of 𝓛 F.ended stayed (F.clauses 𝓛 at_mem run)).pre z)
+      (WpFn 𝓤 H 𝓣.C 𝓣.Λ code.function (z.0.4.0 ++ []) ((walk_of 𝓛 F.ended stayed (F.clauses 𝓛 at_mem run)).post z))
   at_value z None none =
       let Post = (walk_of 𝓛 F.ended stayed (F.clauses 𝓛 at_mem run)).post z in
       let To = type_at (F.signature).result tt in
       qed 𝓛 ((‵ ftrue ⊛ ‵ (fsep (Handle.the_row.own_val z.0.3.0 z.0.4.0) ftrue)) ∷ raw (emp 𝓤) ∷ []) ∵ split ! $ drop ! $ fsplit ! $
-      rewrite ! 0 (λ (o : Option Held.the_row.Denot). ‵ (Handle.the_row.own_val (record { at = z.0.3.0.at; alloc = z.0.3.0.alloc; value = o }) z.0.4.0)) none refl $
-      fsplit ! $ fpick ! (λ vss. fsplit ! $ feq_l ! (λ ev. fsplit ! $ feq_l ! (λ ep. fsplit ! $ handle_tells E.al ! z.0.3.0.alloc vss.1.0 (λ hv ea fa.
+      rewrite ! 0 (λ (o : Option Held.the_row.Denot). ‵
+      (Handle.the_row.own_val (record { at = z.0.3.0.at; alloc = z.0.3.0.alloc; value = o }) z.0.4.0)) none refl $
+      fsplit ! $ fpick ! (λ vss. fsplit ! $ feq_l ! (λ ev. fsplit ! $ feq_l ! (λ ep. fsplit ! $
+      handle_tells E.al ! z.0.3.0.alloc vss.1.0 (λ hv ea fa.
       drop ! $ drop ! $ fpick ! (λ null. drop ! $ drop ! $ drop ! $
       let w = empty hv in
-      let ws : z.0.4.0 ≡ w ∷ [] = ev ∙ ap (λ (ps : List Val). vstruct (of_list (ps ++ (vss.1.0 ++ []))) ∷ []) ep ∙ ap (λ (hs : List Val). vstruct (of_list (ptr_val z.0.3.0.at ∷ (hs ++ []))) ∷ []) ea
+      let ws : z.0.4.0 ≡ w ∷ [] = ev ∙ ap (λ (ps : List Val). vstruct (of_list (ps ++ (vss.1.0 ++ []))) ∷ []) ep ∙ ap
+      (λ (hs : List Val). vstruct (of_list (ptr_val z.0.3.0.at ∷ (hs ++ []))) ∷ []) ea
       ∙ ap (λ (p : denote.RawPtr.Ptr). vstruct (of_list (ptr_val p ∷ hv ∷ [])) ∷ []) null in
       by ! (subst (λ (us : List Val). ent 𝓤 (types.Kit.⋆ 𝓛 []) (WpFn 𝓤 H 𝓣.C 𝓣.Λ code.function (us ++ []) Post)) (sym ws)
       (qed 𝓛 [] ∵ enter ! 𝓣.C 𝓣.Λ code.function (w ∷ []) _ $
       alloc_all ! (λ ls. pass_all ! refl ((and_tt (has_ty (α E.al) hv) fa.0, (record { fits = lit< tt }, (fa.1, tt))), tt) $
-      sets ! (of_opd ! (get_in ! (fld ! refl (stop !)) (sub ! 0 refl (whole !)))) refl (tt, record { fits = lit< tt }) $ sets ! (of_opd ! (get_in ! (fld ! refl (stop !)) (sub ! 1 refl (whole !)))) refl fa $
+      sets ! (of_opd ! (get_in ! (fld ! refl (stop !)) (sub ! 0 refl (whole !)))) refl (tt, record { fits = lit< tt }) $
+      sets ! (of_opd ! (get_in ! (fld ! refl (stop !)) (sub ! 1 refl (whole !)))) refl fa $
       sets ! (bin ! (get ! refl) (lit ! tt) tt) refl (tt, tt) $ first ! $ branches ! (get ! refl)
       (λ _. sets_last ! (agg ! (and_then ! (lit ! tt) (no_more !))) refl (tt, (record { fits = lit< tt }, tt)) $
       exec ! 𝓣.C 𝓣.Λ (env code.function.locals ls) (after 4 code.function.body) (at_ret (env code.function.locals ls) Post) $
@@ -93,20 +99,26 @@ module _ {M : Type 1} {𝓤 : Ura M} (𝓛 : Logic 𝓤) (at_mem : Memory → SP
       let To = type_at (F.signature).result tt in
       let made : Taken.Denot = record { ptr = v.ptr; alloc = v.alloc; value = v.value } in
       qed 𝓛 ((‵ ftrue ⊛ ‵ (fsep (Handle.the_row.own_val z.0.3.0 z.0.4.0) ftrue)) ∷ raw (emp 𝓤) ∷ []) ∵ split ! $ drop ! $ fsplit ! $
-      rewrite ! 0 (λ (o : Option Held.the_row.Denot). ‵ (Handle.the_row.own_val (record { at = v.ptr; alloc = v.alloc; value = o }) z.0.4.0)) some refl $
+      rewrite ! 0 (λ (o : Option Held.the_row.Denot). ‵
+      (Handle.the_row.own_val (record { at = v.ptr; alloc = v.alloc; value = o }) z.0.4.0)) some refl $
       box_out E ! v z.0.4.0 (λ b o hv e ws fa. keep ! (1 ∷ 0 ∷ 2 ∷ []) $
-      let w = word E hv b o in let chosen : Val = live 1 (vcons w vnil) in let token_here = token E.al v.alloc (bare (τ E)) (block_ptr b o) in
+      let w = word E hv b o in let chosen : Val = live 1 (vcons w vnil) in let token_here = token E.al v.alloc (bare (τ E))
+      (block_ptr b o) in
       let others : List (Item 𝓤) = ‵ (part_at (R E) full_share v.value b o) ∷ ‵ (handle E v.alloc hv) ∷ [] in
       let Γ : List (Item 𝓤) = ‵ token_here ∷ others in
       let typed = box_typed E hv b o fa in
       let chosen_typed : Good (layout To) chosen = (and_tt _ typed.0, (record { fits = lit< tt }, (typed.1, tt))) in
       by ! (subst (λ (us : List Val). ent 𝓤 (types.Kit.⋆ 𝓛 Γ) (WpFn 𝓤 H 𝓣.C 𝓣.Λ code.function (us ++ []) Post)) (sym ws)
-      (fact_use 𝓤 (Testable (block_ptr b o)) (via 𝓤 (sem 𝓛 token_here) (fst∗ 𝓤 (sem 𝓛 token_here) (types.Kit.⋆ 𝓛 others)) (dealloc_token-Testable 𝓛 v.alloc (bare (τ E)) (block_ptr b o))) (λ may.
+      (fact_use 𝓤 (Testable (block_ptr b o)) (via 𝓤 (sem 𝓛 token_here) (fst∗ 𝓤 (sem 𝓛 token_here) (types.Kit.⋆ 𝓛 others))
+      (dealloc_token-Testable 𝓛 v.alloc (bare (τ E)) (block_ptr b o))) (λ may.
       qed 𝓛 Γ ∵ move ! (1 ∷ 0 ∷ 2 ∷ []) $ box_in E ! v b o v.value e refl $ use1 𝓛 (‵ (Taken.own_val made (w ∷ []))) (id⊢ 𝓤 _) $
       enter ! 𝓣.C 𝓣.Λ code.function (w ∷ []) _ $ alloc_all ! (λ ls. pass_all ! refl (typed, tt) $
-      sets ! (of_opd ! (get_in ! (fld ! refl (stop !)) (sub ! 0 refl (whole !)))) refl (tt, tt) $ sets ! (of_opd ! (get_in ! (fld ! refl (stop !)) (sub ! 1 refl (whole !)))) refl fa $
-      sets ! (bin ! (get ! refl) (lit ! tt) (tests_null (block_ptr b o) may)) refl (tt, tt) $ first ! $ branches ! (get ! refl) (λ wrong. absurd wrong) (λ _.
-      sets ! (of_opd ! (get ! refl)) refl (tt, tt) $ sets ! (agg ! (and_then ! (get ! refl) (and_then ! (get ! refl) (no_more !)))) refl typed $
+      sets ! (of_opd ! (get_in ! (fld ! refl (stop !)) (sub ! 0 refl (whole !)))) refl (tt, tt) $
+      sets ! (of_opd ! (get_in ! (fld ! refl (stop !)) (sub ! 1 refl (whole !)))) refl fa $
+      sets ! (bin ! (get ! refl) (lit ! tt) (tests_null (block_ptr b o) may)) refl (tt, tt) $ first ! $
+      branches ! (get ! refl) (λ wrong. absurd wrong) (λ _.
+      sets ! (of_opd ! (get ! refl)) refl (tt, tt) $
+      sets ! (agg ! (and_then ! (get ! refl) (and_then ! (get ! refl) (no_more !)))) refl typed $
       sets_last ! (agg ! (and_then ! (lit ! tt) (and_then ! (get ! refl) (no_more !)))) refl chosen_typed $
       exec ! 𝓣.C 𝓣.Λ (env code.function.locals ls) (after 4 code.function.body) (at_ret (env code.function.locals ls) Post) $
       sets ! (of_opd ! (get ! refl)) refl chosen_typed $
@@ -115,7 +127,8 @@ module _ {M : Type 1} {𝓤 : Ura M} (𝓛 : Logic 𝓤) (at_mem : Memory → SP
       nothing ! $ nothing ! $ fjoin ! $ join ! $ nothing ! $ join ! $ done !))))))
 
   walk : (z : (walk_of 𝓛 F.ended stayed (F.clauses 𝓛 at_mem run)).Ghost)
-      → ent 𝓤 ((walk_of 𝓛 F.ended stayed (F.clauses 𝓛 at_mem run)).pre z) (WpFn 𝓤 H 𝓣.C 𝓣.Λ code.function (z.0.4.0 ++ []) ((walk_of 𝓛 F.ended stayed (F.clauses 𝓛 at_mem run)).post z))
+      → ent 𝓤 ((walk_of 𝓛 F.ended stayed (F.clauses 𝓛 at_mem run)).pre z)
+      (WpFn 𝓤 H 𝓣.C 𝓣.Λ code.function (z.0.4.0 ++ []) ((walk_of 𝓛 F.ended stayed (F.clauses 𝓛 at_mem run)).post z))
   walk z = at_value z z.0.3.0.value refl
 
 pub into_raw_box_spec : {M : Type 1} → stated.statement M
@@ -123,5 +136,6 @@ unfolding tables_of
 into_raw_box_spec 𝓤 𝓛 𝓜 𝓡 wired =
     let 𝓣 : Tables 𝓤 𝓛.H = tables_of 𝓤 𝓛.H 𝓜 (tables 𝓤 𝓛.H 𝓜 𝓡 𝓡.env) in
     entered 𝓤 𝓛.H (triple_of 𝓛 F.signature (F.spec 𝓛 𝓜.mem 𝓡.returns)) 𝓣.C 𝓣.Λ #self code.function (code.unfolded 𝓤 𝓛.H 𝓜 𝓡 wired)
-    (walk_Meets 𝓛 F.ended stayed (Goes-dropped 𝓛 0 From yes (λ κs x f. refl), tt) (F.clauses 𝓛 𝓜.mem 𝓡.returns) (WpFn 𝓤 𝓛.H 𝓣.C 𝓣.Λ code.function) (WpFn-mono 𝓤 𝓛.H 𝓛.laws 𝓣 code.function)
+    (walk_Meets 𝓛 F.ended stayed (Goes-dropped 𝓛 0 From yes (λ κs x f. refl), tt) (F.clauses 𝓛 𝓜.mem 𝓡.returns)
+    (WpFn 𝓤 𝓛.H 𝓣.C 𝓣.Λ code.function) (WpFn-mono 𝓤 𝓛.H 𝓛.laws 𝓣 code.function)
     (walk 𝓛 𝓜.mem 𝓡.returns 𝓣))

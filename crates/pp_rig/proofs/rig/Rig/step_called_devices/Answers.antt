@@ -5,10 +5,10 @@ use Rattle.pp_rig.proofs.rig.Rig.step_called_devices.Goals as goal
 pub invariant_of-self : goal.invariant_of-self
 invariant_of-self c = let m = machine_of c.self.inside in
     IsMachine-over m _ (parts_writes device_parts m) c.self.invariant
-    ((c.step-back.ensures m).performed.step ∙ sym (over-parts device_parts m)) refl refl
+    ((c.step-back.ensures.steps m).performed.step ∙ sym (over-parts device_parts m)) refl refl
 
 pub returns : goal.returns
-returns c = let stepped = c.step-back.ensures (machine_of c.self.inside) in
+returns c = let stepped = c.step-back.ensures.steps (machine_of c.self.inside) in
     rw (← c.self.view_is) (record {
       performed = stepped.performed;
       fits = λ called. stepped.fits;
