@@ -13,10 +13,11 @@ mod program;
 mod readings;
 mod remote;
 mod running;
+mod systems;
 mod terms;
 
 pub use passes::{assemble, assemble_with};
 pub use pp_source::{Complaint, Deck, Decks, Definition, Line, Lines, Span, Symbol, Symbols, Text};
-pub use pp_statements::{CELLS, Row, Unit};
+pub use pp_statements::{CELLS, Row, SystemRows, Unit};
 pub use program::{Assembly, Performed};
 pub use readings::Reading;

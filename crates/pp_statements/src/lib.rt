@@ -11,6 +11,6 @@ mod values;
 
 pub use directives::{base_of, the_only, wants_operand};
 pub use performing::is_known;
-pub use scope::{CELLS, MOST_STATEMENTS, Row, Scope, count_one, too_many_statements};
+pub use scope::{CELLS, MOST_STATEMENTS, Row, Scope, SystemRows, count_one, too_many_statements};
 pub use units::{Blocks, Unit};
 pub use values::Base;

@@ -7,6 +7,7 @@ use pp_source::{
     Symbols, Wording, are_in_code, text_at,
 };
 use std::alloc::{AllocError, Global};
+use std::mem::replace;
 
 /// The number of cells of a memory.
 pub const CELLS: usize = 4096;
@@ -37,6 +38,12 @@ pub struct Row {
     pub is_performed: bool,
 }
 
+/// What the listing would have of the lines of a system text.
+#[derive(Drop)]
+pub struct SystemRows {
+    pub rows: Vec<Row>,
+}
+
 /// A word of VFD that is not full: its cell, and how many bits are used.
 #[derive(Clone, Copy)]
 pub struct OpenWord {
@@ -59,6 +66,7 @@ pub struct Scope {
     pub cells: Vec<Slot>,
     pub words: Vec<u16>,
     pub rows: Vec<Row>,
+    pub systems: Vec<SystemRows>,
     pub messages: Vec<Message>,
     pub warnings: Vec<Message>,
     /// The cell after words that could not be put; what follows there follows from that fault.
@@ -102,6 +110,7 @@ impl Scope {
             cells,
             words: Vec::new(alloc),
             rows: Vec::new(alloc),
+            systems: Vec::new(alloc),
             messages: Vec::new(alloc),
             warnings: Vec::new(alloc),
             wrong_from: None,
@@ -132,19 +141,19 @@ impl Scope {
         self.has_name = false;
         self.has_ended = false;
         self.has_more = false;
-        self.forget_words();
-        Ok(())
+        self.forget_words()
     }
 
-    /// Forgets the words of a text, and what the listing has of it. It has no warnings.
-    fn forget_words(&mut self) {
+    /// Forgets the words of a system text. The listing has no row of it, and it has no warnings.
+    fn forget_words(&mut self) -> Result<(), AllocError> {
         self.wrong_from = None;
         self.over_from = None;
         self.made = 0;
         self.units.clear();
         self.words.clear();
-        self.rows.clear();
         self.warnings.clear();
+        let rows = replace(&mut self.rows, Vec::new(self.alloc));
+        Ok(self.systems.push(SystemRows { rows })?)
     }
 
     /// Returns whether each name and each block is as in the pass before.
