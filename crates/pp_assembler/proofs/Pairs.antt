@@ -1,6 +1,7 @@
 -- Statements of which each is that of a line.
-use Rattle.std.proofs.Common.{◌≡◌, ◌∙◌, ◌<◌, ℕ, true, List, [], ◌∷◌, ◌++◌, length, get_or, ap, refl, sym}
-use Rattle.std.specs.List.{AllZip, slice_get}
+use Rattle.std.proofs.Common.{◌≡◌, ◌∙◌, ◌<◌, ◌+◌, ℕ, true, IfSome, Option, Some, List, [], ◌∷◌, ◌++◌, length, get_or, ap, refl, subst, sym, take}
+use Rattle.std.proofs.lemmas.List.{take_more}
+use Rattle.std.specs.List.{AllByRecursion, AllZip, slice_get}
 use Rattle.std.proofs.lemmas.Option.{slice_get-get_or}
 use Rattle.pp_meaning.specs.declared.statements.Statement.{Statement}
 use Rattle.pp_decks.specs.declared.lines.Lines.{Lines}
@@ -26,3 +27,24 @@ performed_at lines rows all at row statement same within performed line = record
   same = refl;
   line = line;
 }
+
+pub push_one : {A : Type 0} (P : A → Type 0) (xs : List A) (x : A) → AllByRecursion P xs → P x → AllByRecursion P (xs ++ x ∷ [])
+push_one P [] x all now = (now, tt)
+push_one P (a ∷ xs) x all now = (all.0, push_one P xs x all.1 now)
+
+pub push_taken : {A B : Type 0} (R : A → B → Type 0) (xs : List A) (all ys : List B) (i : ℕ) (x : A) (y d : B) →
+    y ≡ get_or all i d → all ≡ ys → i < length all → AllZip R xs (take i ys) → R x y → AllZip R (xs ++ x ∷ []) (take (i + 1) ys)
+push_taken R xs all ys i x y d is same within before now =
+    subst (λ l. AllZip R (xs ++ x ∷ []) (take (i + 1) l)) same
+    (rw (take_more all i d within)
+    (push_both R xs (take i all) x (get_or all i d) (subst (λ l. AllZip R xs (take i l)) (sym same) before) (subst (λ one. R x one) is now)))
+
+-- the same, of a statement that a row may have
+pub performed_of_row : (lines : Lines) (rows all : List Row) (at : ℕ) (row : Row) (made : Option Statement) (statement : Statement) →
+    IfSome made (λ one. one.line.items ≡ read_at lines (get_or all at row).statement) → made ≡ Some statement → all ≡ rows → at < length all →
+    (get_or all at row).is_performed ≡ true → (index : ℕ) × IsPerformed lines rows statement index
+performed_of_row lines rows all at row made statement right is same within performed = (
+  (get_or all at row).statement,
+  performed_at lines rows all at row statement same within performed
+      (subst (λ one. IfSome one (λ own. own.line.items ≡ read_at lines (get_or all at row).statement)) is right),
+)

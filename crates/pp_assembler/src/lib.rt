@@ -6,11 +6,12 @@ mod naming;
 mod passes;
 mod program;
 mod readings;
+mod systems;
 mod terms;
 
 pub use passes::{assemble, assemble_with};
 pub use pp_decks::{Complaint, Deck, Decks, Line, Lines, Span, Text};
 pub use pp_expansion::Reading;
 pub use pp_source::{Definition, Symbol, Symbols};
-pub use pp_statements::{CELLS, Row, Unit};
+pub use pp_statements::{CELLS, Row, SystemRows, Unit};
 pub use program::{Assembly, Performed};

@@ -1,13 +1,16 @@
 //! The words that `pp_meaning` gives to the statements of a source, if it has the meaning of them all.
 ghost use Rattle.std.specs.Prelude.{◌≡◌, IfOk, IfSome};
-ghost use Rattle.pp_assembler.specs.Meaning.{ArePerformed, IsFound, IsWordsOf, read_at};
+ghost use Rattle.std.specs.List.{AllZip};
+ghost use Rattle.pp_assembler.specs.Meaning.{AreOfSystem, ArePerformedAll, IsFound, IsWordsOf, read_at};
 
 use crate::program::Performed;
+use crate::systems::system_texts;
 use crate::terms::{Names, begins_with_blank, field_of, may_follow, operand_of, text_of_display};
 use pp_decks::{Lines, Span, tail};
 use pp_expansion::Pass;
 use pp_meaning::{
-    Item, Literal, Operand, Operation as Meant, Refusal, Statement, Symbol, encode, program_of,
+    Item, Literal, Operand, Operation as Meant, Refusal, Statement, Symbol, SystemText, encode,
+    program_of,
 };
 use pp_notation::{Cell, Form, Program, form_of};
 use pp_source::{
@@ -38,7 +41,7 @@ pub struct Encoded {
 
 /// What a row of the listing is.
 #[derive(Clone, Copy)]
-enum Part {
+pub enum Part {
     /// A statement with a meaning.
     Kept(Fields, Meant),
     /// What neither makes words nor says how others are meant.
@@ -131,7 +134,7 @@ fn part_of_statement(pass: &Pass, here: &Here, row: &Row, fields: Fields) -> Par
 }
 
 /// Returns what a row is.
-fn part_of(pass: &Pass, lines: &Lines, row: &Row) -> Part {
+pub fn part_of(pass: &Pass, lines: &Lines, row: &Row) -> Part {
     if !row.is_performed || row.statement == NO_STATEMENT {
         return Part::Silent;
     }
@@ -144,17 +147,16 @@ fn part_of(pass: &Pass, lines: &Lines, row: &Row) -> Part {
 }
 
 /// Returns whether a label is a name.
-fn is_name(label: &[u8]) -> bool {
+pub fn is_name(label: &[u8]) -> bool {
     !matches!(label, b"" | b"+" | b"-")
 }
 
-/// Returns what the names of the listing stand for, if each statement has a meaning.
-fn names_of(alloc: Global, lines: &Lines, pass: &Pass) -> Result<Option<Names>, AllocError> {
-    let mut names = Names::new(alloc);
+/// Adds what the names of the listing stand for to those of system texts. Returns whether each statement has a meaning.
+fn add_names(lines: &Lines, pass: &Pass, names: &mut Names) -> Result<bool, AllocError> {
     for row in &pass.scope.output.rows {
         let (fields, operation) = match part_of(pass, lines, row) {
             Part::Silent => continue,
-            Part::Other => return Ok(None),
+            Part::Other => return Ok(false),
             Part::Kept(fields, operation) => (fields, operation),
         };
         let label = lines.part_of(row.statement, fields.location);
@@ -169,11 +171,11 @@ fn names_of(alloc: Global, lines: &Lines, pass: &Pass) -> Result<Option<Names>, 
                     value,
                     matches!(operation, Meant::Set | Meant::Choose(_)),
                 )?,
-                None => return Ok(None),
+                None => return Ok(false),
             }
         }
     }
-    Ok(Some(names))
+    Ok(true)
 }
 
 /// Returns the address of a literal, by the words of the statement that has it as an operand.
@@ -293,7 +295,7 @@ fn variable_of(
 }
 
 /// Returns a statement with the terms of its operands. An operand that says nothing is a part of its comment.
-fn statement_of(
+pub fn statement_of(
     alloc: Global,
     names: &mut Names,
     line: &[u8],
@@ -334,7 +336,7 @@ fn statement_of(
 }
 
 /// Returns the line at an index, as it is read.
-fn read_line(lines: &Lines, index: usize) -> &[u8]
+pub fn read_line(lines: &Lines, index: usize) -> &[u8]
     ensures { result.now ≡ read_at lines.now index }
 {
     match lines.all.get(index) {
@@ -349,8 +351,10 @@ fn statements_of(
     lines: &Lines,
     pass: &Pass,
     names: Names,
+    systems: Vec<SystemText>,
 ) -> Result<Option<Performed>, AllocError>
-    ensures { IfOk result (λ made. IfSome made (λ performed. ArePerformed lines.now pass.now.scope.output.rows.items performed)) }
+    ensures { AllZip (AreOfSystem lines.now) systems.items pass.now.scope.output.systems.items →
+        IfOk result (λ made. IfSome made (ArePerformedAll lines.now pass.now.scope.output.rows.items pass.now.scope.output.systems.items)) }
 {
     let mut names = names;
     let mut statements = Vec::new(alloc);
@@ -378,6 +382,7 @@ fn statements_of(
     Ok(Some(Performed {
         symbols: names.all,
         literals: literals_of(alloc, pass)?,
+        systems,
         statements,
         lines: indices,
     }))
@@ -385,15 +390,17 @@ fn statements_of(
 
 /// Returns the statements that a pass has performed, if nothing is wrong and all have a meaning.
 fn performed_of(alloc: Global, lines: &Lines, pass: &Pass) -> Result<Option<Performed>, AllocError>
-    ensures { IfOk result (λ made. IfSome made (λ performed. ArePerformed lines.now pass.now.scope.output.rows.items performed)) }
+    ensures { IfOk result (λ made. IfSome made (ArePerformedAll lines.now pass.now.scope.output.rows.items pass.now.scope.output.systems.items)) }
 {
     if !pass.scope.output.messages.is_empty() || !pass.vocabulary.synonyms.is_empty() {
         return Ok(None);
     }
-    match names_of(alloc, lines, pass)? {
-        Some(names) => statements_of(alloc, lines, pass, names),
-        None => Ok(None),
+    let mut names = Names::new(alloc);
+    let systems = system_texts(alloc, lines, pass, &mut names)?;
+    if !add_names(lines, pass, &mut names)? {
+        return Ok(None);
     }
+    statements_of(alloc, lines, pass, names, systems)
 }
 
 /// Returns the line of each cell, or 0 of one without a word.
@@ -429,13 +436,14 @@ fn encoding_of(
     alloc: Global,
     symbols: &[Symbol],
     literals: &[Literal],
+    systems: &[SystemText],
     statements: &[Statement],
     lines: &[u32],
     count: usize,
 ) -> Result<(Program, Vec<u16>), Refusal>
-    ensures { IfOk result (λ made. IsWordsOf symbols.now literals.now statements.now made.0 made.1.items) }
+    ensures { IfOk result (λ made. IsWordsOf symbols.now literals.now systems.now statements.now made.0 made.1.items) }
 {
-    let image = encode(alloc, symbols, literals, statements)?;
+    let image = encode(alloc, symbols, literals, systems, statements)?;
     let refusal = Refusal::At(statements.len());
     let Some(program) = program_of(alloc, &image, lines)? else {
         return Err(refusal);
@@ -478,7 +486,7 @@ pub enum Found {
 /// # Errors
 /// Memory ran out.
 pub fn encode_performed(alloc: Global, lines: &Lines, pass: &Pass) -> Result<Found, AllocError>
-    ensures { IfOk result (IsFound lines.now pass.now.scope.output.rows.items) }
+    ensures { IfOk result (IsFound lines.now pass.now.scope.output.rows.items pass.now.scope.output.systems.items) }
 {
     let Some(performed) = performed_of(alloc, lines, pass)? else {
         return Ok(Found::Nothing);
@@ -490,11 +498,12 @@ pub fn encode_performed(alloc: Global, lines: &Lines, pass: &Pass) -> Result<Fou
     let Performed {
         symbols,
         literals,
+        systems,
         statements,
         ..
     } = &performed;
     let count = pass.scope.output.words.len();
-    match encoding_of(alloc, symbols, literals, statements, &cells, count) {
+    match encoding_of(alloc, symbols, literals, systems, statements, &cells, count) {
         Ok((program, words)) => Ok(Found::Words(Encoded {
             performed,
             program,
@@ -503,5 +512,6 @@ pub fn encode_performed(alloc: Global, lines: &Lines, pass: &Pass) -> Result<Fou
         Err(Refusal::NoMemory) => Err(AllocError),
         Err(Refusal::At(index)) if may_be_refused(statements, index) => Ok(Found::Nothing),
         Err(Refusal::At(index)) => Ok(Found::Refused(refused(lines, &performed, index))),
+        Err(Refusal::System) => Ok(Found::Refused(refused(lines, &performed, 0))),
     }
 }

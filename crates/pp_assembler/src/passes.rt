@@ -8,6 +8,7 @@ ghost use Rattle.pp_decks.specs.Decks.{AreOf};
 ghost use Rattle.pp_decks.specs.declared.decks.Text.{Text as DeckText};
 ghost use Rattle.pp_decks.specs.declared.lines.Lines.{Lines as AllLines};
 ghost use Rattle.pp_statements.specs.declared.scope.Row.{Row};
+ghost use Rattle.pp_statements.specs.declared.scope.SystemRows.{SystemRows};
 ghost use Rattle.pp_decks.specs.Places.{IsOfLine, length_of, line_lengths};
 
 use crate::meaning::{Found, encode_performed};
@@ -62,9 +63,7 @@ pub fn assemble_with(alloc: Global, source: &[u8], texts: &[Text]) -> Result<Ass
     let mut pass = last_pass(alloc, &mut lines, &decks)?;
     let readings = readings_of(alloc, &lines, &decks, &mut pass)?;
     let found = encode_performed(alloc, &lines, &pass)?;
-    if let Found::Refused(message) = &found
-        && !has_system(&decks)
-    {
+    if let Found::Refused(message) = &found {
         pass.scope.output.messages.push(*message)?;
     }
     let Pass {
@@ -79,11 +78,6 @@ pub fn assemble_with(alloc: Global, source: &[u8], texts: &[Text]) -> Result<Ass
         vocabulary,
     };
     assembly_of(alloc, read, scope, found, &spans)
-}
-
-/// Returns whether there is a system text.
-fn has_system(decks: &Decks) -> bool {
-    decks.all.iter().any(|deck| deck.is_system())
 }
 
 /// What is known of the lines of a source.
@@ -171,7 +165,7 @@ fn assembly_of(
 ) -> Result<Assembly, AllocError>
     ensures messages { IfOk result (λ made. All (IsOfLine (map length_of spans.now)) made.messages.items) }
     ensures warnings { IfOk result (λ made. All (IsOfLine (map length_of spans.now)) made.warnings.items) }
-    ensures meaning { IsFound read.lines scope.output.rows.items found → IfOk result IsMeant }
+    ensures meaning { IsFound read.lines scope.output.rows.items scope.output.systems.items found → IfOk result IsMeant }
     ensures decks { (texts : List DeckText) → AreOf texts read.decks.all.items →
         AllByRecursion (IsReading read.lines read.decks.all.items) read.readings.items →
         AllByRecursion (IsRead read.lines read.decks.all.items read.vocabulary read.readings.items) scope.output.rows.items →
@@ -203,8 +197,8 @@ fn without_messages(
         AllByRecursion (IsReading read.lines read.decks.all.items) read.readings.items →
         AllByRecursion (IsRead read.lines read.decks.all.items read.vocabulary read.readings.items) scope.output.rows.items →
         IfOk result (AreRead texts) }
-    ensures meaning { IsFound read.lines scope.output.rows.items found →
-        IfOk result (λ made. IfSome made.meaning (AreMeant made.lines made.rows.items made.program made.words.items)) }
+    ensures meaning { IsFound read.lines scope.output.rows.items scope.output.systems.items found →
+        IfOk result (λ made. IfSome made.meaning (AreMeant made.lines made.rows.items made.systems.items made.program made.words.items)) }
 {
     let Scope {
         symbols,
@@ -225,6 +219,7 @@ fn without_messages(
         vocabulary: read.vocabulary,
         words,
         rows: output.rows,
+        systems: output.systems,
         messages: Vec::new(alloc),
         warnings: Vec::new(alloc),
     })
@@ -257,7 +252,8 @@ fn output_of(
     program: Program,
     words: Vec<u16>,
 ) -> (Program, Vec<u16>, Option<Performed>)
-    ensures { (lines : AllLines) (rows : List Row) → IsFound lines rows found → IfSome result.2 (AreMeant lines rows result.0 result.1.items) }
+    ensures { (lines : AllLines) (rows : List Row) (systems : List SystemRows) →
+        IsFound lines rows systems found → IfSome result.2 (AreMeant lines rows systems result.0 result.1.items) }
 {
     match found {
         Found::Words(made) => (made.program, made.words, Some(made.performed)),

@@ -1,10 +1,10 @@
 //! All that is known of a source.
 use pp_decks::{Complaint, Decks, Lines};
 use pp_expansion::Reading;
-use pp_meaning::{Literal, Statement, Symbol};
+use pp_meaning::{Literal, Statement, Symbol, SystemText};
 use pp_notation::Program;
 use pp_source::{Symbols, Vocabulary};
-use pp_statements::{Row, Unit};
+use pp_statements::{Row, SystemRows, Unit};
 
 /// The statements of a source as they are performed, after macros, repetitions, conditions and micros, with the terms of their operands.
 #[derive(Drop)]
@@ -13,6 +13,8 @@ pub struct Performed {
     pub symbols: Vec<Symbol>,
     /// The words that operands name by what they are, in the order in which they are named first.
     pub literals: Vec<Literal>,
+    /// Those of system texts that name numbers.
+    pub systems: Vec<SystemText>,
     pub statements: Vec<Statement>,
     /// The index of the line of each statement.
     pub lines: Vec<usize>,
@@ -38,6 +40,8 @@ pub struct Assembly {
     /// The words of the rows.
     pub words: Vec<u16>,
     pub rows: Vec<Row>,
+    /// The rows of system texts, which the listing has not.
+    pub systems: Vec<SystemRows>,
     /// What is wrong, in the order of the lines.
     pub messages: Vec<Complaint>,
     /// What is to be known, in the order of the lines.

@@ -15,7 +15,9 @@ use std::collections::BTreeMap;
 pub struct Names {
     alloc: Global,
     pub all: Vec<Symbol>,
-    /// The index of the symbol that a name means now, by the name as a number.
+    /// The index of the last symbol of a name, by the name as a number.
+    last: BTreeMap<u64, usize>,
+    /// The index of the symbol that a name means now, if it means one.
     present: BTreeMap<u64, usize>,
     /// How many statements that define names have been read anew.
     defined: usize,
@@ -35,18 +37,22 @@ impl Names {
         Names {
             alloc,
             all: Vec::new(alloc),
+            last: BTreeMap::new(alloc),
             present: BTreeMap::new(alloc),
             defined: 0,
         }
     }
 
-    /// Adds what a name stands for.
+    /// Adds what a name stands for, in each statement if it is none of SET.
     pub fn add(&mut self, name: &[u8], value: i64, is_set: bool) -> Result<(), AllocError> {
         let index = self.all.len();
-        if let Some(before) = self.present.insert(number_of_name(name), index)?
+        if let Some(before) = self.last.insert(number_of_name(name), index)?
             && let Some(symbol) = self.all.get_mut(before)
         {
             symbol.next = index;
+        }
+        if !is_set {
+            self.present.insert(number_of_name(name), index)?;
         }
         let name = Vec::from_slice(self.alloc, name)?;
         Ok(
@@ -72,6 +78,19 @@ impl Names {
                 Label::Named(index)
             }
         })
+    }
+
+    /// Returns whether a name may have one more symbol: if it has none, or if SET makes each.
+    pub fn may_add(&self, name: &[u8], is_set: bool) -> bool {
+        match self.last.get(&number_of_name(name)) {
+            Some(index) => is_set && self.all.get(*index).is_some_and(|symbol| symbol.is_set),
+            None => true,
+        }
+    }
+
+    /// Forgets what a name stands for.
+    pub fn forget(&mut self, name: &[u8]) {
+        self.present.remove(&number_of_name(name));
     }
 
     fn index_of(&self, name: &[u8]) -> Option<usize> {

@@ -1,6 +1,6 @@
 -- How statements are written. A line is a label, an operation, operands and a comment, with blanks between two.
 use Rattle.std.specs.Prelude.{◌≡◌, ◌+◌, ◌==◌, ◌&&◌, ◌||◌, not, ℕ, Bool, true, false, length, take, drop, Option, Some, None, List, [], ◌∷◌, ◌++◌, codes, map, slice_get, if◌then◌else◌}
-use Rattle.std.specs.List.{flat_map, list_all}
+use Rattle.std.specs.List.{AllByRecursion, flat_map, list_all}
 use Rattle.pp_notation.specs.DisplayCode.{symbol}
 use Rattle.pp_notation.specs.Mnemonics.{mnemonic}
 use Rattle.pp_meaning.specs.Numbers.{decimal_number}
@@ -30,6 +30,7 @@ use Rattle.pp_meaning.specs.declared.statements.Label.TheVariants.{Empty, Plus, 
 use Rattle.pp_meaning.specs.declared.statements.Operation.{Operation}
 use Rattle.pp_meaning.specs.declared.statements.Operation.TheVariants.{Blank, Instruction, Constants, Data, Zeros, Space, Origin, Location, Equate, Set, Choose, SetBase, Deck, Display, Bits, Position, Shortest, Pool, End}
 use Rattle.pp_meaning.specs.declared.statements.Statement.{Statement}
+use Rattle.pp_meaning.specs.declared.statements.SystemText.{SystemText}
 use Rattle.pp_meaning.specs.declared.texts.Cut.{Cut}
 use Rattle.pp_meaning.specs.declared.texts.Cut.TheVariants.{Counted, Marked}
 use Rattle.pp_meaning.specs.declared.texts.Kind.{Kind}
@@ -201,3 +202,7 @@ is_cut symbols statement =
 pub record IsWritten (symbols : List Symbol) (statement : Statement) : Type 0 where
   pub line : statement.line.items ≡ line_text symbols statement
   pub cut : is_cut symbols statement ≡ true
+
+-- So have the lines of the statements of a system text.
+abbrev pub AreWritten : List Symbol → SystemText → Type 0
+AreWritten symbols text = AllByRecursion (IsWritten symbols) text.statements.items

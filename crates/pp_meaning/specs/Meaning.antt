@@ -23,13 +23,14 @@ use Rattle.pp_meaning.specs.declared.expressions.Place.{Place}
 use Rattle.pp_meaning.specs.declared.expressions.Symbol.{Symbol}
 use Rattle.pp_meaning.specs.declared.expressions.Term.{Term}
 use Rattle.pp_meaning.specs.declared.instruction.Words.{Words}
-use Rattle.pp_meaning.specs.declared.statements.Image.{Image}
+use Rattle.pp_meaning.specs.declared.assembled.Image.{Image}
 use Rattle.pp_meaning.specs.declared.statements.Label.{Label}
 use Rattle.pp_meaning.specs.declared.statements.Label.TheVariants.{Empty, Minus, Named}
 use Rattle.pp_meaning.specs.declared.statements.Operation.{Operation}
 use Rattle.pp_meaning.specs.declared.statements.Operation.TheVariants.{Blank, Instruction, Constants, Data, Zeros, Space, Origin, Location, Equate, Set, Choose, SetBase, Deck, Display, Bits, Position, Shortest, Pool, End}
 use Rattle.pp_meaning.specs.declared.statements.State.{State}
 use Rattle.pp_meaning.specs.declared.statements.Statement.{Statement}
+use Rattle.pp_meaning.specs.declared.statements.SystemText.{SystemText}
 
 -- ---- the words of a statement
 
@@ -363,11 +364,24 @@ with_literals literals (Some s) =
 abbrev pub first : Standing
 first = record { location = 0; origin = 0; base = None; defined = 0; literals = 0; reach = 0; memory = replicate 0o10000 None; words = []; used = 0; start = None }
 
-abbrev pub performed : List Symbol → List Literal → List Statement → Option Standing
-performed symbols literals statements = fold (follow symbols literals) (Some first) statements
+-- A system text leaves its symbols, and nothing else.
+abbrev pub symbols_alone : Option Standing → Option Standing
+symbols_alone None = None
+symbols_alone (Some s) = Some (record first { defined = s.defined })
 
-abbrev pub assembled : List Symbol → List Literal → List Statement → Option Standing
-assembled symbols literals statements = with_literals literals (performed symbols literals statements)
+-- A system text has no literals.
+abbrev pub with_system : List Symbol → Option Standing → SystemText → Option Standing
+with_system symbols before text = symbols_alone (fold (follow symbols []) before text.statements.items)
+
+-- What there is before a source: the symbols of its system texts.
+abbrev pub begun : List Symbol → List SystemText → Option Standing
+begun symbols systems = fold (with_system symbols) (Some first) systems
+
+abbrev pub performed : List Symbol → List Literal → List SystemText → List Statement → Option Standing
+performed symbols literals systems statements = fold (follow symbols literals) (begun symbols systems) statements
+
+abbrev pub assembled : List Symbol → List Literal → List SystemText → List Statement → Option Standing
+assembled symbols literals systems statements = with_literals literals (performed symbols literals systems statements)
 
 abbrev pub standing : State → Standing
 standing s = record {
@@ -383,10 +397,10 @@ standing s = record {
   start = s.start;
 }
 
--- The words are what the statements say, and each symbol is defined by one of them.
-pub record IsAssembled (symbols : List Symbol) (literals : List Literal) (statements : List Statement) (image : Image) : Type 0 where
+-- The words are what the statements say, and each symbol is defined by one of them, or by one of a system text.
+pub record IsAssembled (symbols : List Symbol) (literals : List Literal) (systems : List SystemText) (statements : List Statement) (image : Image) : Type 0 where
   pub after : Standing
-  pub right : assembled symbols literals statements ≡ Some after
+  pub right : assembled symbols literals systems statements ≡ Some after
   pub memory : after.memory ≡ image.memory.items
   pub words : after.words ≡ image.words.items
   pub start : after.start ≡ image.start

@@ -2,7 +2,7 @@
 ghost use Rattle.std.specs.Prelude.{◌≡◌, ◌∷◌, ◌++◌, [], codes, slice_get, IfOk, IfSome, IsTrue, OnOk, ◌&&◌, ◌==◌, ◌||◌, not, length, map, take, ◌+◌, true};
 ghost use Rattle.std.specs.List.{AllByRecursion, flat_map, list_all};
 ghost use Rattle.pp_meaning.specs.declared.statements.Operation.TheVariants.{Instruction};
-ghost use Rattle.pp_meaning.specs.Lines.{IsWritten, atom_text, base_name, begins_blank, external_letter, factor_text, follows_text, is_blank, is_comment, is_cut, is_gap, is_margin, is_wide, item_text, kind_letter, label_text, letter, line_text, operand_text, operands_text, operation_name, sign_text, sum_text, symbol_name, term_text, variable, width_text};
+ghost use Rattle.pp_meaning.specs.Lines.{AreWritten, IsWritten, atom_text, base_name, begins_blank, external_letter, factor_text, follows_text, is_blank, is_comment, is_cut, is_gap, is_margin, is_wide, item_text, kind_letter, label_text, letter, line_text, operand_text, operands_text, operation_name, sign_text, sum_text, symbol_name, term_text, variable, width_text};
 ghost use Rattle.pp_notation.specs.DisplayCode.{symbol};
 ghost use Rattle.pp_meaning.specs.Numbers.{decimal_number};
 ghost use Rattle.pp_meaning.specs.Texts.{has_all, text_with};
@@ -11,7 +11,7 @@ use crate::expressions::{
     Atom, Base, Expression, Factor, Item, Linkage, Operand, Radix, Sign, Symbol, Term, Width,
 };
 use crate::numbers::decimal_value;
-use crate::statements::{Label, Operation, Refusal, Statement};
+use crate::statements::{Label, Operation, Refusal, Statement, SystemText};
 use crate::texts::{Cut, Kind, Text, put_codes, put_text};
 use pp_notation::name_of;
 use std::alloc::{AllocError, Global};
@@ -501,6 +501,21 @@ pub fn are_written(
             return Err(Refusal::At(index));
         }
         index = index.saturating_add(1);
+    }
+    Ok(())
+}
+
+/// Returns that the statements of system texts are written so.
+///
+/// # Errors
+/// Memory ran out, or a statement is not.
+pub fn all_written(alloc: Global, symbols: &[Symbol], systems: &[SystemText]) -> Result<(), Refusal>
+    ensures { OnOk result (AllByRecursion (AreWritten symbols.now) systems.now) }
+{
+    for text in systems {
+        if let Err(refusal) = are_written(alloc, symbols, &text.statements) {
+            return Err(refusal.of_system());
+        }
     }
     Ok(())
 }

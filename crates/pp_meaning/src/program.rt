@@ -3,7 +3,8 @@ ghost use Rattle.std.specs.Prelude.{◌≡◌, ◌<◌, IfOk, IfSome, length, ma
 ghost use Rattle.pp_notation.specs.Cells.{IsProgram, IsStart};
 ghost use Rattle.pp_meaning.specs.Cells.{addressed, filled};
 
-use crate::statements::{CELLS, Image};
+use crate::assembled::Image;
+use crate::statements::CELLS;
 use pp_notation::{Cell, Program};
 use std::alloc::{AllocError, Global};
 

@@ -1,10 +1,10 @@
 //! Statements, and what they do.
-ghost use Rattle.std.specs.Prelude.{◌≡◌, ℕ, List, ◌∷◌, ◌++◌, ◌+◌, ◌-◌, ◌≤◌, ◌==◌, IfOk, IfSome, OnOk, Some, None, [], pos, fold, if◌then◌else◌, length, not, replicate, slice_get, true};
+ghost use Rattle.std.specs.Prelude.{◌≡◌, ℕ, List, ◌∷◌, ◌++◌, ◌+◌, ◌-◌, ◌≤◌, ◌==◌, IfOk, IfSome, OnOk, Some, None, [], pos, fold, if◌then◌else◌, length, not, slice_get, true};
 ghost use Rattle.pp_meaning.specs.Bits.{with_bits};
 ghost use Rattle.pp_meaning.specs.Expressions.{address, chosen, value_above};
 ghost use Rattle.pp_meaning.specs.Fields.{item_field};
 ghost use Rattle.pp_meaning.specs.Literals.{index_of};
-ghost use Rattle.pp_meaning.specs.Meaning.{IsAssembled, after, assembled, at, bits_before, cells_on, constant, constants, data_words, datum, define, deck_base, ended, follow, goes_on, is_number, is_something, is_symbol, labelled, moved, naming, opened, performed, put_bits, place_of, reached, standing, store, then_bits, then_position, then_words, with_all_literals, with_constant, with_datum, with_literal, with_literals, with_pool, without_last, with_words, words_in, words_of, zeros};
+ghost use Rattle.pp_meaning.specs.Meaning.{after, at, bits_before, cells_on, constant, constants, data_words, datum, define, deck_base, ended, follow, goes_on, is_number, is_something, is_symbol, labelled, moved, naming, opened, put_bits, place_of, reached, standing, store, then_bits, then_position, then_words, with_all_literals, with_constant, with_datum, with_literal, with_literals, with_pool, without_last, with_words, words_in, words_of, zeros};
 ghost use Rattle.pp_meaning.specs.declared.statements.Label.TheVariants.{Empty};
 ghost use Rattle.pp_meaning.specs.declared.statements.Operation.TheVariants.{Bits, Deck, End, Location, Origin, Pool, Position, Space};
 
@@ -31,6 +31,18 @@ pub enum Refusal {
     NoMemory,
     /// The statement at an index is not right. The symbols and the end of the source are behind the last one.
     At(usize),
+    /// A statement of a system text is not right.
+    System,
+}
+
+impl Refusal {
+    /// Returns why a system text is refused.
+    pub fn of_system(self) -> Self {
+        match self {
+            Refusal::At(_) => Refusal::System,
+            refusal => refusal,
+        }
+    }
 }
 
 impl From<AllocError> for Refusal {
@@ -119,6 +131,12 @@ pub struct Statement {
     pub comment: Vec<u8>,
 }
 
+/// The statements of a system text.
+#[derive(Drop)]
+pub struct SystemText {
+    pub statements: Vec<Statement>,
+}
+
 /// What there is so far.
 #[derive(Drop)]
 pub struct State {
@@ -132,14 +150,6 @@ pub struct State {
     pub words: Vec<u32>,
     /// How many bits of the last word are used, if VFD has not filled it, or 0.
     pub used: usize,
-    pub start: Option<u32>,
-}
-
-/// What statements make: a word or none for each cell, the words in the order of their statements, and where a processor begins.
-#[derive(Drop)]
-pub struct Image {
-    pub memory: Vec<Option<u32>>,
-    pub words: Vec<u32>,
     pub start: Option<u32>,
 }
 
@@ -935,7 +945,7 @@ impl State {
     }
 
     /// Does what a statement says, and notes its literals.
-    fn follow(
+    pub fn follow(
         &mut self,
         alloc: Global,
         symbols: &[Symbol],
@@ -967,7 +977,7 @@ impl State {
     }
 
     /// Puts the literals behind the highest cell.
-    fn put_literals(
+    pub fn put_literals(
         &mut self,
         alloc: Global,
         literals: &[Literal],
@@ -984,83 +994,4 @@ impl State {
         self.origin = self.reach;
         self.put_words(&words)
     }
-}
-
-/// Returns a memory without words.
-fn empty_memory(alloc: Global) -> Result<Vec<Option<u32>>, AllocError>
-    ensures { IfOk result (λ memory. memory.items ≡ replicate 0o10000 None) }
-{
-    let mut memory = Vec::new(alloc);
-    for _count in 0..CELLS {
-        memory.push(None)?;
-    }
-    Ok(memory)
-}
-
-/// Returns what there is after statements.
-fn perform_all(
-    alloc: Global,
-    symbols: &[Symbol],
-    literals: &[Literal],
-    statements: &[Statement],
-) -> Result<State, Refusal>
-    ensures { IfOk result (λ state. performed symbols.now literals.now statements.now ≡ Some (standing state)) }
-{
-    let memory = empty_memory(alloc)?;
-    let mut state = State {
-        location: 0,
-        origin: 0,
-        base: None,
-        defined: 0,
-        literals: 0,
-        reach: 0,
-        memory,
-        words: Vec::new(alloc),
-        used: 0,
-        start: None,
-    };
-    let mut index: usize = 0;
-    for statement in statements {
-        if state.follow(alloc, symbols, literals, statement)?.is_none() {
-            return Err(Refusal::At(index));
-        }
-        index = index.saturating_add(1);
-    }
-    Ok(state)
-}
-
-/// Returns what there is after statements and literals.
-fn assemble_all(
-    alloc: Global,
-    symbols: &[Symbol],
-    literals: &[Literal],
-    statements: &[Statement],
-) -> Result<State, Refusal>
-    ensures { IfOk result (λ state. assembled symbols.now literals.now statements.now ≡ Some (standing state)) }
-{
-    let mut state = perform_all(alloc, symbols, literals, statements)?;
-    match state.put_literals(alloc, literals)? {
-        Some(()) => Ok(state),
-        None => Err(Refusal::At(statements.len())),
-    }
-}
-
-/// Returns what statements make.
-pub fn image_of(
-    alloc: Global,
-    symbols: &[Symbol],
-    literals: &[Literal],
-    statements: &[Statement],
-) -> Result<Image, Refusal>
-    ensures { IfOk result (λ image. IsAssembled symbols.now literals.now statements.now image) }
-{
-    let state = assemble_all(alloc, symbols, literals, statements)?;
-    if state.defined != symbols.len() {
-        return Err(Refusal::At(statements.len()));
-    }
-    Ok(Image {
-        memory: state.memory,
-        words: state.words,
-        start: state.start,
-    })
 }

@@ -7,6 +7,7 @@ use pp_source::{
     Symbols, Wording, are_in_code, text_at,
 };
 use std::alloc::{AllocError, Global};
+use std::mem::replace;
 
 /// The number of cells of a memory.
 pub const CELLS: usize = 4096;
@@ -37,6 +38,12 @@ pub struct Row {
     pub is_performed: bool,
 }
 
+/// What the listing would have of the lines of a system text.
+#[derive(Drop)]
+pub struct SystemRows {
+    pub rows: Vec<Row>,
+}
+
 /// A word of VFD that is not full: its cell, and how many bits are used.
 #[derive(Clone, Copy)]
 pub struct OpenWord {
@@ -64,6 +71,8 @@ pub struct Output {
     pub cells: Vec<Slot>,
     pub words: Vec<u16>,
     pub rows: Vec<Row>,
+    /// The rows of system texts, which the listing has not.
+    pub systems: Vec<SystemRows>,
     pub messages: Vec<Message>,
     pub warnings: Vec<Message>,
     /// The cell after words that could not be put; what follows there follows from that fault.
@@ -118,6 +127,7 @@ impl Output {
             cells: vec![in alloc; Slot::default(); CELLS]?,
             words: Vec::new(alloc),
             rows: Vec::new(alloc),
+            systems: Vec::new(alloc),
             messages: Vec::new(alloc),
             warnings: Vec::new(alloc),
             wrong_from: None,
@@ -127,14 +137,15 @@ impl Output {
         })
     }
 
-    /// Forgets the words of a text, and what the listing has of it. It has no warnings.
-    fn forget_words(&mut self) {
+    /// Forgets the words of a system text. The listing has no row of it, and it has no warnings.
+    fn forget_words(&mut self, alloc: Global) -> Result<(), AllocError> {
         self.wrong_from = None;
         self.over_from = None;
         self.made = 0;
         self.words.clear();
-        self.rows.clear();
         self.warnings.clear();
+        let rows = replace(&mut self.rows, Vec::new(alloc));
+        Ok(self.systems.push(SystemRows { rows })?)
     }
 }
 
@@ -184,8 +195,7 @@ impl Scope {
         self.programs.has_ended = false;
         self.programs.has_more = false;
         self.programs.ended.clear();
-        self.output.forget_words();
-        Ok(())
+        self.output.forget_words(self.alloc)
     }
 
     /// Returns whether each name and each block is as in the pass before.

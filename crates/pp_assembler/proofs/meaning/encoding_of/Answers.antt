@@ -6,6 +6,7 @@ returns-in-Some-2 c = record {
   image = c.in_ok-image.image;
   assembled = c.in_ok-image.ensures.words;
   written = c.in_ok-image.ensures.lines;
+  systems_written = c.in_ok-image.ensures.systems;
   names = c.in_ok-image.ensures.names;
   cells = search rules;
   start = search rules;

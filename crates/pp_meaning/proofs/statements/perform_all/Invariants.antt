@@ -1,6 +1,0 @@
-use Rattle.std.proofs.Common.{◌≡◌, drop, fold, Some}
-use Rattle.pp_meaning.specs.Meaning.{follow, performed, standing}
-use Rattle.pp_meaning.proofs.statements.perform_all.Given as goal
-
-abbrev pub invariant-loop-statement : goal.invariant-loop-statement
-invariant-loop-statement l = fold (follow l.symbols l.literals) (Some (standing l.state)) (drop l.statement-index l.statements) ≡ performed l.symbols l.literals l.statements
