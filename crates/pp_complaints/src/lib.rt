@@ -1,9 +1,9 @@
 //! What is wrong with a source: the texts of messages.
 #![tactic(auto)]
 
-mod complaints;
 mod nearest;
+mod texts;
 mod wording;
 
-pub use complaints::complaints;
+pub use texts::complaints;
 pub use wording::Known;
