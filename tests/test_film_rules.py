@@ -9,7 +9,7 @@ import unittest
 
 from tests import firefox
 from tests.films import FilmCase, PageCase, class_page, shown_film
-from tests.support import TOP, read, run, write
+from tests.support import TOP, add_tests, read, run, write
 
 COUNTER = "SET M 0 100 1405 3420 300\nSET P 0 100\nSTEP 100\n"  # LDN 5, STD 20, UJN 0
 MOMENTS = 12  # at which numbers are compared
@@ -201,17 +201,11 @@ class BadSurroundings(PageCase):
                     self.open_in(write(self.path(f"{name}-{part}.html"), damaged))
                     self.assert_fault("it is damaged: a part of it is missing")
 
-    def test_no_workers(self):
-        self.open_in(self.film(script=COUNTER), "Object.defineProperty(window, 'Worker', { value: undefined })")
-        self.assert_fault("this browser has no workers")
-
-    def test_too_old(self):
-        self.open_in(self.film(script=COUNTER), "Object.defineProperty(window, 'DecompressionStream', { value: undefined })")
-        self.assert_fault("this browser is too old, one of 2023 or later can")
-
-    def test_no_webassembly(self):
-        self.open_in(self.film(script=COUNTER), "WebAssembly.instantiate = () => { throw new Error('it is switched off'); }")
-        self.assert_fault("this browser does not run the simulator, which is WebAssembly: it is switched off")
+    def check(self, row):
+        """A browser without something that the page needs."""
+        script, reason = row
+        self.open_in(self.film(script=COUNTER), script)
+        self.assert_fault(reason)
 
     def test_a_worker_that_never_answers(self):
         self.open_in(self.film(script=COUNTER), "{ const later = setTimeout; window.setTimeout = (act, time, ...more) => later(act, time === 20000 ? 20 : time, ...more); "
@@ -241,6 +235,13 @@ class BadSurroundings(PageCase):
         self.assertEqual(0o102, self.value("page.store.state.film.count - 1"))
         self.open_in(f"{path}#{link[:-12]}")
         self.assert_fault("the link is cut short: its script can't be read")
+
+
+add_tests(BadSurroundings, BadSurroundings.check, {
+    "no_workers": ("Object.defineProperty(window, 'Worker', { value: undefined })", "this browser has no workers"),
+    "too_old": ("Object.defineProperty(window, 'DecompressionStream', { value: undefined })", "this browser is too old, one of 2023 or later can"),
+    "no_webassembly": ("WebAssembly.instantiate = () => { throw new Error('it is switched off'); }",
+                       "this browser does not run the simulator, which is WebAssembly: it is switched off")}.items())
 
 
 class Solve(PageCase):
