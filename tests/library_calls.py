@@ -18,9 +18,10 @@ from tests.support import PROVED, read
 from pp6600.engine import interface
 from pp6600.engine.interface import Form
 from pp6600.engine.library import Made, turns_of
+from pp6600.engine.origins import Origins
 from pp6600.engine.plain import places
 from pp6600.engine.plain.instructions import CODES
-from pp6600.engine.plain_engine import PlainEngine
+from pp6600.engine.plain_engine import PlainEngine, flat_place
 
 DONE, ROOM, WATCHED, CLOSED, OPEN, NO_MEMORY, REFUSED, LIMIT, NOT_FOUND = range(9)
 CENTRAL = 32768
@@ -115,6 +116,22 @@ NO_CONDITIONS = (
                                (interface.CHANGES, PLACES + 1), (interface.WRITES, 0, 2 ** 63), (interface.PERFORMS, 10),
                                (interface.PERFORMS, 0, 0o10000), (interface.WAITS, 10), (interface.WAITS, 2 ** 32 - 1))),
     [Form(interface.OR)] * 64, [Form(interface.INSIDE, 0)] * 9)
+
+
+def last_write(model, first, count):
+    """Returns the newest action of a session that wrote one of some places: how many are newer, and its origins; those of another action
+    than a turn are not known, and its processor is 10. Returns None if there is none."""
+    history, ahead, wanted = model.machine.history, model.machine.ahead, range(first, first + count)
+    newer = next((newer for newer, record in enumerate(reversed(history)) if any(flat_place(place) in wanted for place in record)), None)
+    if newer is None or places.SLOT not in history[-1 - newer] or len(history[-1 - newer]) > MOST_TURN_LINKS:
+        return None if newer is None else (newer, Origins(10, 0, 0, 0, []))
+    model.back(newer + 1)
+    kept = list(ahead)
+    (turn,), _ = model.origins(1)
+    model.back(1)
+    ahead[:] = kept
+    model.forward(newer + 1)
+    return newer, turn._replace(control=())
 
 
 class Sequence:
@@ -411,7 +428,7 @@ class Sequence:
         status = self.native.call("last_write", handle, ("u32", first), ("u32", count), newer, turn, links, size(room))
         if self.is_closed(handle, status, *outs):
             return
-        wanted = self.models[handle].last_write(first, count) if first + count <= PLACES and room >= MOST_TURN_LINKS else None
+        wanted = last_write(self.models[handle], first, count) if first + count <= PLACES and room >= MOST_TURN_LINKS else None
         assert status == (DONE if wanted else REFUSED if first + count > PLACES else ROOM if room < MOST_TURN_LINKS else NOT_FOUND)
         if wanted:
             found = next(turns_of([Made.from_buffer_copy(turn.new)], links.new))

@@ -13,7 +13,7 @@ from .support import TOP, Case, add_tests, blocks, names_of_codes, needs_library
 
 from pp6600.language.assembling import deck, panel
 from pp6600.language.decks import texts_of
-from pp6600.language.given import Given
+from pp6600.language.symbol_options import Given
 from pp6600.language.listing import ListingSymbols
 from pp6600.language.program import LOCAL, assembled
 

@@ -63,12 +63,10 @@ class Package(Case):
             self.assertNotIn("the values of options", text)
 
     def test_imports(self):
-        """No command is imported by another module, and a run imports no front end."""
+        """No command is imported by another module. tests/test_rooms.py has which rooms import which."""
         for path in glob.glob(os.path.join(TOOLS, "pp6600", "**", "*.py"), recursive=True):
             text, below = read(path), os.path.relpath(path, os.path.join(TOOLS, "pp6600"))
             with self.subTest(below):
                 self.assertEqual([], re.findall(r"^from \.*commands\S* import .*", text, re.M))
                 if below.startswith("front/commands"):
                     self.assertEqual([], [name for name in re.findall(r"^from \.(\w+) import", text, re.M) if name in COMMANDS])
-                if below.startswith("run"):
-                    self.assertEqual([], re.findall(r"^from \.\.(?:convert|front)\S* import .*", text, re.M))

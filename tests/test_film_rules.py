@@ -9,7 +9,7 @@ import unittest
 
 from tests import firefox
 from tests.films import FilmCase, PageCase, class_page, shown_film
-from tests.support import TOP, read, run, write
+from tests.support import TOP, add_tests, read, run, write
 
 COUNTER = "SET M 0 100 1405 3420 300\nSET P 0 100\nSTEP 100\n"  # LDN 5, STD 20, UJN 0
 MOMENTS = 12  # at which numbers are compared
@@ -201,17 +201,11 @@ class BadSurroundings(PageCase):
                     self.open_in(write(self.path(f"{name}-{part}.html"), damaged))
                     self.assert_fault("it is damaged: a part of it is missing")
 
-    def test_no_workers(self):
-        self.open_in(self.film(script=COUNTER), "Object.defineProperty(window, 'Worker', { value: undefined })")
-        self.assert_fault("this browser has no workers")
-
-    def test_too_old(self):
-        self.open_in(self.film(script=COUNTER), "Object.defineProperty(window, 'DecompressionStream', { value: undefined })")
-        self.assert_fault("this browser is too old, one of 2023 or later can")
-
-    def test_no_webassembly(self):
-        self.open_in(self.film(script=COUNTER), "WebAssembly.instantiate = () => { throw new Error('it is switched off'); }")
-        self.assert_fault("this browser does not run the simulator, which is WebAssembly: it is switched off")
+    def check(self, row):
+        """A browser without something that the page needs."""
+        script, reason = row
+        self.open_in(self.film(script=COUNTER), script)
+        self.assert_fault(reason)
 
     def test_a_worker_that_never_answers(self):
         self.open_in(self.film(script=COUNTER), "{ const later = setTimeout; window.setTimeout = (act, time, ...more) => later(act, time === 20000 ? 20 : time, ...more); "
@@ -243,10 +237,15 @@ class BadSurroundings(PageCase):
         self.assert_fault("the link is cut short: its script can't be read")
 
 
-class Solve(PageCase):
-    """The page of a class: an exercise is solved by a source that is typed; each has its own session and draft; Check says its turn."""
+add_tests(BadSurroundings, BadSurroundings.check, {
+    "no_workers": ("Object.defineProperty(window, 'Worker', { value: undefined })", "this browser has no workers"),
+    "too_old": ("Object.defineProperty(window, 'DecompressionStream', { value: undefined })", "this browser is too old, one of 2023 or later can"),
+    "no_webassembly": ("WebAssembly.instantiate = () => { throw new Error('it is switched off'); }",
+                       "this browser does not run the simulator, which is WebAssembly: it is switched off")}.items())
 
-    SOURCE = "          BASE   OCTAL\n          ORG    100\n START    LDD    20\n          ADD    21\n          STD    22\n          UJN    *\n          END    START\n"
+
+class Solve(PageCase):
+    """The page of a class, beside its blocks in tests/film.txt."""
 
     def js(self, text):
         return self.value(f"(async () => {{ {BEGIN} {text} }})()")
@@ -257,29 +256,6 @@ class Solve(PageCase):
             with self.subTest(name):
                 run("exercises/hand-out", self.path(name), env={"PP6600": ""})  # with the programs of every machine, as in a checkout
                 self.assertAlmostEqual(float(size), os.path.getsize(self.path(name)) / 1e6, delta=0.1 * float(size))
-
-    def test_solve(self):
-        path = class_page()
-        self.browser.open(path)
-        solved = self.js(f"""editor.edit({json.dumps(self.SOURCE)}); await editor.load(); await exercises.check(); const at = store.state.checked;
-          moves.moveTo(0); await exercises.check(); const before = store.state.checked;
-          return [at.wrong.length, at.turn, before.wrong[0], store.state.solved]""")
-        self.assertEqual([0, 0, {"wanted": "0022 5555", "found": "0022 0000"}, {"first-program": True}], solved)
-        there = self.js("""moves.moveTo(store.state.film.last); await session.type(['STEP 100']); await exercises.goTo("exchange"); await session.type(["STEP 5"]);
-          const other = [store.state.exercise, turn(), store.state.editor.text.includes("LDD")]; await exercises.goTo("first-program");
-          return [other, store.state.exercise, turn(), store.state.editor.text.includes("LDD"), store.state.film.sources.get(0).name,
-            [...document.querySelectorAll(".list .solved")].length]""")
-        self.assertEqual([["exchange", "5", False], "first-program", "100", True, "typed", 1], there)
-        self.browser.open(path)
-        again = self.js("await idle(); return [store.state.exercise, turn(), store.state.editor.text.includes('LDD'), Object.keys(store.state.solved)]")
-        self.assertEqual(["first-program", "100", True, ["first-program"]], again)
-
-    def test_an_untouched_session_is_not_kept(self):
-        """Else it would be the latest, in the place of one in which something was done."""
-        self.browser.open(class_page())
-        self.assertEqual([0, 1], self.js("""const count = () => Object.keys(localStorage).filter((key) => key.includes(" session ")).length;
-          await exercises.goTo("exchange"); await exercises.goTo("first-program"); const before = count();
-          await session.type(["STEP 1"]); await exercises.goTo("exchange"); return [before, count()]"""))
 
     def test_tasks_need_no_shell(self):
         self.browser.open(class_page())
@@ -315,17 +291,3 @@ class Solve(PageCase):
         os.rename(self.saved("exchange.html"), self.path("given", "hopper.html"))
         done = run("exercises/grade", self.path("given"))
         self.assertEqual(["ada      +  .  .  .  .  .  .  .       1", "grace    +  .  .  .  .  .  .  .       1", "hopper   +  .  .  .  -  .  .  .       1"], done.out.splitlines()[1:4])
-
-    def test_a_panel(self):
-        """In exercise 7 the answer is the panel."""
-        self.browser.open(class_page())
-        panel = read("exercises", "dead-start-from-cards", "solution", "panel")
-        found = self.js(f"""await exercises.goTo("dead-start-from-cards"); store.change({{ panelText: {json.dumps(panel)} }}); await exercises.again(); await exercises.check();
-          const right = store.state.checked.wrong.length; store.change({{ panelText: "1 2 3" }}); await exercises.again(); return [right, store.state.said.text, names()]""")
-        self.assertEqual([0, "a panel is twelve words of four octal digits", ["dead-start-from-cards", "begun again"]], found)
-
-    def test_a_dropped_answer_on_the_projector(self):
-        self.browser.open(class_page())
-        found = self.js("""hands.look("projector"); await idle(); await sharing.takeFiles([new File(["* EXERCISE exchange\\nSTEP 3\\n"], "ada.txt")], false); await idle();
-          return [store.state.look, store.state.exercise, turn(), document.querySelector(".projected").textContent.slice(0, 9)]""")
-        self.assertEqual(["projector", "exchange", "3", "Exchange."], found)

@@ -48,21 +48,6 @@ class AtTerminal(Case):
         done = subprocess.run([os.path.join(folder, b"pp6600")], input=b"STEP 12\n", capture_output=True, check=False)
         self.assertEqual((b"TURNS 12 SLOT 00\n", b""), (done.stdout, done.stderr))
 
-    def test_without_a_command(self):
-        """What is missing is named, and bash knows its machine without uname."""
-        os.remove(self.path("plain", "bash"))
-        for name, shell, wanted in (("sort", "dash", "the checksum of the sources can't be made: sort failed"), ("uname", "bash", ""),
-                                    ("uname", "dash", "there is no command uname; this is pp6600-python")):
-            if not shutil.which(shell):
-                continue
-            os.rename(self.path("plain", name), self.path("kept"))
-            words = ["/usr/bin/env", "-i", f"PATH={self.path('plain')}", shutil.which(shell), self.path("repository", "pp6600")]
-            done = run(*words, script="STEP 12\n")
-            os.rename(self.path("kept"), self.path("plain", name))
-            with self.subTest(name, shell=shell):
-                self.assertIn(wanted, done.err)
-                self.assertEqual(wanted == "", done.err == "")
-
     def test_words_that_are_not_accepted(self):
         self.assertEqual(("pp6600: CANNOT OPEN DECK\n", 2), self.at_terminal(words=["--deck", "none"]))
 

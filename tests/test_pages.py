@@ -23,7 +23,7 @@ CRATES = [line.split(":")[0].split()[0] for line in read("crates.txt").splitline
 
 # What the repository does not define: words of the kit and of the system, keys, what is installed, and what recipes invent.
 OTHERS = set("""ci crate doc lemma logic plant version specs proofs ghost prove inline auto using unfolding clause functions proof failed
-    cat pip uninstall TO --anew --allow-holes --fix-imports --only --start --test Display Read Write File cd echo cp gz python3 tar zip Ctrl Shift Tab
+    cat pip uname uninstall TO --anew --allow-holes --fix-imports --only --start --test Display Read Write File cd echo cp gz python3 tar zip Ctrl Shift Tab
     End Home WORD FILE FILE.html FUNCTION word /usr/local ~/.local ~/.pp6600_history PREFIX/bin PREFIX/libexec/pp6600/tools
     share/pp6600/exercises pp6600-VERSION-linux.tar.gz work.html
     libpp6600.so.1 PKG_CONFIG_PATH wasm-opt BigInt memory.grow grow XNAME SNAME OP redo crates/.checked /Q/NAME

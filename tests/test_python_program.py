@@ -9,11 +9,9 @@ process.
 import contextlib
 import itertools
 import os
-import re
 import shutil
 import signal
 import subprocess
-import sys
 
 from tests.cases import named
 from tests.fixtures import sessions
@@ -22,7 +20,6 @@ from tests.support import EXAMPLES, PATIENCE, TOP, Case, add_tests, program, rea
 from tests.ways import CaseTests
 
 PYTHON_PROGRAM = os.path.join(TOP, "pp6600-python")
-BY_PATH = os.path.join(TOP, "tools", "pp6600", "engine", "plain", "__main__.py")
 
 
 class Cases(CaseTests):
@@ -182,10 +179,6 @@ add_tests(Compared, Compared.check, sessions())
 
 
 class Said(Case):
-    def test_version(self):
-        self.assertEqual((f"pp6600-python {read('VERSION').strip()}: not the proved program\n", "", 0), run(PYTHON_PROGRAM, "--version"))
-        self.assertEqual(("pp6600: WRITE FAILED\n", 3), run("sh", "-c", '"$0" --version >/dev/full', PYTHON_PROGRAM)[1:])
-
     def test_interrupted_while_it_starts(self):
         """It ends without a word, here before its package is there."""
         own = write(self.path("pp6600-python"), read("pp6600-python"), 0o755)
@@ -197,18 +190,6 @@ class Said(Case):
             process.send_signal(signal.SIGINT)
             self.assertEqual((b"", -signal.SIGINT), (process.stderr.read(), process.wait(PATIENCE)))
             os.close(end)
-
-    def test_each_way_to_start_it(self):
-        for words in ([PYTHON_PROGRAM], [sys.executable, "-S", "-I", BY_PATH], [sys.executable, "-m", "pp6600.engine.plain"]):
-            with self.subTest(words):
-                self.assertEqual(("TURNS 12 SLOT 00\n", "", 0), run(*words, script="STEP 12\n", cwd=os.path.join(TOP, "tools")))
-
-    def test_it_knows_no_table_of_the_tools(self):
-        """It checks them, so it shares nothing with them."""
-        folder = os.path.dirname(BY_PATH)
-        for name in sorted(os.listdir(folder)):
-            if name.endswith(".py"):
-                self.assertIsNone(re.search(r"from \.\.|pp6600\.(?!engine\.plain)", read(folder, name)), name)
 
     def test_no_memory(self):
         """For the machine, or later."""

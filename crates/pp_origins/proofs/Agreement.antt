@@ -53,8 +53,8 @@ no_state : (s t : Machine) (d : ℕ) → AreAlike s t → nat_lt d 12 ≡ false 
     slice_index t.channels.states d ≡ slice_index s.channels.states d
 no_state s t d alike past =
     let above : 12 ≤ d = grind (arith, nat_tests, past) in
-    get_or_past t.channels.states d 0 (omega (arith, above, alike.states2)) ∙ sym
-    (get_or_past s.channels.states d 0 (omega (arith, above, alike.states)))
+    get_or_past t.channels.states d 0 (omega (arith, above, alike.states2))
+    ∙ sym (get_or_past s.channels.states d 0 (omega (arith, above, alike.states)))
 
 origins_by_same : (n : ℕ) (s t : Machine) (row : Row) (d address address2 : ℕ) → AreAlike s t →
     (processor t n).p ≡ (processor s n).p → address2 ≡ address → AreSame s t (row_places row n d) →
@@ -169,5 +169,5 @@ pub others_stay : (n : ℕ) (s t : Machine) (place : Place) → IsShaped s.setup
     t.setup ≡ s.setup → AreSame s t (control_places n s) → origin_of (step_origins n s) place ≡ None →
     lookup (step_writes n t) place ≡ None
 others_stay n s t place ok ok2 setup same found =
-    unwritten (step_writes n) (step_origins n) s t place (step_explained n t ok2.frame)
-    (origins_same n s t (alike s t ok ok2 setup) same) found
+    let origins = origins_same n s t (alike s t ok ok2 setup) same in
+    unwritten (step_writes n) (step_origins n) s t place (step_explained n t ok2.frame) origins found

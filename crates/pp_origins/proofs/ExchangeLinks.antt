@@ -33,9 +33,10 @@ pub next_word : (c : Situation) (i : ℕ) → i < 16 → links_of (word_origins 
     ≡ (if nat_lt (central_after c.a i) c.size
     then links_of ((Central (central_after c.a i), from by.Moved ((λ c. whole (FrameWord i)) ∷ []) c) ∷ []) else [])
     ++ links_of (word_origins c (range_with_len (i + 1) (16 - (i + 1))))
-next_word c i h = ap (λ ks. links_of (word_origins c ks)) (range_step i h)
-    ∙ word_if i (central_after c.a i) c (nat_lt (central_after c.a i) c.size)
-    (word_origins c (range_with_len (i + 1) (16 - (i + 1))))
+next_word c i h =
+    let address = central_after c.a i in
+    ap (λ ks. links_of (word_origins c ks)) (range_step i h)
+    ∙ word_if i address c (nat_lt address c.size) (word_origins c (range_with_len (i + 1) (16 - (i + 1))))
 
 -- what the lists of links need
 pub ruleset exchange_links = (pushed_lists, next_frame, next_word, links-append)

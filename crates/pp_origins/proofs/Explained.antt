@@ -34,8 +34,7 @@ use Rattle.pp_origins.specs.declared.origin.Operation.TheVariants as by
 
 -- what is true of the number of each code, and of a number that no code has, is true of each number
 each_number : (T : ℕ → Type 0) → ((c : Code) → T (number_of c)) → ((n : ℕ) → 64 ≤ n → T n) → (n : ℕ) → T n
-each_number T each past n = ⊎_elim (λ below. subst T (number_of-code_of n below) (each (code_of n))) (λ above. past n above)
-    (cases_lt n 64)
+each_number T each past n = ⊎_elim (λ below. subst T (number_of-code_of n below) (each (code_of n))) (past n) (cases_lt n 64)
 
 -- what processor n sees of the machine
 abbrev seen : ℕ → Machine → PpView
@@ -49,9 +48,10 @@ coded k v = let i = instruction_at v.p v.cells in
 
 -- its origins
 abbrev coded_origins : ℕ → ℕ → Machine → Origins
-coded_origins k n s = let i = instruction_at (processor s n).p (processor s n).cells in
-    origins_by (row_of k) n i.d (operand_address (step_row_of k).mode
-    (address_of (step_row_of k).mode i.d i.m (processor s n).cells)) s
+coded_origins k n s =
+    let i = instruction_at (processor s n).p (processor s n).cells in
+    let mode = (step_row_of k).mode in
+    origins_by (row_of k) n i.d (operand_address mode (address_of mode i.d i.m (processor s n).cells)) s
 
 -- ---- choices
 
@@ -130,24 +130,22 @@ words_if n s false k x origin y y2 h e = e
 words_explained : (n : ℕ) (s : Machine) (c : Situation) (count k : ℕ) → c.size ≡ length s.central → count + k ≡ length s.frame →
     renamed (pp_place n) (word_pairs c.size c.a k (drop k s.frame)) ≡ results s (word_origins c (range_with_len k count))
 words_explained n s c zero k size h = rw (drop_of_length-le s.frame {i = k} (omega (arith, h))) refl
-words_explained n s c (suc count) k size h = rw (drop_more s.frame k 0 (omega (arith, h)))
-    (words_if n s (nat_lt (central_after c.a k) c.size) _ _ _ _ _ refl
-    (words_explained n s c count (k + 1) size (omega (arith, h))))
+words_explained n s c (suc count) k size h =
+    let rest = words_explained n s c count (k + 1) size (omega (arith, h)) in
+    rw (drop_more s.frame k 0 (omega (arith, h))) (words_if n s (nat_lt (central_after c.a k) c.size) _ _ _ _ _ refl rest)
 
 frame_field : (b : Bool) (w : ℕ) → field_of (if b then field.WithoutB0 else field.Whole) w ≡ (if b then w / 2 ^ 18 * 2 ^ 18 else w)
 frame_field true w = refl
 frame_field false w = refl
 
 frame_explained : (n : ℕ) (s : Machine) (c : Situation) (count k : ℕ) → c.size ≡ length s.central →
-    renamed (pp_place n) (frame_pairs k (map (λ i. frame_word i (slice_index s.central (central_after c.a i)))
-    (range_with_len k count)))
-    ≡ results s (frame_origins c (range_with_len k count))
+    let word : ℕ → ℕ = λ i. frame_word i (slice_index s.central (central_after c.a i)) in
+    renamed (pp_place n) (frame_pairs k (map word (range_with_len k count))) ≡ results s (frame_origins c (range_with_len k count))
 frame_explained n s c zero k size = refl
 frame_explained n s c (suc count) k size =
-    let w = slice_index s.central (central_after c.a k) in
-    let first = part_explained s (central_after c.a k) (if k == 0 then field.WithoutB0 else field.Whole) c size ∙ frame_field
-    (k == 0) w in
-    cc (first, frame_explained n s c count (k + 1) size)
+    let address = central_after c.a k in
+    let part = part_explained s address (if k == 0 then field.WithoutB0 else field.Whole) c size in
+    cc (part ∙ frame_field (k == 0) (slice_index s.central address), frame_explained n s c count (k + 1) size)
 
 exchange_explained : (n : ℕ) (s : Machine) (c : Situation) → c.pp ≡ n → c.a ≡ (processor s n).a → c.size ≡ length s.central →
     length s.frame ≡ 16 →
@@ -161,43 +159,35 @@ exchange_explained n s c here a size h =
 
 -- ---- the rows
 
+-- d of the instruction at P
+abbrev low_of : ℕ → Machine → ℕ
+low_of n s = slice_index (processor s n).cells (processor s n).p % 0o100
+
 row_explained : (k : Code) (n : ℕ) (s : Machine) → length s.frame ≡ 16 →
     renamed (pp_place n) (coded (number_of k) (seen n s)) ≡ results s (coded_origins (number_of k) n s)
-row_explained code.Exn n s h = exchange_explained n s
-    (situation (row_of 0o26) n (slice_index (processor s n).cells (processor s n).p % 0o100)
-    (slice_index (processor s n).cells (processor s n).p % 0o100) s) refl refl refl h
+row_explained code.Exn n s h =
+    exchange_explained n s (situation (row_of 0o26) n (low_of n s) (low_of n s) s) refl refl refl h
 row_explained code.Crd n s h = ap (λ ws. (place.RegP n, cell_after (processor s n).p 1) ∷ ws)
-    (let d = slice_index (processor s n).cells (processor s n).p % 0o100 in
-    five_explained n s d (processor s n).a (situation (row_of 0o60) n d d s) refl refl)
-row_explained code.Ljm n s h = chosen s (slice_index (processor s n).cells (processor s n).p % 0o100 == 0) (place.RegP n) _ _ _ _ _
-    refl refl
-row_explained code.Rjm n s h = returned s (slice_index (processor s n).cells (processor s n).p % 0o100 == 0) (place.RegP n) _ _ _ _
-    _ refl refl
+    (five_explained n s (low_of n s) (processor s n).a (situation (row_of 0o60) n (low_of n s) (low_of n s) s) refl refl)
+row_explained code.Ljm n s h = chosen s (low_of n s == 0) (place.RegP n) _ _ _ _ _ refl refl
+row_explained code.Rjm n s h = returned s (low_of n s == 0) (place.RegP n) _ _ _ _ _ refl refl
 row_explained code.Zjn n s h = chosen s ((processor s n).a == 0) (place.RegP n) _ _ _ _ _ refl refl
 row_explained code.Njn n s h = chosen s (not ((processor s n).a == 0)) (place.RegP n) _ _ _ _ _ refl refl
 row_explained code.Pjn n s h = chosen s (nat_lt (processor s n).a (2 ^ 17)) (place.RegP n) _ _ _ _ _ refl refl
 row_explained code.Mjn n s h = chosen s (not (nat_lt (processor s n).a (2 ^ 17))) (place.RegP n) _ _ _ _ _ refl refl
 row_explained code.Cwd n s h = either n s (nat_lt (processor s n).a (length s.central)) _ _ _ _ refl refl
-row_explained code.Ajm n s h = let d = slice_index (processor s n).cells (processor s n).p % 0o100 in
-    chosen s (is_active d s.channels.states) (place.RegP n) _ _ _ _ _ refl refl
-row_explained code.Ijm n s h = let d = slice_index (processor s n).cells (processor s n).p % 0o100 in
-    chosen s (not (is_active d s.channels.states)) (place.RegP n) _ _ _ _ _ refl refl
-row_explained code.Fjm n s h = let d = slice_index (processor s n).cells (processor s n).p % 0o100 in
-    chosen s (is_full d s.channels.states) (place.RegP n) _ _ _ _ _ refl refl
-row_explained code.Ejm n s h = let d = slice_index (processor s n).cells (processor s n).p % 0o100 in
-    chosen s (not (is_full d s.channels.states)) (place.RegP n) _ _ _ _ _ refl refl
-row_explained code.Ian n s h = let d = slice_index (processor s n).cells (processor s n).p % 0o100 in
+row_explained code.Ajm n s h = chosen s (is_active (low_of n s) s.channels.states) (place.RegP n) _ _ _ _ _ refl refl
+row_explained code.Ijm n s h = chosen s (not (is_active (low_of n s) s.channels.states)) (place.RegP n) _ _ _ _ _ refl refl
+row_explained code.Fjm n s h = chosen s (is_full (low_of n s) s.channels.states) (place.RegP n) _ _ _ _ _ refl refl
+row_explained code.Ejm n s h = chosen s (not (is_full (low_of n s) s.channels.states)) (place.RegP n) _ _ _ _ _ refl refl
+row_explained code.Ian n s h = let d = low_of n s in
     either n s (is_clock d) _ _ _ _ refl (either n s (is_in state.Full d s.channels.states) _ _ _ _ refl refl)
-row_explained code.Oan n s h = let d = slice_index (processor s n).cells (processor s n).p % 0o100 in
-    either n s (is_in state.Empty d s.channels.states) _ _ _ _ refl refl
-row_explained code.Acn n s h = let d = slice_index (processor s n).cells (processor s n).p % 0o100 in
-    either n s (is_in state.Inactive d s.channels.states) _ _ _ _ refl refl
-row_explained code.Dcn n s h = let d = slice_index (processor s n).cells (processor s n).p % 0o100 in
+row_explained code.Oan n s h = either n s (is_in state.Empty (low_of n s) s.channels.states) _ _ _ _ refl refl
+row_explained code.Acn n s h = either n s (is_in state.Inactive (low_of n s) s.channels.states) _ _ _ _ refl refl
+row_explained code.Dcn n s h = let d = low_of n s in
     either n s (is_clock d) _ _ _ _ refl (either n s (is_active d s.channels.states) _ _ _ _ refl refl)
-row_explained code.Fan n s h = let d = slice_index (processor s n).cells (processor s n).p % 0o100 in
-    either n s (is_in state.Inactive d s.channels.states) _ _ _ _ refl refl
-row_explained code.Fnc n s h = let d = slice_index (processor s n).cells (processor s n).p % 0o100 in
-    either n s (is_in state.Inactive d s.channels.states) _ _ _ _ refl refl
+row_explained code.Fan n s h = either n s (is_in state.Inactive (low_of n s) s.channels.states) _ _ _ _ refl refl
+row_explained code.Fnc n s h = either n s (is_in state.Inactive (low_of n s) s.channels.states) _ _ _ _ refl refl
 row_explained _ n s h = refl
 
 instruction_explained : (n : ℕ) (s : Machine) → length s.frame ≡ 16 →
@@ -227,19 +217,18 @@ block_explained n s =
     let x = processor s n in
     let d = x.phase % 0o100 in
     let states = s.channels.states in
+    let output = situation (spec.row blocks.by_a_and_q blocks.central_output) n d 0 s in
     by_row n s d (x.phase / 0o100 == 0o61) _ _ _ _ (central_input_explained n s d)
     (by_row n s d (x.phase / 0o100 == 0o63) _ _ _ _
     (either n s (x.q == 0) _ _ _ _ refl (cc (either n s (nat_lt x.a (length s.central))
-    ((Central x.a, joined_cells x.p x.cells) ∷ []) []
-    ((place.Central x.a, spec.joined x.p (situation (spec.row blocks.by_a_and_q blocks.central_output) n d 0 s)) ∷ []) [] refl
-    refl)))
+    ((Central x.a, joined_cells x.p x.cells) ∷ []) [] ((place.Central x.a, spec.joined x.p output) ∷ []) [] refl refl)))
     (by_row n s d (x.phase / 0o100 == 0o71) _ _ _ _
     (either n s (x.a == 0) _ _ _ _ refl (either n s (is_clock d) _ _ _ _ refl (either n s (not (is_active d states)) _ _ _ _
     (returned s (x.p == 0) (place.RegP n) _ _ _ _ _ refl refl)
     (either n s (is_in state.Full d states) _ _ _ _ refl refl))))
     (by_row n s d (x.phase / 0o100 == 0o73) _ _ _ _
-    (either n s (x.a == 0 || not (is_active d states)) _ _ _ _ refl (either n s (is_in state.Empty d states) _ _ _ _ refl refl))
-    refl)))
+    (either n s (x.a == 0 || not (is_active d states)) _ _ _ _ refl
+    (either n s (is_in state.Empty d states) _ _ _ _ refl refl)) refl)))
 
 -- ---- a step
 

@@ -9,6 +9,6 @@ pub read_links_more : (place : Place) (operation : Operation) (reads : List Read
     read_links place operation (drop k reads)
     ≡ link place operation (get_or reads k r) (length reads - 1 - k) ∷ read_links place operation (drop (k + 1) reads)
 read_links_more place operation reads k r h =
-    rw (drop_more reads k r h) (ap (λ n. link place operation (get_or reads k r) n ∷ read_links place operation
-    (drop (k + 1) reads))
-    (length-drop (k + 1) reads ∙ omega arith))
+    let rest = read_links place operation (drop (k + 1) reads) in
+    rw (drop_more reads k r h)
+    (ap (λ n. link place operation (get_or reads k r) n ∷ rest) (length-drop (k + 1) reads ∙ omega arith))

@@ -3,8 +3,7 @@
 import sys
 
 from ..language.assembling import assembled_lines
-from ..language.given import Given
-from ..language.symbol_options import TEXT_OPTIONS
+from ..language.symbol_options import TEXT_OPTIONS, Given
 from ..shell.command_line import Parser, bytes_of, processor, write_lines
 
 DESCRIPTION = """Assembles a program of a peripheral processor, in COMPASS notation, and writes a line for each word: its address

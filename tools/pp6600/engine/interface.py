@@ -3,7 +3,7 @@
 from __future__ import annotations
 
 from array import array
-from typing import List, NamedTuple, Optional, Protocol, Sequence, Tuple
+from typing import List, NamedTuple, Protocol, Sequence, Tuple
 
 from ..failure import Failure
 from .origins import Origins
@@ -86,10 +86,6 @@ class Engine(Protocol):
 
     def next_origins(self) -> Origins:
         """Returns the next turn, with where each number that its processor will write comes from. No turn is made."""
-
-    def last_write(self, first: int, count: int = 1) -> Optional[Tuple[int, Origins]]:
-        """Returns the newest action that can be undone and wrote one of some places: how many are newer, and where each number that it
-        wrote comes from; None if there is none. If it is no turn, its processor is 10."""
 
     def numbers_after(self, most: int, places: Sequence[int]) -> Tuple[List[int], bool]:
         """Makes turns as `records` does. Returns the numbers at some places (1 to 16) after each, in turn, and whether a watched one changed."""

@@ -11,7 +11,8 @@ from ctypes import byref, c_size_t, c_uint16, c_uint32, c_uint64
 from typing import Any, Iterator, List, NamedTuple, Optional, Sequence, Tuple
 
 from ..failure import Failure
-from .choice import HOME, LIBRARIES, machine_here
+from .choice import HOME
+from .choose import libraries_beside, library_here
 from .interface import Counts, Form, Records, Rejection
 from .numbers_of_calls import checked, counted
 from .options import options_of
@@ -86,9 +87,8 @@ LATER_CALLS = ("origins", "next_origins", "until", "back_until", "last_write")  
 
 def load(path: Optional[str] = None) -> Any:
     """Loads the library from this path, or from $PP6600_LIBRARY, or from where the tools are: a checkout, an installation, a package."""
-    name = LIBRARIES.get(machine_here(), ("libpp6600.so",))[0]
-    beside = [os.path.join(HOME, folder, name) for folder in ("dist", "lib", "")]
-    return loaded(path or os.environ.get("PP6600_LIBRARY") or next((one for one in beside if os.path.isfile(one)), beside[0]))
+    path = path or os.environ.get("PP6600_LIBRARY") or next(iter(libraries_beside(os.path.join(HOME, "pp6600"))), None)
+    return loaded(path or os.path.join(HOME, "dist", library_here() or "libpp6600.so"))
 
 
 def call_of(library: Any, name: str) -> Any:

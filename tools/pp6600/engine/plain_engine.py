@@ -22,7 +22,6 @@ RANGES: Sequence[Tuple[int, int]] = (
     (flat.CELLS, places.M), (flat.A, places.A), (flat.P, places.P), (flat.Q, places.Q), (flat.PHASE, places.PHASE),
     (flat.STATES, places.STATE), (flat.REGISTERS, places.H), (flat.CLOCK, places.CLOCK), (flat.FRAME, places.FRAME), (flat.CARD, places.CARD),
     (flat.PAPER_LENGTH, places.PAPER_LENGTH), (flat.PAPER, places.PAPER), (flat.SLOT, places.SLOT), (flat.CENTRAL, places.C))
-NO_PROCESSOR, MOST_OF_TURN = 10, 44  # of an action that is no turn; the most places that a turn writes, fewer than a dead start
 FIRST = [first for first, _ in RANGES]
 OWN = sorted((own, first) for first, own in RANGES)
 FIRST_OWN = [own for own, _ in OWN]
@@ -92,23 +91,6 @@ class PlainEngine:
 
     def next_origins(self) -> Origins:
         return of_flat_places(origins.next_turn(self.machine))
-
-    def last_write(self, first: int, count: int = 1) -> Optional[Tuple[int, Origins]]:
-        machine = self.machine
-        written = (any(first <= flat_place(place) < first + count for place in record) for record in reversed(machine.history))
-        newer = next((newer for newer, is_write in enumerate(written) if is_write), None)
-        if newer is None:
-            return None
-        record = machine.history[-1 - newer]
-        made = Origins(NO_PROCESSOR, 0, 0, 0, [])
-        if places.SLOT in record and len(record) <= MOST_OF_TURN:
-            self.back(newer + 1)
-            ahead = list(machine.ahead)
-            made = of_flat_places(origins.turn(machine)[0])._replace(control=())
-            machine.back()
-            machine.ahead[:] = ahead
-            self.forward(newer + 1)
-        return newer, made
 
     def numbers_after(self, most: int, places: Sequence[int]) -> Tuple[List[int], bool]:
         own, numbers = [own_place(place) for place in places], self.machine.numbers

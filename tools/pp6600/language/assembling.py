@@ -9,7 +9,7 @@ from ..shell.ending import shown_text
 from ..shell.text_files import lines_in, lines_of, named
 from .cells import in_rows
 from .decks import texts_of
-from .given import Given
+from .symbol_options import Given
 from .listing import without_mark
 from .program import Program, Unit, assembled, complaints_of, source_of, units_of, written
 from .sources import set_lines

@@ -1,10 +1,10 @@
 """Words of 12 bits, and the SET lines that load them."""
 
 import re
-from typing import List, Mapping, Sequence, Tuple
+from typing import List, Mapping, Sequence
 
 from ..failure import Failure
-from ..run.forms import CELLS, ROW
+from ..run.forms import CELLS, ROW, ranges_of
 
 
 def in_rows(words: Sequence[str], size: int = ROW) -> List[Sequence[str]]:
@@ -26,16 +26,7 @@ def word_of(text: str) -> str:
     return f"{int(text, 8):04o}"
 
 
-def runs_of(cells: Mapping[int, str]) -> List[Tuple[int, List[str]]]:
-    """Returns the words that follow one another, of words by their addresses: the first address and the words of each run."""
-    found: List[Tuple[int, List[str]]] = []
-    for address, word in sorted(cells.items()):
-        if not found or address != found[-1][0] + len(found[-1][1]):
-            found.append((address, []))
-        found[-1][1].append(word)
-    return found
-
-
 def lines_of_cells(processor: int, cells: Mapping[int, str]) -> List[str]:
     """Returns the lines that put words into cells, by their addresses."""
-    return [line for first, words in runs_of(cells) for line in set_lines(processor, first, words)]
+    return [line for first, size in ranges_of(cells)
+            for line in set_lines(processor, first, [cells[at] for at in range(first, first + size)])]

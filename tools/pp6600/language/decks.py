@@ -7,7 +7,7 @@ from ..engine.assembler import Text
 from ..failure import Failure
 from ..shell.ending import shown_text
 from ..shell.text_files import read_lines
-from .given import Given
+from .symbol_options import Given
 from .listing import without_mark
 
 NONE = Text(b"", b"")

@@ -16,7 +16,7 @@ from ..shell.ending import shown_text
 from ..shell.text_files import named, read_lines
 from .cells import lines_of_cells
 from .decks import texts_of
-from .given import Given
+from .symbol_options import Given
 from .listing import Listing, is_printed, without_mark
 from .notation import CODES, TAB
 from .program import FilledCell, ListingRow, Program, Unit, assembled

@@ -3,23 +3,28 @@
 from __future__ import annotations
 
 from argparse import Namespace
-from typing import Any, Iterable, Mapping, Sequence
+from typing import Any, Iterable, Mapping, NamedTuple, Optional, Sequence
 
 from ..failure import Failure
 from ..run.names import AllSymbols
 from ..shell.options import Arguments, processor
-from .given import Given
+
+
+class Given(NamedTuple):
+    """Where the texts of a source are: the folder of its common decks, and the files of its system texts, in their order."""
+
+    folder: Optional[str] = None
+    systems: Sequence[str] = ()
 
 
 FILES: Mapping[str, Any] = {"nargs": 2, "metavar": ("N", "FILE"), "action": "append", "default": []}
 TEXT_OPTIONS: Arguments = [("--text", {"metavar": "DIR", "help": "the folder of common decks, which XTEXT reads: a file for each"}),
                            ("--system", {"metavar": "FILE", "action": "append", "default": [],
                                          "help": "a system text, whose names, macros and micros a source has; for each one"})]
-SOURCE_OPTIONS: Arguments = [*TEXT_OPTIONS, ("--source", {
-    **FILES, "help": "assemble FILE, or read a printed listing, and load it into processor N before the script; show its lines and names; "
-                     "for each one"})]
-SYMBOL_OPTIONS: Arguments = [("--symbols", {
-    **FILES, "help": "show addresses of processor N by the labels of a listing, or of lines NAME ADDRESS; for each one"}), *SOURCE_OPTIONS]
+SOURCE_OPTIONS: Arguments = [*TEXT_OPTIONS, ("--source", {**FILES, "help": "assemble FILE, or read a printed listing, and load it "
+                             "into processor N before the script; show its lines and names; for each one"})]
+SYMBOL_OPTIONS: Arguments = [("--symbols", {**FILES, "help": "show addresses of processor N by the labels of a listing, or of lines "
+                             "NAME ADDRESS; for each one"}), *SOURCE_OPTIONS]
 
 
 def symbols_of(asked: Namespace) -> AllSymbols:

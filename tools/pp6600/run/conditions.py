@@ -246,7 +246,7 @@ def processor_test(words: List[str], symbols: Any) -> Tuple[AnyTest, List[str]]:
     """Returns the test of a processor, and the words after it."""
     if len(words) < 3:
         raise Failure(FORM)
-    number = number_of(words[1])
+    number = octal(words[1])
     kind = [word.lower() for word in words[2:6]]
     is_in = kind[:1] != ["not"]
     kind = kind if is_in else kind[1:]
@@ -293,13 +293,12 @@ def column_of(place: Place) -> Column:
     return Column(place)
 
 
-def number_of(text: str, place: Optional[Place] = None, symbols: Any = AllSymbols()) -> int:
-    """Returns a number. Beside a place it may be a label or another name, of the processor if the place is of one."""
-    named = None
-    if place and place.kind in OF_A_PROCESSOR:
+def number_of(text: str, place: Place, symbols: Any) -> int:
+    """Returns a number beside a place. It may be a label or another name, of the processor if the place is of one."""
+    if place.kind in OF_A_PROCESSOR:
         named = symbols.address(place.numbers[0], text)
-    elif place and not re.fullmatch("[0-7]+", text):
-        named = symbols.number(text)
+    else:
+        named = None if re.fullmatch("[0-7]+", text) else symbols.number(text)
     return octal(text) if named is None else int(named)
 
 

@@ -124,6 +124,17 @@ def octal(text: str) -> int:
     return int(text, 8)
 
 
+def ranges_of(numbers: Iterable[int]) -> List[Tuple[int, int]]:
+    """Returns some numbers as ranges, each by its first one and its size."""
+    found: List[Tuple[int, int]] = []
+    for number in sorted(numbers):
+        if found and sum(found[-1]) == number:
+            found[-1] = found[-1][0], found[-1][1] + 1
+        else:
+            found.append((number, 1))
+    return found
+
+
 def fields(line: str) -> Dict[str, str]:
     """Returns the fields of a line of DUMP PP, CR or LP, by their names."""
     words = line.split()

@@ -8,8 +8,8 @@ from ..engine.interface import CARD, PAPER_LENGTH, P
 from ..engine.origins import PUNCHED, Origins
 from ..failure import Failure
 from .conditions import is_written
-from .forms import CELLS, CLOCK, Place
-from .search import conditions_of, last_turn, ranges_of
+from .forms import CELLS, CLOCK, Place, ranges_of
+from .search import conditions_of, last_turn
 from .session import Session
 from .tape import STEP, Position
 from .turn import Processor, places_of_setting

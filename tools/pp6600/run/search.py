@@ -16,7 +16,7 @@ from ..engine import interface as flat
 from ..engine import plain_conditions
 from ..engine.interface import CHANGES, INSIDE, MOST_ALTERNATIVES, PERFORMS, WAITS, Form
 from .conditions import Alternative, Column, Numbers, is_written, joined
-from .forms import PROCESSORS
+from .forms import PROCESSORS, ranges_of
 from .session import Session
 from .tape import STEP, Position
 from .turn import Processor
@@ -41,17 +41,6 @@ def first_turn(run: Session, condition: Forms, most: int) -> bool:
 def is_met(run: Session, forms: Iterable[Form]) -> bool:
     """Returns whether tests of the machine hold as it is. One of a turn does not."""
     return all(plain_conditions.is_met(form, run.number_of) for form in forms)
-
-
-def ranges_of(numbers: Iterable[int]) -> List[Tuple[int, int]]:
-    """Returns some numbers as ranges, each by its first one and its size."""
-    found: List[Tuple[int, int]] = []
-    for number in sorted(numbers):
-        if found and sum(found[-1]) == number:
-            found[-1] = found[-1][0], found[-1][1] + 1
-        else:
-            found.append((number, 1))
-    return found
 
 
 def arrivals(number: int, addresses: Iterable[int]) -> List[Forms]:

@@ -8,6 +8,7 @@ nowhere. One with devices is an `Attached`."""
 from __future__ import annotations
 
 import contextlib
+import functools
 import itertools
 import re
 from typing import FrozenSet, Iterator, List, Optional, Sequence
@@ -40,11 +41,11 @@ class Session(Console):
     device_channels: FrozenSet[int] = frozenset()  # on which devices of one's own replied when its tape was made
 
     def __init__(self, words: Sequence[str] = (), tape: Optional[Tape] = None, is_search: bool = False) -> None:
-        """It begins at the beginning of the tape. A search counts the watches of the tape, and performs none."""
-        super().__init__(words)
+        """It begins at the beginning of the tape. A search counts the watches of the tape, and performs none; its history is as long as can
+        be."""
+        super().__init__(without_history(words) if is_search else words)
         self.tape, self.is_search = tape or Tape(), is_search
         self.history = History(room_of(self.words), self.tape)
-        self.counts = UnitCounts(self.history)
         self.watched: List[str] = []  # places, beside those of the tape
         self.written: List[str] = []  # what the engine was sent since it began
         self.times_anew = 0
@@ -52,7 +53,12 @@ class Session(Console):
     @classmethod
     def of_tape(cls, words: Sequence[str], tape: Tape) -> Session:
         """Returns a session that performs the actions of a tape anew. The watches are left out."""
-        return cls(without_history(words), tape.replay(), True)
+        return cls(words, tape.replay(), True)
+
+    @functools.cached_property
+    def counts(self) -> UnitCounts:
+        """What BACK and FORWARD count."""
+        return UnitCounts(self.history)
 
     @property
     def position(self) -> Position:

@@ -129,7 +129,8 @@ def count(text: str) -> int:
     return number
 
 
-TURN_OPTION: Arguments = [("--turn", {"metavar": "N", "type": octal, "help": "as it is after turn N, octal, with the settings before the next one"})]
+TURN_OPTION: Arguments = [("--turn", {"metavar": "N", "type": octal,
+                                      "help": "as it is after turn N, octal, with the settings before the next one"})]
 SCRIPT_WORD: Arguments = [("script", {"nargs": "?", "metavar": "SCRIPT", "help": "without it, standard input is the script"})]
 
 

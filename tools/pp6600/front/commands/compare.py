@@ -4,8 +4,7 @@ from argparse import Namespace
 from typing import Any, Iterator, List, Optional, Sequence, Set, Tuple, Union
 
 from ...engine.interface import P
-from ...language.given import Given
-from ...language.symbol_options import FILES, SYMBOL_OPTIONS, symbols_from, symbols_of
+from ...language.symbol_options import FILES, SYMBOL_OPTIONS, Given, symbols_from, symbols_of
 from ...language.versions import Versions, address_name
 from ...run.forms import PROCESSORS
 from ...run.names import AllSymbols

@@ -12,9 +12,9 @@ from ...engine import interface as flat
 from ...engine.interface import INSIDE, Form
 from ...language.symbol_options import SYMBOL_OPTIONS, symbols_of
 from ...run.conditions import is_written
-from ...run.forms import CELLS, CLOCK, PROCESSORS
+from ...run.forms import CELLS, CLOCK, PROCESSORS, ranges_of
 from ...run.names import AllSymbols
-from ...run.search import TurnFinder, around, ranges_of, spans
+from ...run.search import TurnFinder, around, spans
 from ...run.session import Session
 from ...run.tape import REJECT, STEP, Position, ReplyLine, Tape
 from ...run.turn import BLOCK_GOES_ON, CHANNEL_CODES, CHANNEL_JUMPS, Processor, places_of_setting

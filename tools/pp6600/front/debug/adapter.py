@@ -6,8 +6,7 @@ from typing import Any, Callable, Dict, Iterable, List, Optional, Tuple
 from ...devices.options import device_of
 from ...engine.choose import default_engine
 from ...failure import Failure
-from ...language.given import Given
-from ...language.symbol_options import symbols_from
+from ...language.symbol_options import Given, symbols_from
 from ...run.device import DeviceFailure
 from ...run.forms import PROCESSORS
 from ...run.tape import counted

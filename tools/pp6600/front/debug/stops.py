@@ -15,8 +15,8 @@ from typing import Any, FrozenSet, Iterable, Iterator, List, NamedTuple, Optiona
 from ...engine import interface as flat
 from ...engine.interface import CHANGES, Form
 from ...run.conditions import AnyTest, Test, is_written
-from ...run.forms import CELLS, PROCESSORS, Place
-from ...run.search import Forms, TurnFinder, arrivals, holds_in_latest, is_met, ranges_of, waits
+from ...run.forms import CELLS, PROCESSORS, Place, ranges_of
+from ...run.search import Forms, TurnFinder, arrivals, holds_in_latest, is_met, waits
 from .breakpoints import Point, ProcessorCell
 from .debugged import is_turn
 from .terms import Terms

@@ -11,7 +11,7 @@ from ...run.console import Console, has_no_answer
 from ...run.device import Device
 from ...run.forms import hit_of, is_refusal
 from ...run.searches import MOST_NEW
-from ...run.session import Session, without_history
+from ...run.session import Session
 from ...run.state import State, state_of
 from ...run.tape import ScriptLine, SourceLine, UnitCounts
 from ...shell.keyboard import place_of
@@ -69,7 +69,7 @@ class LoggedSession:
 
     def search(self) -> Session:
         """Returns a session on the same tape, whose position is its own. It is used in a `with` block."""
-        return Session(without_history(self.simulator.words), self.simulator.tape, is_search=True)
+        return Session(self.simulator.words, self.simulator.tape, is_search=True)
 
     def watched(self) -> List[str]:
         return [place.short for place in self.state.watched]

@@ -3,7 +3,7 @@
 import textwrap
 from typing import Any, List, NamedTuple, Optional, Sequence, Tuple
 
-from ...run.forms import CELLS, PROCESSORS, ROW, Place
+from ...run.forms import CELLS, PROCESSORS, ROW, Place, ranges_of
 from ...run.names import AllSymbols
 from ...run.state import State
 from .logged_session import Log
@@ -97,13 +97,7 @@ def folded_processors(columns: int, state: State, before: State, view: View) -> 
 
 def names_of(numbers: Sequence[int]) -> str:
     """Returns the numbers of processors, as 01, 03 to 11."""
-    groups: List[List[int]] = []
-    for number in numbers:
-        if groups and groups[-1][-1] == number - 1:
-            groups[-1].append(number)
-        else:
-            groups.append([number])
-    return ", ".join(f"{group[0]:02o} to {group[-1]:02o}" if len(group) > 1 else f"{group[0]:02o}" for group in groups)
+    return ", ".join(f"{first:02o}{f' to {first + size - 1:02o}' if size > 1 else ''}" for first, size in ranges_of(numbers))
 
 
 def folded_line(shown: ScreenContent, numbers: Sequence[int]) -> MarkedLine:

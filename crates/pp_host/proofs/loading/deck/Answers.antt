@@ -24,13 +24,14 @@ pub returns-in-Err-clause-deck : goal.returns-in-Err-clause-deck
 returns-in-Err-clause-deck g c =
     let file = c.in-Err.ensures.file in
     let all = all_bytes (g.H.File.Source.rest c.in_ok-file.file) file.0 in
-    let some : option_map string_bytes c.args.path.now ≡ Some (string_bytes c.in-Some.path) = grind (arith, common_steps) in
+    let path = string_bytes c.in-Some.path in
+    let some : option_map string_bytes c.args.path.now ≡ Some path = grind (arith, common_steps) in
     record {
       read = Content file.0;
       ended = g.H.File.Source.ended c.load_deck-read.new.source;
       content = Content all;
       logged = grind (arith, common_steps);
       known = grind (arith, common_steps);
-      follows = rw (some, c.load.ensures) (fails_or_lost (λ cards. cards) Deck card_rule deck_of_file (string_bytes c.in-Some.path)
-          _ file.0 all _ file.3);
+      follows = rw (some, c.load.ensures)
+          (fails_or_lost (λ cards. cards) Deck card_rule deck_of_file path _ file.0 all _ file.3);
     }
