@@ -1,10 +1,12 @@
 -- Blocks hold the heads of a log, and continue to hold them.
 use Rattle.pp_history.proofs.Names.{◌≡◌, ℕ, suc, ◌+◌, ◌-◌, ◌*◌, ◌/◌, ◌%◌, ◌<◌, ◌≤◌, min, List, [], ◌∷◌, ◌++◌, length, take}
 use Rattle.pp_history.proofs.Names.{drop, reverse, set, Option, Some, slice_get, Vec, Global, refl, sym, ◌∙◌, ap, arith}
-use Rattle.pp_history.proofs.Names.{length-take, length-drop, length-append, length-reverse, take_all, drop_all, append-nil, append_assoc}
-use Rattle.pp_history.proofs.Names.{take-append-le, take-set, drop-set, reverse-append, cases_lt, flat_map, flat_map-append}
-use Rattle.pp_history.proofs.Names.{slice_get_within, slice_get-append_left, slice_get-append_right, slice_get-drop, slice_get-take, AllByRecursion, div-add-mod}
-use Rattle.pp_history.proofs.Names.{common_steps, All-get_or, All-take, get_or-flat_map, get_or_from_slice_get, add-one, get_or, slice_get_read, Heads, IsHeads, behind, before, halves, others_in}
+use Rattle.pp_history.proofs.Names.{length-take, length-drop, length-append, length-reverse, take_all, drop_all, append-nil}
+use Rattle.pp_history.proofs.Names.{append_assoc, take-append-le, take-set, drop-set, reverse-append, cases_lt, flat_map}
+use Rattle.pp_history.proofs.Names.{flat_map-append, slice_get_within, slice_get-append_left, slice_get-append_right}
+use Rattle.pp_history.proofs.Names.{slice_get-drop, slice_get-take, AllByRecursion, div-add-mod, common_steps, All-get_or}
+use Rattle.pp_history.proofs.Names.{All-take, get_or-flat_map, get_or_from_slice_get, add-one, get_or, slice_get_read, Heads}
+use Rattle.pp_history.proofs.Names.{IsHeads, behind, before, halves, others_in}
 use Rattle.pp_history.proofs.Joins.{drop-at, take-one}
 
 module _ {B X : Type 0} (items : B → List X) where
@@ -13,14 +15,22 @@ module _ {B X : Type 0} (items : B → List X) where
 
   length_slots : (blocks : List B) → AreWhole blocks → length (flat_map items blocks) ≡ 256 * length blocks
   length_slots [] whole = refl
-  length_slots (block ∷ blocks) whole = omega (arith, length-append (items block) (flat_map items blocks), whole.0, length_slots blocks whole.1)
+  length_slots (block ∷ blocks) whole = omega
+      (arith, length-append (items block) (flat_map items blocks), whole.0, length_slots blocks whole.1)
 
-  pub block_whole : (blocks : List B) (k : ℕ) (block : B) → AreWhole blocks → slice_get blocks k ≡ Some block → length (items block) ≡ 256
+  pub block_whole : (blocks : List B) (k : ℕ) (block : B) → AreWhole blocks → slice_get blocks k ≡ Some block →
+      length (items block) ≡ 256
   block_whole blocks k block whole found =
-      grind (arith, All-get_or (λ block. length (items block) ≡ 256) blocks k block, get_or_from_slice_get blocks k block block, slice_get_within blocks k block found)
+      grind (
+        arith,
+        All-get_or (λ block. length (items block) ≡ 256) blocks k block,
+        get_or_from_slice_get blocks k block block,
+        slice_get_within blocks k block found,
+      )
 
   -- the slots behind and before a place between two blocks, with the one of them or the other in use
-  module _ (here there : B) (rest : List B) (n : ℕ) (long : length (items there) ≡ 256) (whole : AreWhole rest) (few : n ≤ 256 * (length rest + 1)) where
+  module _ (here there : B) (rest : List B) (n : ℕ) (long : length (items there) ≡ 256) (whole : AreWhole rest)
+      (few : n ≤ 256 * (length rest + 1)) where
     abbrev slots : List X
     slots = flat_map items rest
 
@@ -30,7 +40,8 @@ module _ {B X : Type 0} (items : B → List X) where
     turned_behind : length (items here) ≡ 256 → take n (items here ++ flat_map items (rest ++ there ∷ []))
         ≡ take n (drop 256 (items there) ++ (items here ++ slots))
     turned_behind same = rw (all, drop_all 256 (items there) (omega (arith, long)), ← append_assoc (items here) slots (items there))
-        (take-append-le n (items here ++ slots) (items there) (omega (arith, length-append (items here) slots, length_slots rest whole, same, few)))
+        (take-append-le n (items here ++ slots) (items there)
+        (omega (arith, length-append (items here) slots, length_slots rest whole, same, few)))
 
     turned_before : take n (reverse (flat_map items (rest ++ there ∷ []) ++ []))
         ≡ take n (reverse ((items here ++ slots) ++ take 256 (items there)))
@@ -38,7 +49,13 @@ module _ {B X : Type 0} (items : B → List X) where
         let other = slots ++ items there in
         let many : length (reverse other) ≡ 256 * (length rest + 1) =
         omega (arith, length-reverse other, length-append slots (items there), length_slots rest whole, long) in
-        rw (all, append-nil other, take_all 256 (items there) (omega (arith, long)), append_assoc (items here) slots (items there), reverse-append (items here) other)
+        rw (
+          all,
+          append-nil other,
+          take_all 256 (items there) (omega (arith, long)),
+          append_assoc (items here) slots (items there),
+          reverse-append (items here) other,
+        )
         (sym (take-append-le n (reverse other) (reverse (items here)) (omega (arith, many, few))))
 
 -- one more item in front of the first len ones, at most n
@@ -68,10 +85,12 @@ module _ {H : Type 0} where
   module _ (heads : Heads H) (n : ℕ) (x : Option H) where
     -- the head of a slot is the first behind it, and the last before the next one
     module _ (found : slice_get heads.block.items n ≡ Some x) (kept ahead : ℕ) where
-      pub halves_behind : halves heads n (suc kept) ahead ≡ record (halves heads n kept ahead) { kept = x ∷ take kept (behind heads (n + 1)) }
+      pub halves_behind : halves heads n (suc kept) ahead ≡ record (halves heads n kept ahead)
+          { kept = x ∷ take kept (behind heads (n + 1)) }
       halves_behind = grind (arith, drop-at n heads.block.items x found)
 
-      pub halves_before : halves heads (n + 1) kept (suc ahead) ≡ record (halves heads (n + 1) kept ahead) { ahead = x ∷ take ahead (before heads n) }
+      pub halves_before : halves heads (n + 1) kept (suc ahead) ≡ record (halves heads (n + 1) kept ahead)
+          { ahead = x ∷ take ahead (before heads n) }
       halves_before = rw (
         add-one,
         take-one n heads.block.items x found,
@@ -84,11 +103,19 @@ module _ {H : Type 0} where
         (kept kept' ahead : ℕ) → kept' ≡ min (kept + 1) heads.capacity → halves (record heads { block = block }) n kept' ahead
         ≡ record (halves heads n kept ahead) { kept = take heads.capacity (x ∷ take kept (behind heads (n + 1))) }
     halves_written block within is kept kept' ahead more =
-        grind (arith, common_steps, drop-set heads.block.items n x within, take-set heads.block.items n x, first_taken kept heads.capacity x (drop (n + 1) heads.block.items ++ others_in heads))
+        grind (
+          arith,
+          common_steps,
+          drop-set heads.block.items n x within,
+          take-set heads.block.items n x,
+          first_taken kept
+              heads.capacity x (drop (n + 1) heads.block.items ++ others_in heads),
+        )
 
 -- other blocks of the same sizes
 pub is_still : {H : Type 0} {old new : Heads H} → IsHeads old → length new.block.items ≡ 256 → AreWhole items new.others.items →
-    length new.others.items ≡ length old.others.items → new.others.capacity ≡ old.others.capacity → new.capacity ≡ old.capacity → IsHeads new
+    length new.others.items ≡ length old.others.items → new.others.capacity ≡ old.others.capacity → new.capacity ≡ old.capacity →
+    IsHeads new
 is_still is long whole many room same = grind arith
 
 module _ {H : Type 0} (heads : Heads H) (is : IsHeads heads) (n : ℕ) (within : n ≤ 256) where
@@ -114,9 +141,19 @@ module _ {H : Type 0} (heads : Heads H) (is : IsHeads heads) (n : ℕ) (within :
         let q = slot / 256 - 1 in
         let some = slice_get_within blocks q block found in
         let many = length_slots items (take q blocks) (All-take (λ block. length block.items ≡ 256) q blocks is.others) in
-        let before : length (flat_map items (take q blocks)) + slot % 256 ≡ slot - 256 = omega (arith, past, many, some, length-take q blocks, div-add-mod slot 256) in
+        let before : length (flat_map items (take q blocks)) + slot % 256 ≡ slot - 256 = omega
+        (arith, past, many, some, length-take q blocks, div-add-mod slot 256) in
         let read : x ≡ get_or (others_in heads) (slot - 256) x =
-        grind (arith, before, get_or-flat_map items blocks q (slot % 256) block x some, get_or_from_slice_get blocks q block block found, block_whole items blocks q block is.others found) in
+        grind (
+          arith,
+          before,
+          get_or-flat_map items blocks q (slot % 256) block x some,
+          get_or_from_slice_get blocks q block block
+              found,
+          block_whole items blocks q block is.others found,
+        ) in
         slice_get-take kept (behind heads n) k less
-        ∙ slice_get-append_right (drop n heads.block.items) (others_in heads) k (slot - 256) (omega (arith, at, past, length-drop n heads.block.items, is.block, within))
-        ∙ slice_get_read (others_in heads) (256 * length blocks) (slot - 256) x (sym (length_slots items blocks is.others)) (omega (arith, past, some, div-add-mod slot 256)) read
+        ∙ slice_get-append_right (drop n heads.block.items) (others_in heads) k (slot - 256)
+        (omega (arith, at, past, length-drop n heads.block.items, is.block, within))
+        ∙ slice_get_read (others_in heads) (256 * length blocks) (slot - 256) x (sym (length_slots items blocks is.others))
+        (omega (arith, past, some, div-add-mod slot 256)) read

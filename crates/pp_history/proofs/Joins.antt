@@ -1,8 +1,8 @@
 -- Rings hold one list of actions with their undo records, and continue to hold it.
-use Rattle.pp_history.proofs.Names.{◌≡◌, ℕ, zero, suc, ◌+◌, ◌<◌, ◌≤◌, List, [], ◌∷◌, ◌++◌, length, take, drop, Option, Some, None, IfSome, IsNone}
-use Rattle.pp_history.proofs.Names.{option_map, slice_get, refl, arith, drop-cons, common_steps, take-suc}
-use Rattle.pp_history.proofs.Names.{get_or_from_slice_get, slice_get_within, Buffer, buffer, IsSide, first_of, left_by}
-use Rattle.pp_history.proofs.Names.{joined, kept_in, IsKept, in_tail, pushed, Tails}
+use Rattle.pp_history.proofs.Names.{◌≡◌, ℕ, zero, suc, ◌+◌, ◌<◌, ◌≤◌, List, [], ◌∷◌, ◌++◌, length, take, drop, Option, Some, None}
+use Rattle.pp_history.proofs.Names.{IfSome, IsNone, option_map, slice_get, refl, arith, drop-cons, common_steps, take-suc}
+use Rattle.pp_history.proofs.Names.{get_or_from_slice_get, slice_get_within, Buffer, buffer, IsSide, first_of, left_by, joined}
+use Rattle.pp_history.proofs.Names.{kept_in, IsKept, in_tail, pushed, Tails}
 
 pub drop-at : {X : Type 0} (n : ℕ) (xs : List X) (x : X) → slice_get xs n ≡ Some x → drop n xs ≡ x ∷ drop (suc n) xs
 drop-at n xs x found = rw (drop-cons xs n x (slice_get_within xs n x found), get_or_from_slice_get xs n x x found)

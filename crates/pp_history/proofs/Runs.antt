@@ -1,9 +1,9 @@
 -- Several steps of a session, one after the other.
 use Rattle.pp_history.proofs.Names.{◌≡◌, ℕ, suc, ◌+◌, ◌≤◌, ◌<◌, ◌∙◌, min, List, ◌∷◌, length, take, set, Option, Some, IsSomeAnd}
-use Rattle.pp_history.proofs.Names.{slice_get, ap, arith, refl, sym, length-take, length-set, Vec, Global, Buffer, buffer}
-use Rattle.pp_history.proofs.Names.{Halves, Heads, behind, before, IsActed, IsHeads, IsJoined, IsNext, IsSame, IsSide, Log}
-use Rattle.pp_history.proofs.Names.{AdmitsInTurn, IsAt, ahead_in, first_of, halves_in, left_by, contents_of, contents_with, Contents, IsSession, Moves}
-use Rattle.pp_history.proofs.Names.{SessionValue, after_act, after_back, after_forward, IsKept, in_tail, Ghosts, Tails}
+use Rattle.pp_history.proofs.Names.{slice_get, ap, arith, refl, sym, length-take, length-set, Vec, Global, Buffer, buffer, Halves}
+use Rattle.pp_history.proofs.Names.{Heads, behind, before, IsActed, IsHeads, IsJoined, IsNext, IsSame, IsSide, Log, AdmitsInTurn}
+use Rattle.pp_history.proofs.Names.{IsAt, ahead_in, first_of, halves_in, left_by, contents_of, contents_with, Contents, IsSession}
+use Rattle.pp_history.proofs.Names.{Moves, SessionValue, after_act, after_back, after_forward, IsKept, in_tail, Ghosts, Tails}
 use Rattle.pp_history.proofs.Blocks.{halves_before, halves_behind, halves_written, is_still, length_halves}
 use Rattle.pp_history.proofs.Joins.{ItemAt, kept_more, side_first, side_less, side_more}
 use Rattle.pp_history.proofs.Steps.{after_steps-more, back_at, forward_is, newest-step, put_at}
@@ -39,7 +39,8 @@ module _ {M A R P H : Type 0} (rules : Ghosts M A R P H) where
       record { heads = record log.heads { block = block }; at = slot; kept = kept; ahead = ahead; tails = tails; undone = undone }
 
   -- a session after some steps
-  pub record IsRun (start : M) (old : Log A R H) (after : SessionValue M A → SessionValue M A) (machine : M) (log : Log A R H) : Type 0 where
+  pub record IsRun (start : M) (old : Log A R H) (after : SessionValue M A → SessionValue M A) (machine : M)
+      (log : Log A R H) : Type 0 where
     pub heads : IsHeads log.heads
     pub within : log.at ≤ 256
     pub full : log.ahead + log.kept ≤ log.heads.capacity
@@ -69,7 +70,8 @@ module _ {M A R P H : Type 0} (rules : Ghosts M A R P H) where
 
     -- another block came into use
     pub run_turned : IsRun start old after machine log → (heads : Heads H) (at : ℕ) →
-        IsHeads heads → at ≤ 256 → IsSame log.heads log.at heads at → IsRun start old after machine (record log { heads = heads; at = at })
+        IsHeads heads → at ≤ 256 → IsSame log.heads log.at heads at →
+        IsRun start old after machine (record log { heads = heads; at = at })
     run_turned run heads at is within same = record {
       heads = is;
       within = within;
@@ -78,8 +80,8 @@ module _ {M A R P H : Type 0} (rules : Ghosts M A R P H) where
     }
 
   -- no step yet, and another block came into use
-  pub run_here : {machine : M} {log : Log A R H} → IsSession rules machine log → (heads : Heads H) (at : ℕ) → IsHeads heads → at ≤ 256 →
-      IsSame log.heads log.at heads at → IsRun machine log (λ v. v) machine (record log { heads = heads; at = at })
+  pub run_here : {machine : M} {log : Log A R H} → IsSession rules machine log → (heads : Heads H) (at : ℕ) → IsHeads heads →
+      at ≤ 256 → IsSame log.heads log.at heads at → IsRun machine log (λ v. v) machine (record log { heads = heads; at = at })
   run_here {machine = machine} {log = log} is = run_turned (run_none machine log (λ v. v) (λ v. refl) is)
 
   module _ {start : M} {old : Log A R H} {now : M} {log : Log A R H} where
@@ -108,13 +110,15 @@ module _ {M A R P H : Type 0} (rules : Ghosts M A R P H) where
       pub back_more : {machine : M} {tails : Tails A R} {undone : Buffer A} (more : ℕ) → more ≡ suc log.ahead → log.at < 256 →
           IsSomeAnd (first_of rules.unpacked in_tail head log.tails.ring.items) (λ newest.
           (machine ≡ rules.after_undo newest.1 now) × IsNext rules.unpacked head newest.0 log.undone undone) →
-          tails.ring ≡ buffer (left_by head log.tails.ring.items) log.tails.ring.capacity → IsRun start old (λ v. after_back v (count + 1)) machine
+          tails.ring ≡ buffer (left_by head log.tails.ring.items) log.tails.ring.capacity → IsRun start old
+          (λ v. after_back v (count + 1)) machine
           (record log { at = log.at + 1; kept = less; ahead = more; tails = tails; undone = undone })
       unfolding newest
       back_more {machine = machine} {tails = tails} {undone = undone} more counted within undid left =
           let did = rw newest.is at undid in
           let fewer = side_less rules.unpacked in_tail head ks log.tails.ring log.heads.capacity tails.ring here.joined.kept left in
-          let longer = side_more action_of Some head hs log.undone log.heads.capacity undone newest.item.0 (grind (arith, newest.is, did.1)) here.joined.ahead
+          let longer = side_more action_of Some head hs log.undone log.heads.capacity undone newest.item.0
+          (grind (arith, newest.is, did.1)) here.joined.ahead
           (omega (arith, run.full, one, length-take log.ahead (before log.heads log.at))) in
           record {
             heads = run.heads;
@@ -137,7 +141,8 @@ module _ {M A R P H : Type 0} (rules : Ghosts M A R P H) where
 
       acted_run : (undone : Buffer A) (ahead : ℕ) → ahead + kept ≤ log.heads.capacity →
           IsSide action_of Some (later ahead) undone log.heads.capacity → rules.admitted now action →
-          AdmitsInTurn rules machine (ahead_in rules.unpacked (later ahead) undone.items) → (then : SessionValue M A → SessionValue M A) →
+          AdmitsInTurn rules machine (ahead_in rules.unpacked (later ahead) undone.items) →
+          (then : SessionValue M A → SessionValue M A) →
           ((v : SessionValue M A) → IsAt rules (contents_of rules.unpacked start old) v → then v ≡ record (after v) {
             standing = action ∷ (after v).standing;
             kept = min (after v).capacity ((after v).kept + 1);
@@ -147,16 +152,28 @@ module _ {M A R P H : Type 0} (rules : Ghosts M A R P H) where
           let within : slot < length log.heads.block.items = omega (arith, at, run.within, run.heads.block) in
           let ks = take log.kept (behind log.heads (slot + 1)) in
           let joined = rw at at run.span.joined in
-          let more = kept_more rules.unpacked head action acted.back log.tails tails ks log.heads.capacity acted.kept joined.kept run.heads.some_room in
+          let more = kept_more rules.unpacked head action acted.back log.tails tails ks log.heads.capacity acted.kept joined.kept
+          run.heads.some_room in
           record {
-            heads = is_still run.heads (rw set_is (length-set log.heads.block.items slot head ∙ run.heads.block)) run.heads.others refl refl refl;
+            heads = is_still run.heads (rw set_is (length-set log.heads.block.items slot head ∙ run.heads.block)) run.heads.others
+                refl refl refl;
             within = omega (arith, at, run.within);
             full = full;
             span = rw (halves_written log.heads slot head block within set_is log.kept kept ahead counted) (record {
               joined = record { kept = more.1; ahead = side };
               moves = λ v was.
-                  rw (is v was, more.0) (put_at rules now machine action acted.back _ _ _ log.heads.capacity acted.next acted.fits acted.leads_back acted.old_values admitted admits
-                  (omega (arith, full, counted, side.all, joined.kept.all, length-take ahead (before log.heads slot), length-take log.kept (behind log.heads (slot + 1))))
+                  rw (is v was, more.0) (put_at rules now machine action acted.back _ _ _ log.heads.capacity acted.next acted.fits
+                  acted.leads_back acted.old_values admitted admits
+                  (omega (
+                    arith,
+                    full,
+                    counted,
+                    side.all,
+                    joined.kept.all,
+                    length-take ahead (before log.heads slot),
+                    length-take
+                        log.kept (behind log.heads (slot + 1)),
+                  ))
                   (after v) ((rw at at run.span).moves v was));
             });
           }
@@ -178,26 +195,34 @@ module _ {M A R P H : Type 0} (rules : Ghosts M A R P H) where
           IsSomeAnd (first_of action_of Some head log.undone.items) (λ action. rules.admitted now action)
       admits_next session = rw next.is (rw next.split at (there.moves session.value session.is_at).admits_ahead).0
 
-      pub forward_more : IsSession rules start old → (head' : Option H) (block : Vec (Option H) Global) → block.items ≡ set log.heads.block.items slot head' →
-          {machine : M} (tails : Tails A R) {undone : Buffer A} (kept : ℕ) → kept ≡ log.kept + 1 →
-          IsSomeAnd (first_of action_of Some head log.undone.items) (λ action. IsActed rules now machine action head' log.tails tails) →
-          undone ≡ buffer (left_by head log.undone.items) log.undone.capacity →
+      pub forward_more : IsSession rules start old → (head' : Option H) (block : Vec (Option H) Global) →
+          block.items ≡ set log.heads.block.items slot head' → {machine : M} (tails : Tails A R) {undone : Buffer A} (kept : ℕ) →
+          kept ≡ log.kept + 1 →
+          IsSomeAnd (first_of action_of Some head log.undone.items)
+          (λ action. IsActed rules now machine action head' log.tails tails) → undone ≡ buffer (left_by head log.undone.items)
+          log.undone.capacity →
           IsRun start old (λ v. after_forward v (count + 1)) machine (with_head log block slot kept less tails undone)
       unfolding next
       forward_more session head' block set_is {machine = machine} tails {undone = undone} kept counted did left =
           let acted = rw next.is at did in
-          let fewer = side_less action_of Some head (take less (before log.heads slot)) log.undone log.heads.capacity undone there.joined.ahead left in
+          let fewer = side_less action_of Some head (take less (before log.heads slot)) log.undone log.heads.capacity undone
+          there.joined.ahead left in
           let admits = rw fewer.0 at (there.moves session.value session.is_at).admits_ahead in
-          acted_run run slot at head' block set_is acted kept (omega (arith, run.full, counted, one)) undone less (omega (arith, run.full, counted, one))
+          acted_run run slot at head' block set_is acted kept (omega (arith, run.full, counted, one)) undone less
+          (omega (arith, run.full, counted, one))
           fewer.1 admits.0 (rw acted.next admits.1) _
-          (λ v was. sym (after_steps-more v count 1).1 ∙ forward_is rules _ _ _ _ log.heads.capacity (after_forward v count) (rw fewer.0 at (there.moves v was)))
+          (λ v was. sym (after_steps-more v count 1).1 ∙ forward_is rules _ _ _ _ log.heads.capacity (after_forward v count)
+          (rw fewer.0 at (there.moves v was)))
 
   -- one more action
   pub act_next : {start : M} {old : Log A R H} {after : SessionValue M A → SessionValue M A} {now : M} {log : Log A R H} →
-      IsRun start old after now log → (heads : Heads H) (slot : ℕ) → IsHeads heads → slot < 256 → IsSame log.heads log.at heads (slot + 1) →
-      (head : Option H) (block : Vec (Option H) Global) → block.items ≡ set heads.block.items slot head → {machine : M} {action : A} {tails : Tails A R} →
-      IsActed rules now machine action head log.tails tails → (kept : ℕ) → kept ≡ min (log.kept + 1) heads.capacity → rules.admitted now action →
-      IsRun start old (λ v. after_act (after v) action) machine (with_head (record log { heads = heads }) block slot kept 0 tails log.undone)
+      IsRun start old after now log → (heads : Heads H) (slot : ℕ) → IsHeads heads → slot < 256 →
+      IsSame log.heads log.at heads (slot + 1) → (head : Option H) (block : Vec (Option H) Global) →
+      block.items ≡ set heads.block.items slot head → {machine : M} {action : A} {tails : Tails A R} →
+      IsActed rules now machine action head log.tails tails → (kept : ℕ) → kept ≡ min (log.kept + 1) heads.capacity →
+      rules.admitted now action →
+      IsRun start old (λ v. after_act (after v) action) machine
+      (with_head (record log { heads = heads }) block slot kept 0 tails log.undone)
   act_next run heads slot is within same head block set_is acted kept counted admitted =
       let turned = run_turned run heads (slot + 1) is (omega (arith, within)) same in
       acted_run turned slot refl head block set_is acted kept counted _ 0 (omega (arith, counted))

@@ -16,7 +16,8 @@ no_fault m action h = grind arith
 -- each number that it sets fits its place
 pub settings_fit : (m : Machine) (done : Action) → first_fault m done ≡ None → AreSettings m.setup.central_words (set_list done)
 settings_fit m (SetCells n a values) h = let ranges = (no_fault m (SetCells n a values) h).0 in
-    AreSettings-cell_writes m.setup.central_words n a values (grind (arith, nat_tests, ranges)) (grind (arith, common_steps, ranges))
+    AreSettings-cell_writes m.setup.central_words n a values (grind (arith, nat_tests, ranges))
+    (grind (arith, common_steps, ranges))
 settings_fit m done h = grind (arith, nat_tests, no_fault m done h)
 
 -- it writes these numbers and nothing else

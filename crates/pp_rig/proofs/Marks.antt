@@ -30,7 +30,8 @@ module _ (m : Marks) (n : ℕ) where
 
   -- ---- a step: the registers of a processor have one mark, and frame words have none
 
-  pub step_unmarked : (r : StepRecord) → is_set m (register_mark n) ≡ false → AreUnmarked m n (target_pairs r) → AreUnmarked m n (pp_pairs (Step r))
+  pub step_unmarked : (r : StepRecord) → is_set m (register_mark n) ≡ false → AreUnmarked m n (target_pairs r) →
+      AreUnmarked m n (pp_pairs (Step r))
   unfolding pp_pairs
   step_unmarked r registers target = grind (arith, registers)
 
@@ -38,8 +39,8 @@ module _ (m : Marks) (n : ℕ) where
   frame_unmarked i [] = tt
   frame_unmarked i (w ∷ ws) = (refl, frame_unmarked (i + 1) ws)
 
-  pub exchange_unmarked : (x : ExchangeRecord) → is_set m (register_mark n) ≡ false → AreUnmarked m n (word_pairs (words_of x.size) x.central 0 x.words) →
-      AreUnmarked m n (pp_pairs (Exchange x))
+  pub exchange_unmarked : (x : ExchangeRecord) → is_set m (register_mark n) ≡ false →
+      AreUnmarked m n (word_pairs (words_of x.size) x.central 0 x.words) → AreUnmarked m n (pp_pairs (Exchange x))
   unfolding pp_pairs
   exchange_unmarked x registers words =
       grind (arith, registers, AllPlaces-append (λ y. is_marked m (marks_of (pp_place n y)) ≡ false), frame_unmarked 0 x.registers)
@@ -53,7 +54,8 @@ turn_unmarked m r idle step = let U = λ (p : Place). is_marked m (marks_of p) �
     grind (arith, nat_tests, AllPlaces-append U, AllPlaces-renamed (pp_place r.rest.slot) U (pp_pairs r.pp) step)
 
 -- a record without a marked place has none that the marks cover
-pub not_in_turn : (m : Marks) (r : TurnRecord) → (r.rest.are_devices_called || (m.has_unmarked || is_set m (register_mark r.rest.slot))) ≡ false →
+pub not_in_turn : (m : Marks) (r : TurnRecord) →
+    (r.rest.are_devices_called || (m.has_unmarked || is_set m (register_mark r.rest.slot))) ≡ false →
     AreUnmarked m r.rest.slot (pp_pairs r.pp) → (p : Place) → covers marks_of m p ≡ true → lookup (turn_pairs r) p ≡ None
 not_in_turn m r impossible step p covered = lookup_unmarked m (turn_pairs r) p (turn_unmarked m r (grind arith) step) (grind arith)
 

@@ -1,5 +1,6 @@
 -- Recordings of actions, one after another.
-use Rattle.std.proofs.Common.{◌≡◌, ◌∙◌, ◌+◌, ◌<◌, ◌≤◌, ℕ, zero, suc, List, [], ◌∷◌, ◌++◌, add-one, ap, append-nil, append_assoc, arith, drop, drop-cons, get_or, length, refl, replicate, sym, take}
+use Rattle.std.proofs.Common.{◌≡◌, ◌∙◌, ◌+◌, ◌<◌, ◌≤◌, ℕ, zero, suc, List, [], ◌∷◌, ◌++◌, add-one, ap, append-nil, append_assoc}
+use Rattle.std.proofs.Common.{arith, drop, drop-cons, get_or, length, refl, replicate, sym, take}
 use Rattle.std.proofs.lemmas.List.{length-append, length-take-le, take_more}
 use Rattle.pp_actions.specs.declared.action.Action.{Action}
 use Rattle.pp_actions.specs.declared.action.Action.TheVariants.{Turn}
@@ -51,7 +52,8 @@ unfolding olds_of
 olds_last s [] last = append-nil (numbered (old_values_of s last))
 olds_last s (action ∷ later) last =
     ap (λ olds. numbered (old_values_of s action) ++ olds) (olds_last (next s action) later last)
-    ∙ sym (append_assoc (numbered (old_values_of s action)) (olds_of (next s action) later) (numbered (old_values_of (performed rules (next s action) later) last)))
+    ∙ sym (append_assoc (numbered (old_values_of s action)) (olds_of (next s action) later)
+    (numbered (old_values_of (performed rules (next s action) later) last)))
 
 -- one more of the actions ahead
 performed_last : (s : Machine) (actions : List Action) (last : Action) →
@@ -89,8 +91,8 @@ pub forward_standing : (old : State) (v : SessionValue Machine Action) (action :
     old.ahead ≡ action ∷ later → (after_forward v 1).standing ≡ action ∷ v.standing
 forward_standing old v action later at same = rw (sym at.ahead ∙ same) refl
 
-pub forward_machine : (old new : State) (v : SessionValue Machine Action) (action : Action) (later : List Action) → IsAt rules old v →
-    IsAt rules new (after_forward v 1) → old.ahead ≡ action ∷ later → new.machine ≡ next old.machine action
+pub forward_machine : (old new : State) (v : SessionValue Machine Action) (action : Action) (later : List Action) →
+    IsAt rules old v → IsAt rules new (after_forward v 1) → old.ahead ≡ action ∷ later → new.machine ≡ next old.machine action
 forward_machine old new v action later at moved same =
     machine_at rules new (after_forward v 1) moved
     ∙ ap (λ standing. replay rules v.start standing) (forward_standing old v action later at same)
@@ -99,7 +101,8 @@ forward_machine old new v action later at moved same =
 -- one more action was performed again
 pub forward_more : (count : ℕ) (old middle new : State) → Moves rules old middle (λ v. after_forward v count) →
     Moves rules middle new (λ v. after_forward v 1) → Moves rules old new (λ v. after_forward v (count + 1))
-forward_more count old middle new before once = λ v at. rw (← (after_steps-more v count 1).1) (once (after_forward v count) (before v at))
+forward_more count old middle new before once = λ v at. rw (← (after_steps-more v count 1).1)
+    (once (after_forward v count) (before v at))
 
 -- what is ahead after some
 pub still_ahead : (count : ℕ) (old new : State) (v : SessionValue Machine Action) → IsAt rules old v →
@@ -140,7 +143,8 @@ olds_add zero more s = let none : zero + more ≡ more = omega arith in rw none 
 olds_add (suc turns) more s =
     let next : suc turns + more ≡ suc (turns + more) = omega arith in
     rw next (ap (λ olds. numbered (old_values_of s Turn) ++ olds) (olds_add turns more (turn s) ∙ rw (turned-first turns s) refl)
-    ∙ sym (append_assoc (numbered (old_values_of s Turn)) (olds_of (turn s) (replicate turns Turn)) (olds_of (turned (suc turns) s) (replicate more Turn))))
+    ∙ sym (append_assoc (numbered (old_values_of s Turn)) (olds_of (turn s) (replicate turns Turn))
+    (olds_of (turned (suc turns) s) (replicate more Turn))))
 
 -- turns that a session recorded as it performed them
 abbrev pub moment_with : ℕ → ℕ → Moment
@@ -149,11 +153,13 @@ moment_with slot count = record { processor = slot; count = count }
 abbrev pub old_with : Place × ℕ → Old
 old_with pair = record { place = place_number pair.0; number = pair.1 }
 
-pub moments_are : (turns : ℕ) (s : Machine) → moments_after rules (λ s. s.slot) moment_with turns Turn s ≡ moments_of s (replicate turns Turn)
+pub moments_are : (turns : ℕ) (s : Machine) →
+    moments_after rules (λ s. s.slot) moment_with turns Turn s ≡ moments_of s (replicate turns Turn)
 unfolding moments_after moments_of
 moments_are zero s = refl
 moments_are (suc turns) s =
-    ap (λ moments. moments ++ moment_of (turned turns s) Turn ∷ []) (moments_are turns s) ∙ sym (rw add-one at (moments_more turns s))
+    ap (λ moments. moments ++ moment_of (turned turns s) Turn ∷ []) (moments_are turns s) ∙ sym
+    (rw add-one at (moments_more turns s))
 
 pub olds_are : (turns : ℕ) (s : Machine) → olds_after rules old_with turns Turn s ≡ olds_of s (replicate turns Turn)
 unfolding olds_after olds_of

@@ -1,5 +1,6 @@
 -- Turns of a session, one after another, that changed no watched number so far.
-use Rattle.std.proofs.Common.{◌≡◌, ◌∙◌, ◌+◌, ◌-◌, ◌*◌, ℕ, zero, suc, Bool, false, List, ◌++◌, All, add-one, ap, append-nil, append_assoc, arith, is_some, length, refl, sym, take}
+use Rattle.std.proofs.Common.{◌≡◌, ◌∙◌, ◌+◌, ◌-◌, ◌*◌, ℕ, zero, suc, Bool, false, List, ◌++◌, All, add-one, ap, append-nil}
+use Rattle.std.proofs.Common.{append_assoc, arith, is_some, length, refl, sym, take}
 use Rattle.std.specs.Prelude.{Option, Some, None}
 use Rattle.pp_actions.specs.declared.action.Action.{Action}
 use Rattle.pp_actions.specs.Watches.{watches_of}
@@ -59,8 +60,8 @@ machine_more turns old middle new ran machine = rw add-one (machine ∙ ap turn 
 
 -- one more turn that changed none
 pub ran_more : (turns : ℕ) (old middle new : State) (hit : Bool) → Ran turns old middle →
-    Moves rules middle new (after_turns 1) → new.machine ≡ turn middle.machine → hit ≡ is_some (hit_of middle.machine) → hit ≡ false →
-    Ran (turns + 1) old new
+    Moves rules middle new (after_turns 1) → new.machine ≡ turn middle.machine → hit ≡ is_some (hit_of middle.machine) →
+    hit ≡ false → Ran (turns + 1) old new
 ran_more turns old middle new hit ran at machine is none =
     let no = no_hit (hit_of (turned turns old.machine)) (ap (λ s. is_some (hit_of s)) (sym ran.machine) ∙ sym is ∙ none) in
     record {
@@ -98,11 +99,13 @@ turned_add turns zero s = let none : turns + zero ≡ turns = omega arith in rw 
 turned_add turns (suc more) s =
     let next : turns + suc more ≡ suc (turns + more) = omega arith in rw next (ap turn (turned_add turns more s))
 
-not_stopped : (done : Stopped) (turns : ℕ) → done.turns ≡ turns → is_some done.hit ≡ false → done ≡ record { turns = turns; hit = None }
+not_stopped : (done : Stopped) (turns : ℕ) → done.turns ≡ turns → is_some done.hit ≡ false →
+    done ≡ record { turns = turns; hit = None }
 not_stopped done turns all none = grind (arith, all, no_hit done.hit none)
 
-pub ran_add : (turns more : ℕ) (old middle new : State) (hit : Bool) → Ran turns old middle → Moves rules middle new (after_turns more) →
-    new.machine ≡ turned more middle.machine → EndsAsStep more middle.machine hit → hit ≡ false → Ran (turns + more) old new
+pub ran_add : (turns more : ℕ) (old middle new : State) (hit : Bool) → Ran turns old middle →
+    Moves rules middle new (after_turns more) → new.machine ≡ turned more middle.machine → EndsAsStep more middle.machine hit →
+    hit ≡ false → Ran (turns + more) old new
 ran_add turns more old middle new hit ran at machine ends none =
     let last = ends_more turns more old middle hit ran ends in
     record {
@@ -132,13 +135,15 @@ ends_without_hit turns old new ran = (ap (λ done. done.turns) ran.stopped, ap (
 setup_kept : (turns : ℕ) (s : Machine) → (turned turns s).setup ≡ s.setup
 setup_kept zero s = refl
 setup_kept (suc turns) s =
-    ap (λ s. s.setup) (next_by_writes (turned turns s) Turn) ∙ setup-over (turned turns s) (writes (turned turns s) Turn) ∙ setup_kept turns s
+    ap (λ s. s.setup) (next_by_writes (turned turns s) Turn) ∙ setup-over (turned turns s) (writes (turned turns s) Turn)
+    ∙ setup_kept turns s
 
 -- the machine has the same places
 pub places_later : (places : List Place) (turns : ℕ) (old new : State) → new.machine ≡ turned turns old.machine →
     All (Has old.machine.setup.central_words) places → All (Has new.machine.setup.central_words) places
 places_later places turns old new machine has =
-    let same : new.machine.setup.central_words ≡ old.machine.setup.central_words = ap (λ s. s.setup.central_words) machine ∙ ap (λ setup. setup.central_words) (setup_kept turns old.machine) in
+    let same : new.machine.setup.central_words ≡ old.machine.setup.central_words = ap (λ s. s.setup.central_words) machine ∙ ap
+    (λ setup. setup.central_words) (setup_kept turns old.machine) in
     rw same has
 
 -- one more row

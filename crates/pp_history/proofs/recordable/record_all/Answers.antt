@@ -1,5 +1,6 @@
 use Rattle.pp_history.proofs.Names.{◌≡◌, ◌∙◌, ◌+◌, ◌-◌, arith, drop, drop_all, length, length-drop, length-set, machine_after, refl}
-use Rattle.pp_history.proofs.{Recordings.recorded_more, Recordings.recorded_none, Recordings.room_more, Repeats.acted_machine, Repeats.set_last}
+use Rattle.pp_history.proofs.{Recordings.recorded_more, Recordings.recorded_none}
+use Rattle.pp_history.proofs.{Recordings.room_more, Repeats.acted_machine, Repeats.set_last}
 use Rattle.pp_history.proofs.recordable.record_all.Goals as goal
 
 pub loop-left-init : goal.loop-left-init
@@ -13,7 +14,8 @@ loop-left-init g c = let R = g.T.Recordable in let heads = c.args.heads.now in r
   acted = rw (drop_all (length heads) heads (omega arith)) (refl, refl);
   recorded = λ count same.
       let none : count ≡ 0 = omega (arith, same) in
-      rw none (recorded_none g.T.Reversible R.label_of R.moment_of R.old_of g.T.Repeatable.repeated c.args.machine.now c.args.first c.args.made.now c.args.used c.args.olds.now);
+      rw none (recorded_none g.T.Reversible R.label_of R.moment_of R.old_of g.T.Repeatable.repeated c.args.machine.now c.args.first
+      c.args.made.now c.args.used c.args.olds.now);
 }
 
 pub record_once-moment-requires-clause-room : goal.record_once-moment-requires-clause-room
@@ -23,7 +25,14 @@ record_once-moment-requires-clause-room g c =
 pub record_once-moment-requires-clause-olds_room : goal.record_once-moment-requires-clause-olds_room
 record_once-moment-requires-clause-olds_room g c =
     let before = c.loop-left.invariant in
-    omega (arith, c.requires.olds_room, before.olds_length, before.at_most, room_more c.loop-left.left g.T.Recordable.most c.loop-left-test.true)
+    omega (
+      arith,
+      c.requires.olds_room,
+      before.olds_length,
+      before.at_most,
+      room_more c.loop-left.left g.T.Recordable.most
+          c.loop-left-test.true,
+    )
 
 pub loop-left-preserved : goal.loop-left-preserved
 loop-left-preserved g c =
@@ -41,9 +50,11 @@ loop-left-preserved g c =
     let many : length (drop left heads) ≡ done = omega (arith, length-drop left heads, before.same_length) in
     let now : c.loop-left.machine ≡ machine_after T done action c.args.machine.now = rw many at was.0 in
     let turns : c.loop-left.turns ≡ c.args.first + done = omega (arith, before.turns, before.within, before.same_length) in
-    let more = recorded_more T R.label_of R.moment_of R.old_of action c.args.machine.now c.args.first c.args.made.now c.args.used c.args.olds.now
+    let more = recorded_more T R.label_of R.moment_of R.old_of action c.args.machine.now c.args.first c.args.made.now c.args.used
+    c.args.olds.now
     done c.loop-left.made c.loop-left.end c.loop-left.olds (before.recorded done (omega (arith, before.within, before.same_length)))
-    c.loop-left.machine now once.result.0 once.ensures.moment (omega (arith, c.requires.made_room, before.made_length, before.within, before.same_length, some))
+    c.loop-left.machine now once.result.0 once.ensures.moment
+    (omega (arith, c.requires.made_room, before.made_length, before.within, before.same_length, some))
     once.result.1 once.new.olds once.ensures.items in
     record {
       within = omega (arith, before.within, long);

@@ -14,6 +14,7 @@ loop-left-preserved g c =
     record {
       within = omega (arith, before.within, long);
       same_length = long ∙ before.same_length;
-      acted = rw (set_last c.loop-left.left c.loop-left.heads c.perform.new.head (omega (arith, c.loop-left-test.true)) before.within)
+      acted = rw (set_last c.loop-left.left c.loop-left.heads c.perform.new.head (omega (arith, c.loop-left-test.true))
+          before.within)
           (c.loop-left.machine, c.loop-left.tails, before.acted, acted);
     }

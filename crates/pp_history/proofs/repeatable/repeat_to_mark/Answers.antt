@@ -1,5 +1,6 @@
 use Rattle.pp_history.proofs.Names.{◌≡◌, ◌∙◌, ◌-◌, ◌+◌, arith, drop, length, length-drop, length-set, machine_after, take-set}
-use Rattle.pp_history.proofs.{Repeats.acted_machine, Repeats.machine_after_more, Repeats.set_last, Repeats.take_less, Repeats.unmarked_more, Runs.acted}
+use Rattle.pp_history.proofs.{Repeats.acted_machine, Repeats.machine_after_more, Repeats.set_last, Repeats.take_less}
+use Rattle.pp_history.proofs.{Repeats.unmarked_more, Runs.acted}
 use Rattle.pp_history.proofs.repeatable.repeat_to_mark.Goals as goal
 
 pub perform-requires-clause-room : goal.perform-requires-clause-room
@@ -23,11 +24,15 @@ loop-left-preserved g c =
     record {
       within = omega (arith, before.within);
       same_length = length-set heads (left - 1) c.perform.new.head ∙ before.same_length;
-      left_alone = take-set heads (left - 1) c.perform.new.head ∙ take_less (left - 1) left heads c.args.heads.now (omega arith) before.left_alone;
-      acted = rw (set_last left heads c.perform.new.head (omega (arith, c.loop-left-test.true)) (omega (arith, before.within, before.same_length)))
+      left_alone = take-set heads (left - 1) c.perform.new.head ∙ take_less (left - 1) left heads c.args.heads.now (omega arith)
+          before.left_alone;
+      acted = rw (set_last left heads c.perform.new.head (omega (arith, c.loop-left-test.true))
+          (omega (arith, before.within, before.same_length)))
           (c.loop-left.machine, c.loop-left.tails, before.acted, acted);
       some = λ stops. omega (arith, before.within, c.loop-left-test.true);
       before = λ k less. before.all c.if-not-may_stop.true k (omega (arith, less));
-      all = λ unmarked k less. unmarked_more T g.T.Marked.marks_of c.args.marks.now now next acted (omega (arith, c.requires.room, was.1))
-          (c.may_be_marked-may_stop.ensures unmarked) (before.all c.if-not-may_stop.true) k (omega (arith, less, before.within, c.loop-left-test.true));
+      all = λ unmarked k less. unmarked_more T g.T.Marked.marks_of c.args.marks.now now next acted
+          (omega (arith, c.requires.room, was.1))
+          (c.may_be_marked-may_stop.ensures unmarked) (before.all c.if-not-may_stop.true) k
+          (omega (arith, less, before.within, c.loop-left-test.true));
     }

@@ -7,7 +7,8 @@ invariant-loop-left g l = let heads = l.initial.heads in record {
   same_length : length l.heads ≡ length heads;
   left_alone : take l.left l.heads ≡ take l.left heads;
   room : 1 ≤ l.tails.ring.capacity;
-  redone : AreRedone g.T.Reversible (drop l.left heads) (drop l.left l.heads) l.initial.machine l.machine l.initial.tails l.tails l.initial.undone l.undone;
+  redone : AreRedone g.T.Reversible (drop l.left heads) (drop l.left l.heads) l.initial.machine l.machine l.initial.tails l.tails
+      l.initial.undone l.undone;
 }
 
 abbrev pub decreases-loop-left : goal.decreases-loop-left

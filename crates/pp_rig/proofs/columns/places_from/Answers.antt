@@ -10,6 +10,12 @@ loop-k-preserved c =
     let has : Has words c.place_at.result = search rules in
     record {
       count = search rules;
-      places = rw (take_more c.args.numbers.now c.loop-k.k 0 c.loop-k-test.true, map-append, c.push.ensures.items, c.loop-k.invariant.places, c.place_at.ensures.place) refl;
+      places = rw (
+        take_more c.args.numbers.now c.loop-k.k 0 c.loop-k-test.true,
+        map-append,
+        c.push.ensures.items,
+        c.loop-k.invariant.places,
+        c.place_at.ensures.place,
+      ) refl;
       has = rw c.push.ensures.items (All-push (Has words) c.loop-k.places.items c.place_at.result c.loop-k.invariant.has has);
     }

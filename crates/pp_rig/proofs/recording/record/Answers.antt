@@ -18,7 +18,8 @@ loop-turns-init c = record {
 
 pub returns-then-hit-clause-moves : goal.returns-then-hit-clause-moves
 returns-then-hit-clause-moves c =
-    moved_add c.loop-turns.turns c.record_part-hit.result.0.count c.args.session.now c.loop-turns.session c.record_part-hit.new.session
+    moved_add c.loop-turns.turns c.record_part-hit.result.0.count c.args.session.now c.loop-turns.session
+    c.record_part-hit.new.session
     c.loop-turns.invariant.ran c.record_part-hit.ensures.moves
 
 pub returns-then-hit-clause-stops : goal.returns-then-hit-clause-stops
@@ -32,7 +33,8 @@ returns-then-hit-clause-moments c =
     let count = c.record_part-hit.result.0.count in
     c.record_part-hit.ensures.moments
     ∙ ap (λ moments. moments ++ moments_of c.loop-turns.session.machine (replicate count Turn)) c.loop-turns.invariant.moments
-    ∙ ap (λ s. moments_of c.args.session.now.machine (replicate turns Turn) ++ moments_of s (replicate count Turn)) c.loop-turns.invariant.ran.machine
+    ∙ ap (λ s. moments_of c.args.session.now.machine (replicate turns Turn) ++ moments_of s (replicate count Turn))
+    c.loop-turns.invariant.ran.machine
     ∙ sym (moments_add turns count c.args.session.now.machine)
 
 pub returns-then-hit-clause-olds : goal.returns-then-hit-clause-olds
@@ -41,7 +43,8 @@ returns-then-hit-clause-olds c =
     let count = c.record_part-hit.result.0.count in
     c.record_part-hit.ensures.olds
     ∙ ap (λ olds. olds ++ olds_of c.loop-turns.session.machine (replicate count Turn)) c.loop-turns.invariant.olds
-    ∙ ap (λ s. olds_of c.args.session.now.machine (replicate turns Turn) ++ olds_of s (replicate count Turn)) c.loop-turns.invariant.ran.machine
+    ∙ ap (λ s. olds_of c.args.session.now.machine (replicate turns Turn) ++ olds_of s (replicate count Turn))
+    c.loop-turns.invariant.ran.machine
     ∙ sym (olds_add turns count c.args.session.now.machine)
 
 pub loop-turns-preserved : goal.loop-turns-preserved
@@ -57,10 +60,12 @@ loop-turns-preserved c =
           part.ensures.moves part.ensures.machine part.ensures.stops c.if-hit.false;
       moments = part.ensures.moments
           ∙ ap (λ moments. moments ++ moments_of c.loop-turns.session.machine (replicate count Turn)) c.loop-turns.invariant.moments
-          ∙ ap (λ s. moments_of c.args.session.now.machine (replicate turns Turn) ++ moments_of s (replicate count Turn)) c.loop-turns.invariant.ran.machine
+          ∙ ap (λ s. moments_of c.args.session.now.machine (replicate turns Turn) ++ moments_of s (replicate count Turn))
+          c.loop-turns.invariant.ran.machine
           ∙ sym (moments_add turns count c.args.session.now.machine);
       olds = part.ensures.olds
           ∙ ap (λ olds. olds ++ olds_of c.loop-turns.session.machine (replicate count Turn)) c.loop-turns.invariant.olds
-          ∙ ap (λ s. olds_of c.args.session.now.machine (replicate turns Turn) ++ olds_of s (replicate count Turn)) c.loop-turns.invariant.ran.machine
+          ∙ ap (λ s. olds_of c.args.session.now.machine (replicate turns Turn) ++ olds_of s (replicate count Turn))
+          c.loop-turns.invariant.ran.machine
           ∙ sym (olds_add turns count c.args.session.now.machine);
     }

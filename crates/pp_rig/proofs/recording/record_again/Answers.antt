@@ -1,7 +1,8 @@
 use Rattle.std.proofs.Common.{◌≡◌, ◌∙◌, ◌+◌, ◌<◌, ◌++◌, ◌∷◌, ap, arith, drop, get_or, length, refl, rules, sym, take}
 use Rattle.std.proofs.lemmas.List.{take_more_set}
 use Rattle.pp_actions.specs.declared.action.Action.TheVariants.{Turn}
-use Rattle.pp_rig.proofs.Recordings.{ahead_following, forward_more, forward_none, moments_following, olds_following, performed_following, still_ahead}
+use Rattle.pp_rig.proofs.Recordings.{ahead_following, forward_more, forward_none, moments_following, olds_following}
+use Rattle.pp_rig.proofs.Recordings.{performed_following, still_ahead}
 use Rattle.pp_rig.specs.Action.{next}
 use Rattle.pp_rig.specs.Inner.ActionRecords.{old_values_of}
 use Rattle.pp_machine.specs.Olds.{numbered}
@@ -35,10 +36,12 @@ loop-actions-preserved c =
     let start = c.args.session.now.machine in
     let ahead = c.args.session.now.ahead in
     let count = c.loop-actions.actions in
-    let within : count < length ahead = omega (arith, c.loop-actions-test.true, c.if-most-ahead.false, c.ahead-ahead.ensures.value) in
+    let within : count < length ahead = omega (arith, c.loop-actions-test.true, c.if-most-ahead.false, c.ahead-ahead.ensures.value)
+    in
     let action = get_or ahead count Turn in
     let left : c.loop-actions.session.ahead ≡ action ∷ drop (count + 1) ahead =
-    still_ahead count c.args.session.now c.loop-actions.session v at c.loop-actions.invariant.moves ∙ ahead_following ahead count within in
+    still_ahead count c.args.session.now c.loop-actions.session v at c.loop-actions.invariant.moves ∙ ahead_following ahead count
+    within in
     let room : count < length c.loop-actions.made = search rules in
     let machine = c.loop-actions.invariant.machine in
     let moment = c.record_next-moment.ensures.moment action (drop (count + 1) ahead) left ∙ ap (λ s. moment_of s action) machine in
@@ -46,7 +49,8 @@ loop-actions-preserved c =
       most = search rules;
       made_room = search rules;
       olds_room = search rules;
-      moves = forward_more count c.args.session.now c.loop-actions.session c.record_next-moment.new.session c.loop-actions.invariant.moves
+      moves = forward_more count c.args.session.now c.loop-actions.session c.record_next-moment.new.session
+          c.loop-actions.invariant.moves
           c.record_next-moment.ensures.moves;
       machine = c.record_next-moment.ensures.machine action (drop (count + 1) ahead) left ∙ ap (λ s. next s action) machine
           ∙ sym (performed_following ahead count within start);

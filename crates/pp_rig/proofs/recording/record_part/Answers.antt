@@ -18,7 +18,8 @@ returns-then-is_empty-clause-stops c =
 pub returns-then-is_empty-clause-moments : goal.returns-then-is_empty-clause-moments
 returns-then-is_empty-clause-moments c =
     c.repeat_recorded.ensures.recorded.moments
-    ∙ ap (λ moments. take c.args.turns c.args.made.now ++ moments) (moments_are c.repeat_recorded.result.count c.args.session.now.machine)
+    ∙ ap (λ moments. take c.args.turns c.args.made.now ++ moments)
+    (moments_are c.repeat_recorded.result.count c.args.session.now.machine)
 
 pub returns-then-is_empty-clause-olds : goal.returns-then-is_empty-clause-olds
 returns-then-is_empty-clause-olds c =

@@ -18,7 +18,8 @@ unfolding after_turns
 returns-clause-moment c =
     let (v, at) = c.has_session_value.ensures in
     let moved : IsAt rig c.turn_once-hit.new.session (after_act v Turn) = c.turn_once-hit.ensures.at v at in
-    let (count, olds) = rw (← machine_at rig c.args.session.now v at) at (c.record_newest.ensures.olds (after_act v Turn) Turn v.standing moved refl) in
+    let (count, olds) = rw (← machine_at rig c.args.session.now v at) at
+    (c.record_newest.ensures.olds (after_act v Turn) Turn v.standing moved refl) in
     grind (arith, count, c.machine.ensures.value, c.slot-slot.ensures)
 
 pub returns-clause-olds : goal.returns-clause-olds
@@ -26,4 +27,5 @@ unfolding after_turns
 returns-clause-olds c =
     let (v, at) = c.has_session_value.ensures in
     let moved : IsAt rig c.turn_once-hit.new.session (after_act v Turn) = c.turn_once-hit.ensures.at v at in
-    let (count, olds) = rw (← machine_at rig c.args.session.now v at) at (c.record_newest.ensures.olds (after_act v Turn) Turn v.standing moved refl) in olds
+    let (count, olds) = rw (← machine_at rig c.args.session.now v at) at
+    (c.record_newest.ensures.olds (after_act v Turn) Turn v.standing moved refl) in olds

@@ -25,6 +25,13 @@ loop-turns-preserved c =
     record {
       at_most = omega (arith, c.run_part-more.ensures.some, c.loop-turns.invariant.at_most, c.loop-turns-test.true);
       at = λ v at. rw (← after_turns_add) (c.run_part-more.ensures.at _ (c.loop-turns.invariant.at v at));
-      stopped = grind (arith, c.run_part-more.ensures.machine, c.loop-turns.invariant.stopped, part, c.is_some.ensures, c.if-is_some.false);
+      stopped = grind (
+        arith,
+        c.run_part-more.ensures.machine,
+        c.loop-turns.invariant.stopped,
+        part,
+        c.is_some.ensures,
+        c.if-is_some.false,
+      );
       watches = grind (arith, c.run_part-more.ensures.machine, same, c.loop-turns.invariant.watches);
     }

@@ -9,7 +9,15 @@ returns g c = λ machine. (
     full = omega arith;
     joined = rw (c.in_ok-tails.ensures, c.in_ok-undone.ensures) (search rules);
     value = fresh machine c.args.capacity;
-    is_at = record { leads_back = refl; kept = refl; ahead = refl; admits_ahead = tt; capacity = c.in_ok-heads.ensures.1; room = omega arith };
+    is_at = record {
+      leads_back = refl;
+      kept = refl;
+      ahead = refl;
+      admits_ahead = tt;
+      capacity = c.in_ok-heads.ensures.1;
+      room =
+          omega arith;
+    };
   },
   refl,
 )

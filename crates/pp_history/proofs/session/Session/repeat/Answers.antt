@@ -1,4 +1,5 @@
-use Rattle.pp_history.proofs.Names.{◌≡◌, ◌+◌, ◌-◌, ◌∙◌, ◌++◌, ap, arith, drop, length, length-drop, refl, min, sym, take, with_items}
+use Rattle.pp_history.proofs.Names.{◌≡◌, ◌+◌, ◌-◌, ◌∙◌, ◌++◌, ap, arith, drop, length}
+use Rattle.pp_history.proofs.Names.{length-drop, refl, min, sym, take, with_items}
 use Rattle.pp_history.proofs.Repeats.{part_long, repeat_none, repeat_part, unmarked_both, written_block}
 use Rattle.pp_history.proofs.Runs.{run_ends}
 use Rattle.pp_history.proofs.session.Session.repeat.Goals as goal
@@ -40,22 +41,27 @@ loop-count-preserved g c =
       at_most = omega (arith, some, c.loop-count-test.true, before.at_most);
       some = λ stops. omega (arith, less, all);
       repeated = repeat_part T before.repeated g.met.T.Repeatable.is_admitted c.slot_before-end.new.self (first + left) end slot.is
-          (omega (arith, slot.within)) slot.same (omega (arith, less, all)) (drop left heads) (omega (arith, long, less, all, length-drop left heads))
+          (omega (arith, slot.within)) slot.same (omega (arith, less, all)) (drop left heads)
+          (omega (arith, long, less, all, length-drop left heads))
           c.repeat_into-stretch.new.machine c.repeat_into-stretch.new.tails stretch.acted
           (with_items c.slot_before-end.new.self.block (take first slots ++ (heads ++ drop (end - first) (drop first slots))))
           (written_block c.slot_before-end.new.self.block slots first end heads left c.as_mut_slice.ensures.value (omega arith)
           (omega (arith, slot.within, within)) long (omega (arith, less, stretch.same_length)) stretch.left)
-          (min (c.self.inside.log.kept + (count + (end - (first + left)))) c.slot_before-end.new.self.capacity) (omega (arith, slot.same.capacity));
+          (min (c.self.inside.log.kept + (count + (end - (first + left)))) c.slot_before-end.new.self.capacity)
+          (omega (arith, slot.same.capacity));
       kept = before.kept;
-      before = λ k early. unmarked (end - first - left - 1) c.self.inside.machine c.loop-count.self-inside.machine before.repeated.machine_is going
+      before = λ k early. unmarked (end - first - left - 1) c.self.inside.machine c.loop-count.self-inside.machine
+          before.repeated.machine_is going
           (λ j earlier. stretch.before j (omega (arith, earlier, all))) k (omega (arith, early, less, all));
-      all = λ none k early. unmarked (end - first) c.self.inside.machine c.loop-count.self-inside.machine before.repeated.machine_is going
+      all = λ none k early. unmarked (end - first) c.self.inside.machine c.loop-count.self-inside.machine before.repeated.machine_is
+          going
           (λ j earlier. (stretch.all none).1 j (omega (arith, earlier, all))) k (omega (arith, early, (stretch.all none).0));
     }
 
 pub invariant_of-self : goal.invariant_of-self
 invariant_of-self g c =
-    rw (rw c.loop-count.invariant.kept at c.min-self-inside.ensures) (run_ends g.T.Reversible c.self.invariant c.loop-count.invariant.repeated.run)
+    rw (rw c.loop-count.invariant.kept at c.min-self-inside.ensures)
+    (run_ends g.T.Reversible c.self.invariant c.loop-count.invariant.repeated.run)
 
 pub returns-clause-unmarked : goal.returns-clause-unmarked
 returns-clause-unmarked g c = rw (← c.self.view_is) c.loop-count.invariant.before

@@ -7,4 +7,5 @@ returns-else-must_search c = λ none p covered.
     let s = c.args.self.now in
     let m = c.args.marks.now in
     let impossible = sym c.must_search.ensures ∙ c.if-must_search.false in
-    not_in_turn m (whole_turn s) impossible (step_unmarked m s.rest.slot s.pp (third_unset _ _ _ impossible) (c.is_target_marked.ensures none)) p covered
+    not_in_turn m (whole_turn s) impossible (step_unmarked m s.rest.slot s.pp (third_unset _ _ _ impossible)
+    (c.is_target_marked.ensures none)) p covered
