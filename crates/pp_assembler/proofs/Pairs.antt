@@ -1,5 +1,6 @@
 -- Statements of which each is that of a line.
-use Rattle.std.proofs.Common.{◌≡◌, ◌∙◌, ◌<◌, ◌+◌, ℕ, true, IfSome, Option, Some, List, [], ◌∷◌, ◌++◌, length, get_or, ap, refl, subst, sym, take}
+use Rattle.std.proofs.Common.{◌≡◌, ◌∙◌, ◌<◌, ◌+◌, ℕ, true, IfSome, Option, Some, List, []}
+use Rattle.std.proofs.Common.{◌∷◌, ◌++◌, length, get_or, ap, refl, subst, sym, take}
 use Rattle.std.proofs.lemmas.List.{take_more}
 use Rattle.std.specs.List.{AllByRecursion, AllZip, slice_get}
 use Rattle.std.proofs.lemmas.Option.{slice_get-get_or}
@@ -17,7 +18,8 @@ push_both R (a ∷ xs) [] x y all now = absurd all
 
 -- the statement of a row
 pub performed_at : (lines : Lines) (rows all : List Row) (at : ℕ) (row : Row) (statement : Statement) →
-    all ≡ rows → at < length all → (get_or all at row).is_performed ≡ true → statement.line.items ≡ read_at lines (get_or all at row).statement →
+    all ≡ rows → at < length all → (get_or all at row).is_performed ≡ true →
+    statement.line.items ≡ read_at lines (get_or all at row).statement →
     IsPerformed lines rows statement (get_or all at row).statement
 performed_at lines rows all at row statement same within performed line = record {
   at = at;
@@ -37,12 +39,14 @@ pub push_taken : {A B : Type 0} (R : A → B → Type 0) (xs : List A) (all ys :
 push_taken R xs all ys i x y d is same within before now =
     subst (λ l. AllZip R (xs ++ x ∷ []) (take (i + 1) l)) same
     (rw (take_more all i d within)
-    (push_both R xs (take i all) x (get_or all i d) (subst (λ l. AllZip R xs (take i l)) (sym same) before) (subst (λ one. R x one) is now)))
+    (push_both R xs (take i all) x (get_or all i d) (subst (λ l. AllZip R xs (take i l)) (sym same) before)
+    (subst (λ one. R x one) is now)))
 
 -- the same, of a statement that a row may have
-pub performed_of_row : (lines : Lines) (rows all : List Row) (at : ℕ) (row : Row) (made : Option Statement) (statement : Statement) →
-    IfSome made (λ one. one.line.items ≡ read_at lines (get_or all at row).statement) → made ≡ Some statement → all ≡ rows → at < length all →
-    (get_or all at row).is_performed ≡ true → (index : ℕ) × IsPerformed lines rows statement index
+pub performed_of_row : (lines : Lines) (rows all : List Row) (at : ℕ) (row : Row) (made : Option Statement) (statement : Statement)
+    →
+    IfSome made (λ one. one.line.items ≡ read_at lines (get_or all at row).statement) → made ≡ Some statement → all ≡ rows →
+    at < length all → (get_or all at row).is_performed ≡ true → (index : ℕ) × IsPerformed lines rows statement index
 performed_of_row lines rows all at row made statement right is same within performed = (
   (get_or all at row).statement,
   performed_at lines rows all at row statement same within performed

@@ -1,5 +1,6 @@
 -- The common decks that a source reads.
-use Rattle.std.specs.Prelude.{ℕ, ◌≡◌, ◌==◌, ◌<◌, ◌||◌, Bool, true, false, Any, List, [], Option, Some, None, codes, length, drop, position, slice_get}
+use Rattle.std.specs.Prelude.{ℕ, ◌≡◌, ◌==◌, ◌<◌, ◌||◌, Bool, true, false, Any, List, [], Option}
+use Rattle.std.specs.Prelude.{Some, None, codes, length, drop, position, slice_get}
 use Rattle.std.specs.List.{AllByRecursion}
 use Rattle.std.specs.Option.{is_some}
 use Rattle.std.specs.Cmp.Lexicographic.{pointwise}
@@ -79,8 +80,8 @@ IsRead lines decks words readings row =
     row.is_performed ≡ true → is_deck decks (deck_name (is_taken words) (read_at lines row.statement)) ≡ true →
     Any (λ reading. reading.statement ≡ row.statement) readings
 
--- The decks are those of the texts that were given, the lines that the source took from them are theirs, and each line that reads a deck has
--- taken lines.
+-- The decks are those of the texts that were given, the lines that the source took from them are theirs, and each line that reads a
+-- deck has taken lines.
 abbrev pub AreRead : List Text → Assembly → Type 0
 AreRead texts made =
     AreOf texts made.decks.all.items × AllByRecursion (IsReading made.lines made.decks.all.items) made.readings.items

@@ -21,9 +21,10 @@ use Rattle.pp_statements.specs.declared.scope.SystemRows.{SystemRows}
 use Rattle.pp_assembler.specs.declared.program.Assembly.{Assembly}
 use Rattle.pp_assembler.specs.declared.program.Performed.{Performed}
 
--- The words of a program, by cell and in the order of the listing, are those that statements mean. The line of each statement is its
--- label, operation, operands and comment, and no two names are one.
-pub record IsWordsOf (symbols : List Symbol) (literals : List Literal) (systems : List SystemText) (statements : List Statement) (program : Program) (words : List ℕ) : Type 0 where
+-- The words of a program, by cell and in the order of the listing, are those that statements mean. The line of each statement is
+-- its label, operation, operands and comment, and no two names are one.
+pub record IsWordsOf (symbols : List Symbol) (literals : List Literal) (systems : List SystemText) (statements : List Statement)
+    (program : Program) (words : List ℕ) : Type 0 where
   pub image : Image
   pub assembled : IsAssembled symbols literals systems statements image
   pub written : AllByRecursion (IsWritten symbols) statements
@@ -55,7 +56,8 @@ ArePerformed lines rows performed = AllZip (IsPerformed lines rows) performed.st
 
 -- A statement of a system text is that of a line of the text that has been performed.
 abbrev pub AreOfSystem : Lines → SystemText → SystemRows → Type 0
-AreOfSystem lines text rows = AllByRecursion (λ statement. (index : ℕ) × IsPerformed lines rows.rows.items statement index) text.statements.items
+AreOfSystem lines text rows = AllByRecursion (λ statement. (index : ℕ) × IsPerformed lines rows.rows.items statement index)
+    text.statements.items
 
 abbrev pub AreOfSystems : Lines → List SystemRows → Performed → Type 0
 AreOfSystems lines systems performed = AllZip (AreOfSystem lines) performed.systems.items systems

@@ -40,7 +40,8 @@ named_by label operand = first_word operand
 -- The name of a deck in a statement, from its label on; none if its operation is another one.
 abbrev pub name_in : List ℕ → List ℕ
 name_in line =
-    if pointwise ◌==◌ (first_word (next_word line)) (codes "XTEXT") then named_by (first_word line) (next_word (next_word line)) else []
+    if pointwise ◌==◌ (first_word (next_word line)) (codes "XTEXT") then named_by (first_word line) (next_word (next_word line))
+    else []
 
 -- The name of a deck in a note: *CALL NAME.
 abbrev pub name_called : List ℕ → List ℕ

@@ -354,7 +354,8 @@ fn statements_of(
     systems: Vec<SystemText>,
 ) -> Result<Option<Performed>, AllocError>
     ensures { AllZip (AreOfSystem lines.now) systems.items pass.now.scope.output.systems.items →
-        IfOk result (λ made. IfSome made (ArePerformedAll lines.now pass.now.scope.output.rows.items pass.now.scope.output.systems.items)) }
+        IfOk result (λ made. IfSome made (ArePerformedAll lines.now pass.now.scope.output.rows.items
+        pass.now.scope.output.systems.items)) }
 {
     let mut names = names;
     let mut statements = Vec::new(alloc);
@@ -390,7 +391,8 @@ fn statements_of(
 
 /// Returns the statements that a pass has performed, if nothing is wrong and all have a meaning.
 fn performed_of(alloc: Global, lines: &Lines, pass: &Pass) -> Result<Option<Performed>, AllocError>
-    ensures { IfOk result (λ made. IfSome made (ArePerformedAll lines.now pass.now.scope.output.rows.items pass.now.scope.output.systems.items)) }
+    ensures { IfOk result (λ made. IfSome made (ArePerformedAll lines.now pass.now.scope.output.rows.items
+        pass.now.scope.output.systems.items)) }
 {
     if !pass.scope.output.messages.is_empty() || !pass.vocabulary.synonyms.is_empty() {
         return Ok(None);
@@ -454,8 +456,8 @@ fn encoding_of(
     }
 }
 
-/// Returns whether the statement at an index is BSS, which may go back below cell 0, or has a logical difference, whose numbers may have
-/// a minus: `pp_meaning` has no words of that.
+/// Returns whether the statement at an index is BSS, which may go back below cell 0, or has a logical difference, whose numbers may
+/// have a minus: `pp_meaning` has no words of that.
 fn may_be_refused(statements: &[Statement], index: usize) -> bool {
     match statements.get(index) {
         Some(statement) => {

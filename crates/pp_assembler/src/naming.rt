@@ -1,6 +1,7 @@
 //! The name of the deck that a line reads, as it stands in the line.
 ghost use Rattle.std.specs.Prelude.{◌≡◌, drop, position, take};
-ghost use Rattle.pp_assembler.specs.Naming.{after_blanks, deck_name, first_word, from_label, from_place, is_blank, is_sign, name_called, name_in, named_by, next_word, up_to_place};
+ghost use Rattle.pp_assembler.specs.Naming.{after_blanks, deck_name, first_word, from_label, from_place, is_blank, is_sign};
+ghost use Rattle.pp_assembler.specs.Naming.{name_called, name_in, named_by, next_word, up_to_place};
 
 const XTEXT: &[u8; 5] = b"XTEXT";
 

@@ -89,8 +89,8 @@ struct Read {
     vocabulary: Vocabulary,
 }
 
-/// Returns what a pass has taken from common decks. If that is not their lines, or a line that reads one has taken none, a message says so,
-/// and there are no rows.
+/// Returns what a pass has taken from common decks. If that is not their lines, or a line that reads one has taken none, a message
+/// says so, and there are no rows.
 fn readings_of(
     alloc: Global,
     lines: &Lines,
@@ -198,7 +198,8 @@ fn without_messages(
         AllByRecursion (IsRead read.lines read.decks.all.items read.vocabulary read.readings.items) scope.output.rows.items →
         IfOk result (AreRead texts) }
     ensures meaning { IsFound read.lines scope.output.rows.items scope.output.systems.items found →
-        IfOk result (λ made. IfSome made.meaning (AreMeant made.lines made.rows.items made.systems.items made.program made.words.items)) }
+        IfOk result (λ made. IfSome made.meaning (AreMeant made.lines made.rows.items made.systems.items made.program
+        made.words.items)) }
 {
     let Scope {
         symbols,

@@ -6,7 +6,8 @@ use pp_notation::Program;
 use pp_source::{Symbols, Vocabulary};
 use pp_statements::{Row, SystemRows, Unit};
 
-/// The statements of a source as they are performed, after macros, repetitions, conditions and micros, with the terms of their operands.
+/// The statements of a source as they are performed, after macros, repetitions, conditions and micros, with the terms of their
+/// operands.
 #[derive(Drop)]
 pub struct Performed {
     /// What the names stand for, in the order of the statements that define them.
@@ -20,8 +21,8 @@ pub struct Performed {
     pub lines: Vec<usize>,
 }
 
-/// All that is known of a source: the program that it makes, its statements and their rows in the listing, its names, and what is wrong
-/// with it. If there is a message, the program is not to be used.
+/// All that is known of a source: the program that it makes, its statements and their rows in the listing, its names, and what is
+/// wrong with it. If there is a message, the program is not to be used.
 #[derive(Drop)]
 pub struct Assembly {
     pub program: Program,

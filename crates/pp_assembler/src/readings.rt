@@ -2,7 +2,8 @@
 ghost use Rattle.std.specs.Prelude.{◌≡◌, Any, IsTrue, drop, position};
 ghost use Rattle.std.specs.List.{AllByRecursion};
 ghost use Rattle.pp_notation.specs.Columns.{between};
-ghost use Rattle.pp_assembler.specs.Decks.{AreCopies, IsCopied, IsRead, IsReading, deck_lines, has_macro, has_synonym, is_deck, is_taken, is_xtext, name_read};
+ghost use Rattle.pp_assembler.specs.Decks.{AreCopies, IsCopied, IsRead, IsReading, deck_lines, has_macro, has_synonym, is_deck};
+ghost use Rattle.pp_assembler.specs.Decks.{is_taken, is_xtext, name_read};
 ghost use Rattle.pp_assembler.specs.Meaning.{read_at};
 
 use crate::naming::deck_name;

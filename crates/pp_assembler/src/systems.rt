@@ -41,7 +41,8 @@ fn is_of_source(pass: &Pass, name: &[u8], is_set: bool) -> bool {
     }
 }
 
-/// Returns a statement that names a number, if it does so by numbers and names that are known. Else its name is not known from here on.
+/// Returns a statement that names a number, if it does so by numbers and names that are known. Else its name is not known from here
+/// on.
 fn naming_of(
     alloc: Global,
     lines: &Lines,

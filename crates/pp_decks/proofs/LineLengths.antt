@@ -1,5 +1,6 @@
 -- The lengths of the lines of a source, of which a part has been read.
-use Rattle.std.proofs.Common.{◌≡◌, ◌∙◌, ℕ, ◌+◌, ◌-◌, ◌<◌, ◌≤◌, List, [], ◌∷◌, ◌++◌, length, map, refl, ap, sym, eqb, false, arith, take, get_or}
+use Rattle.std.proofs.Common.{◌≡◌, ◌∙◌, ℕ, ◌+◌, ◌-◌, ◌<◌, ◌≤◌, List, [], ◌∷◌, ◌++◌, length, map}
+use Rattle.std.proofs.Common.{refl, ap, sym, eqb, false, arith, take, get_or}
 use Rattle.std.proofs.lemmas.{Bool.ne_eqb, Grind.common_steps}
 use Rattle.std.proofs.Common.{length-append}
 use Rattle.std.proofs.lemmas.List.{map-append}
@@ -60,7 +61,8 @@ HasRead-begun bytes lengths first at read end =
 
 pub HasRead-feed_at : (source : List ℕ) (spans more : List Span) (first at begun : ℕ) →
     HasRead (take at source) (map length_of spans) first at → at < length source → get_or source at 0 ≡ 10 →
-    more ≡ spans ++ record { first = first; end = at } ∷ [] → begun ≡ at + 1 → HasRead (take (at + 1) source) (map length_of more) begun (at + 1)
+    more ≡ spans ++ record { first = first; end = at } ∷ [] → begun ≡ at + 1 →
+    HasRead (take (at + 1) source) (map length_of more) begun (at + 1)
 HasRead-feed_at source spans more first at begun read within feed pushed begins =
     let next : take (at + 1) source ≡ take at source ++ 10 ∷ [] = grind (arith, common_steps) in
     rw (pushed, begins, next, map-append length_of spans (record { first = first; end = at } ∷ []))

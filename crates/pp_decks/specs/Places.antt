@@ -12,7 +12,8 @@ length_of span = span.end - span.first
 abbrev pub line_lengths : List ℕ → List ℕ
 line_lengths source = map length (lines source)
 
--- A complaint is about a line of a source whose lines have these lengths, and about a column of that line or the one after its last byte.
+-- A complaint is about a line of a source whose lines have these lengths, and about a column of that line or the one after its last
+-- byte.
 pub record IsOfLine (lengths : List ℕ) (complaint : Complaint) : Type 0 where
   pub line_from_1 : 0 < complaint.line
   pub line : complaint.line ≤ length lengths

@@ -1,4 +1,5 @@
-//! Common decks: texts that XTEXT and *CALL read by their names. A text may also be one of a system, which is assembled before the source.
+//! Common decks: texts that XTEXT and *CALL read by their names. A text may also be one of a system, which is assembled before the
+//! source.
 ghost use Rattle.std.specs.Prelude.{◌≡◌, ◌++◌, ◌∷◌, [], IfOk, map};
 ghost use Rattle.std.specs.Char.{to_ascii_uppercase};
 ghost use Rattle.pp_decks.specs.Decks.{first_named, is_named, name_of};
@@ -8,11 +9,12 @@ use crate::lines::without_returns;
 use crate::spans::Span;
 use std::alloc::{AllocError, Global};
 
-/// What is before the name of a system text, in letters of either case. No line names such a deck: a name that it reads has no blank.
+/// What is before the name of a system text, in letters of either case. No line names such a deck: a name that it reads has no
+/// blank.
 const SYSTEM: &[u8; 7] = b"SYSTEM ";
 
-/// A common deck: its name, in letters of either case, and its text. With the word SYSTEM and a blank before its name it is a system text,
-/// whose names and macros the source has.
+/// A common deck: its name, in letters of either case, and its text. With the word SYSTEM and a blank before its name it is a
+/// system text, whose names and macros the source has.
 #[derive(Clone, Copy)]
 pub struct Text<'a> {
     pub name: &'a [u8],
@@ -93,7 +95,8 @@ impl Decks {
     }
 }
 
-/// Returns the lines of a deck that are performed, of all its lines: those up to ENDX, without the first ones that name it in a library.
+/// Returns the lines of a deck that are performed, of all its lines: those up to ENDX, without the first ones that name it in a
+/// library.
 pub fn up_to_endx<'a>(text: &[u8], spans: &'a [Span]) -> &'a [Span] {
     let mut end = spans.len();
     for (index, span) in spans.iter().enumerate() {

@@ -1,4 +1,5 @@
-//! The statements of a source and of the texts that it may read: their lines, each with those that continue it, and those that SUBR makes.
+//! The statements of a source and of the texts that it may read: their lines, each with those that continue it, and those that SUBR
+//! makes.
 ghost use Rattle.std.specs.Prelude.{◌≡◌, IfOk, map};
 ghost use Rattle.pp_decks.specs.Decks.{AreOf};
 ghost use Rattle.pp_decks.specs.Places.{length_of, line_lengths};
@@ -195,8 +196,8 @@ impl Lines {
         Ok(())
     }
 
-    /// Adds the lines of a text, each with those that continue it, and returns where they are. So many lines are before them; the text
-    /// may be one of a system, with a name.
+    /// Adds the lines of a text, each with those that continue it, and returns where they are. So many lines are before them; the
+    /// text may be one of a system, with a name.
     fn add_lines(
         &mut self,
         source: &[u8],

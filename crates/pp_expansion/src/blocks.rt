@@ -1,5 +1,5 @@
-//! Statements that other lines belong to: IF and SKIP, DUP and ECHO, MACRO, RMT. The lines end with ENDIF, ENDD, ENDM or RMT, or are
-//! counted.
+//! Statements that other lines belong to: IF and SKIP, DUP and ECHO, MACRO, RMT. The lines end with ENDIF, ENDD, ENDM or RMT, or
+//! are counted.
 use crate::conditions::texts_of;
 use crate::pass::Pass;
 use crate::running::Job;
@@ -181,7 +181,8 @@ impl Pass {
         self.show(lines, block.first)
     }
 
-    /// Returns the lines that a condition counts and that are not performed: up to an ELSE that counts its own, after them or among them.
+    /// Returns the lines that a condition counts and that are not performed: up to an ELSE that counts its own, after them or among
+    /// them.
     fn up_to_else(&self, lines: &Lines, statement: Statement, block: Block) -> Block {
         let own = lines.part_of(self.at, statement.location);
         let counted = block.first;
@@ -220,8 +221,8 @@ impl Pass {
         }
     }
 
-    /// Returns the lines up to the end of a statement with a name, if there is one. An end with a name is that of the statement with
-    /// this name, one without that of the last one that is open; of RMT it is the first one.
+    /// Returns the lines up to the end of a statement with a name, if there is one. An end with a name is that of the statement
+    /// with this name, one without that of the last one that is open; of RMT it is the first one.
     pub fn nested(
         &mut self,
         lines: &Lines,
@@ -296,8 +297,8 @@ impl Pass {
         }
     }
 
-    /// Begins a statement with its lines. Of an IF or DUP without end the lines are performed once. The lines that a condition counts
-    /// are the next ones, since they may end with a SKIP of others.
+    /// Begins a statement with its lines. Of an IF or DUP without end the lines are performed once. The lines that a condition
+    /// counts are the next ones, since they may end with a SKIP of others.
     fn begin_block(
         &mut self,
         lines: &Lines,

@@ -54,7 +54,8 @@ fn texts_in(operand: &[u8], end: usize) -> Option<Texts<'_>> {
     })
 }
 
-/// Compares texts by their display code, the shorter one with zeros at its end: minus if the first one is less, 0 if they are equal.
+/// Compares texts by their display code, the shorter one with zeros at its end: minus if the first one is less, 0 if they are
+/// equal.
 fn compared(one: &[u8], other: &[u8]) -> i64 {
     let code_at = |text: &[u8], at: usize| match text.get(at) {
         Some(symbol) => i64::from(code_of(*symbol).unwrap_or(0)),

@@ -284,8 +284,8 @@ impl Pass {
         Ok(())
     }
 
-    /// Returns the index of the last line of the macro that a line of another one defines, or that line if it defines none. The LOCAL and
-    /// IRP of such lines are those of the macro within.
+    /// Returns the index of the last line of the macro that a line of another one defines, or that line if it defines none. The
+    /// LOCAL and IRP of such lines are those of the macro within.
     fn end_of_inner(&mut self, lines: &Lines, index: usize, end: usize) -> Outcome<usize> {
         let here = Here::new(lines, index);
         let (first, second) = first_words(here.text);

@@ -1,4 +1,5 @@
-//! One pass over the statements of a source: what it knows, what the source has added to the notation, and what is still to be done.
+//! One pass over the statements of a source: what it knows, what the source has added to the notation, and what is still to be
+//! done.
 use crate::macros::Repetition;
 use crate::reading::Reading;
 use crate::running::{Job, Run};

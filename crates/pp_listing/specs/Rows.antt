@@ -55,7 +55,8 @@ known_row made row =
 
 -- A cell: its address, its word, and the number of the line that put it there.
 abbrev pub numbered_cell : Cell → List ℕ
-numbered_cell cell = octal_text cell.address 4 ++ codes " " ++ octal_text cell.word 4 ++ codes " " ++ octal_text cell.line 1 ++ 10 ∷ []
+numbered_cell cell = octal_text cell.address 4 ++ codes " " ++ octal_text cell.word 4 ++ codes " " ++ octal_text cell.line 1 ++ 10
+    ∷ []
 
 -- A program: a line for each cell, and one for where it begins.
 abbrev pub program_lines : Program → List ℕ

@@ -1,5 +1,6 @@
 -- What is written of a source.
-use Rattle.std.specs.Prelude.{ℕ, ℤ, pos, negsuc, ◌&&◌, ◌==◌, nat_lt, Bool, if◌then◌else◌, List, [], ◌∷◌, ◌++◌, Option, Some, None, codes, decimal, length, slice_get}
+use Rattle.std.specs.Prelude.{ℕ, ℤ, pos, negsuc, ◌&&◌, ◌==◌, nat_lt, Bool, if◌then◌else◌, List, [], ◌∷◌, ◌++◌, Option, Some, None}
+use Rattle.std.specs.Prelude.{codes, decimal, length, slice_get}
 use Rattle.std.specs.List.{flat_map, list_any}
 use Rattle.pp_arith.specs.Octal.{octal_text}
 use Rattle.pp_notation.specs.Columns.{between, signed_octal}
@@ -63,7 +64,8 @@ unqualified (symbol ∷ name) = if list_any (λ one. one == 47) (symbol ∷ name
 abbrev pub value_line : List ℕ → ℤ → Bool → List ℕ
 value_line name (negsuc less) is_address = []
 value_line name (pos value) is_address =
-    name ++ (if is_address && nat_lt value 0o10000 then codes " " ++ octal_text value 4 else codes " = " ++ octal_text value 1) ++ 10 ∷ []
+    name ++ (if is_address && nat_lt value 0o10000 then codes " " ++ octal_text value 4 else codes " = " ++ octal_text value 1)
+    ++ 10 ∷ []
 
 -- The same of a name that may have no number, or several in turn.
 abbrev pub numbered_line : List ℕ → Option ℤ → Definition → List ℕ

@@ -3,7 +3,8 @@ ghost use Rattle.std.specs.Prelude.{◌≡◌, ◌++◌, IfOk, OnOk, codes, slic
 ghost use Rattle.std.specs.List.{flat_map};
 ghost use Rattle.pp_arith.specs.Octal.{octal_text};
 ghost use Rattle.pp_listing.specs.Listing.{listed_row};
-ghost use Rattle.pp_listing.specs.Texts.{addresses, cell_lines, complaint_line, complaint_lines, name_line, numbers_line, row_line, row_words, start_line, unqualified, value_line};
+ghost use Rattle.pp_listing.specs.Texts.{addresses, cell_lines, complaint_line, complaint_lines, name_line, numbers_line, row_line};
+ghost use Rattle.pp_listing.specs.Texts.{row_words, start_line, unqualified, value_line};
 
 use crate::listing::put_row;
 use pp_assembler::{Assembly, CELLS, Complaint, Definition, Line, Row, Symbol};
@@ -15,7 +16,8 @@ use std::alloc::{AllocError, Global};
 /// # Errors
 /// Memory ran out.
 pub fn complaints_text(alloc: Global, made: &Assembly) -> Result<Vec<u8>, AllocError>
-    ensures { IfOk result (λ text. text.items ≡ complaint_lines made.now.messages.items ++ complaint_lines made.now.warnings.items) }
+    ensures { IfOk result (λ text. text.items ≡ complaint_lines made.now.messages.items ++ complaint_lines
+        made.now.warnings.items) }
 {
     let mut out = Vec::new(alloc);
     put_complaints(alloc, &mut out, &made.messages)?;
@@ -50,8 +52,8 @@ fn put_complaint(alloc: Global, out: &mut Vec<u8>, complaint: &Complaint) -> Res
     Ok(())
 }
 
-/// Returns a line for each cell: its address and its word, octal; and if the program says where it begins, a last line with P and that
-/// address.
+/// Returns a line for each cell: its address and its word, octal; and if the program says where it begins, a last line with P and
+/// that address.
 ///
 /// # Errors
 /// Memory ran out.
@@ -105,7 +107,8 @@ pub fn words_of<'a>(made: &'a Assembly, row: &Row) -> &'a [u16]
     made.words.get(row.first..row.end).unwrap_or(&[])
 }
 
-/// Returns a line for each row of the listing that has words: the number of its line, its location, its origin and its words, octal.
+/// Returns a line for each row of the listing that has words: the number of its line, its location, its origin and its words,
+/// octal.
 ///
 /// # Errors
 /// Memory ran out.

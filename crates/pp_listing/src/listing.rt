@@ -24,8 +24,8 @@ const TAB: usize = 8;
 /// What is instead of a line of the source.
 const LITERAL: &[u8; 17] = b"*         LITERAL";
 
-/// Writes the lines of the listing for a row. If code is assembled for another place, its address there comes first, and then > with that
-/// to which it is loaded.
+/// Writes the lines of the listing for a row. If code is assembled for another place, its address there comes first, and then >
+/// with that to which it is loaded.
 pub fn put_row(
     alloc: Global,
     out: &mut Vec<u8>,
@@ -89,7 +89,8 @@ fn put_first(
     words: &[u16],
     text: &[u8],
 ) -> Result<(), AllocError>
-    ensures { OnOk result (out.new.items ≡ out.old.items ++ ended (address_fields row.now ++ value_field row.now words.now row.now.value ++ without_tabs 0 text.now)) }
+    ensures { OnOk result (out.new.items ≡ out.old.items ++ ended
+        (address_fields row.now ++ value_field row.now words.now row.now.value ++ without_tabs 0 text.now)) }
 {
     let mut line = Vec::new(alloc);
     put_addresses(alloc, &mut line, row)?;

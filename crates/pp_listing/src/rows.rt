@@ -1,7 +1,8 @@
 //! All that is known of a source's rows and programs, for tools.
 ghost use Rattle.std.specs.Prelude.{◌≡◌, ◌++◌, IfOk, OnOk, slice_get};
 ghost use Rattle.std.specs.List.{flat_map};
-ghost use Rattle.pp_listing.specs.Rows.{flag, kind, known_row, letters, line_fields, mark, numbered_cell, program_lines, row_fields, row_numbers, unit_lines, value_text};
+ghost use Rattle.pp_listing.specs.Rows.{flag, kind, known_row, letters, line_fields, mark, numbered_cell, program_lines};
+ghost use Rattle.pp_listing.specs.Rows.{row_fields, row_numbers, unit_lines, value_text};
 
 use crate::forms::{line_of, put_addresses, put_start, put_words, words_of};
 use crate::listing::text_of;
@@ -114,8 +115,9 @@ fn put_value(out: &mut Vec<u8>, row: &Row) -> Result<(), AllocError>
     }
 }
 
-/// Returns for each program of a source a line for each of its cells, with its word and the number of the line that put it there, octal, and
-/// if the program says where it begins, a last line with P and that address. Before each program but the first is a line with its name.
+/// Returns for each program of a source a line for each of its cells, with its word and the number of the line that put it there,
+/// octal, and if the program says where it begins, a last line with P and that address. Before each program but the first is a line
+/// with its name.
 ///
 /// # Errors
 /// Memory ran out.

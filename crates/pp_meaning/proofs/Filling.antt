@@ -1,14 +1,17 @@
 -- Cells of a memory of which a part has been collected.
-use Rattle.std.proofs.Common.{◌≡◌, ◌∙◌, ℕ, suc, ◌+◌, ◌<◌, List, [], ◌∷◌, ◌++◌, Option, Some, None, length, drop, drop-cons, get_or, append_assoc, add-one, ap, sym}
+use Rattle.std.proofs.Common.{◌≡◌, ◌∙◌, ℕ, suc, ◌+◌, ◌<◌, List, [], ◌∷◌, ◌++◌, Option, Some, None, length, drop, drop-cons, get_or}
+use Rattle.std.proofs.Common.{append_assoc, add-one, ap, sym}
 use Rattle.std.proofs.lemmas.List.{map-append}
 use Rattle.pp_notation.specs.declared.program.Cell.{Cell}
 use Rattle.pp_meaning.specs.Cells.{address_and_word, addressed, filled, word_at}
 
 -- The words from an address on are the one there and those after it.
-pub filled-step : (memory : List (Option ℕ)) (address : ℕ) (word : Option ℕ) → address < length memory → word ≡ get_or memory address None →
+pub filled-step : (memory : List (Option ℕ)) (address : ℕ) (word : Option ℕ) → address < length memory →
+    word ≡ get_or memory address None →
     filled address (drop address memory) ≡ word_at address word ++ filled (address + 1) (drop (address + 1) memory)
 filled-step memory address word within is =
-    rw (add-one address) (ap (filled address) (drop-cons memory address None within ∙ ap (λ w. w ∷ drop (suc address) memory) (sym is)))
+    rw (add-one address) (ap (filled address)
+    (drop-cons memory address None within ∙ ap (λ w. w ∷ drop (suc address) memory) (sym is)))
 
 -- a cell with a word
 pub words-push : (cells : List Cell) (cell : Cell) (memory : List (Option ℕ)) (address word : ℕ) (all : List (ℕ × ℕ)) →

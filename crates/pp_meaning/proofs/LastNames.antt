@@ -1,5 +1,6 @@
 -- The last symbol of each name, with one more.
-use Rattle.std.proofs.Common.{◌≡◌, ◌≢◌, ◌⊎◌, inl, inr, ⊎_elim, ◌∙◌, ◌<◌, ◌+◌, ℕ, List, Option, Some, None, true, false, ap, sym, subst, refl, arith, Less, Greater}
+use Rattle.std.proofs.Common.{◌≡◌, ◌≢◌, ◌⊎◌, inl, inr, ⊎_elim, ◌∙◌, ◌<◌, ◌+◌, ℕ, List, Option, Some, None, true, false, ap, sym}
+use Rattle.std.proofs.Common.{subst, refl, arith, Less, Greater}
 use Rattle.std.specs.BTreeMap.{BTreeMap, Updates, get, is_at}
 use Rattle.std.specs.Cmp.{nat_cmp_is}
 use Rattle.std.specs.Ordering.{is_eq, nat_cmp}
@@ -16,11 +17,13 @@ apart k q ne =
     (cases_order k q)
 
 -- What is renamed is so later.
-renamed-later : (symbol : Option Symbol) (last count : ℕ) → last < count → is_renamed last symbol ≡ true → is_renamed count symbol ≡ true
+renamed-later : (symbol : Option Symbol) (last count : ℕ) → last < count → is_renamed last symbol ≡ true →
+    is_renamed count symbol ≡ true
 renamed-later None last count below is = is
 renamed-later (Some symbol) last count below is =
     let parts = and_parts symbol.is_set (nat_le symbol.next last) is in
-    and_from symbol.is_set (nat_le symbol.next count) parts.0 (le-leb symbol.next count (omega (arith, leb-true symbol.next last parts.1, below)))
+    and_from symbol.is_set (nat_le symbol.next count) parts.0
+    (le-leb symbol.next count (omega (arith, leb-true symbol.next last parts.1, below)))
 
 behind-more : (symbols : List Symbol) (count i : ℕ) (o : Option ℕ) → IsBehind symbols count i o → IsBehind symbols (count + 1) i o
 behind-more symbols count i None ne = ne
@@ -39,12 +42,14 @@ renamed-here : (symbols : List Symbol) (m : BTreeMap ℕ ℕ) (count key : ℕ) 
     ((j : ℕ) → old ≡ Some j → is_renamed count (slice_get symbols j) ≡ true) →
     (i : ℕ) → i < count → key ≡ name_number symbols i → is_renamed count (slice_get symbols i) ≡ true
 renamed-here symbols m count key old last was here i below same =
-    renamed-by symbols count i old (subst (λ o. IsBehind symbols count i o) (sym (was ∙ ap (get nat_cmp m) same)) (last i below)) here
+    renamed-by symbols count i old (subst (λ o. IsBehind symbols count i o) (sym (was ∙ ap (get nat_cmp m) same)) (last i below))
+    here
 
 pub is-different : (symbols : List Symbol) (m : BTreeMap ℕ ℕ) (count key : ℕ) (old : Option ℕ) →
     IsLast symbols m count → key ≡ name_number symbols count → old ≡ get nat_cmp m key →
     ((j : ℕ) → old ≡ Some j → is_renamed count (slice_get symbols j) ≡ true) →
-    (i : ℕ) → i < count → (symbol_name (slice_get symbols i) ≢ symbol_name (slice_get symbols count)) ⊎ (is_renamed count (slice_get symbols i) ≡ true)
+    (i : ℕ) → i < count →
+    (symbol_name (slice_get symbols i) ≢ symbol_name (slice_get symbols count)) ⊎ (is_renamed count (slice_get symbols i) ≡ true)
 is-different symbols m count key old last is was here i below =
     ⊎_elim (λ same. inr (renamed-here symbols m count key old last was here i below same))
     (λ ne. inl (λ name. ne (is ∙ sym (ap (number_from 0) name)))) (cases_eq key (name_number symbols i))
@@ -65,7 +70,8 @@ last-stays symbols m n count key old last is was updates here i within =
     ⊎_elim (λ e. inr e) (λ o. ⊎_elim (λ less. inl less) (λ more. absurd (omega (arith, within, more))) o) (cases_order i count) in
     ⊎_elim (λ same. subst (λ o. IsBehind symbols (count + 1) i o) (sym (ap (get nat_cmp n) (sym same) ∙ updates.1))
     (last-at symbols m n count key old last was updates here i place same))
-    (λ ne. subst (λ o. IsBehind symbols (count + 1) i o) (sym (updates.2 (name_number symbols i) (apart key (name_number symbols i) ne)))
+    (λ ne. subst (λ o. IsBehind symbols (count + 1) i o)
+    (sym (updates.2 (name_number symbols i) (apart key (name_number symbols i) ne)))
     (behind-more symbols count i (get nat_cmp m (name_number symbols i))
     (last i (⊎_elim (λ less. less) (λ e. absurd (ne (is ∙ ap (name_number symbols) (sym e)))) place))))
     (cases_eq key (name_number symbols i))

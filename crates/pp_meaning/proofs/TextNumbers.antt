@@ -2,7 +2,8 @@
 use Rattle.std.proofs.Common.{◌≡◌, ℕ, zero, suc, ◌+◌, ◌*◌, List, [], ◌∷◌, ◌++◌, add-one, refl, replicate}
 use Rattle.pp_meaning.specs.Texts.{number_from_codes}
 
-pub codes_append : (number : ℕ) (xs ys : List ℕ) → number_from_codes number (xs ++ ys) ≡ number_from_codes (number_from_codes number xs) ys
+pub codes_append : (number : ℕ) (xs ys : List ℕ) →
+    number_from_codes number (xs ++ ys) ≡ number_from_codes (number_from_codes number xs) ys
 codes_append number [] ys = refl
 codes_append number (code ∷ xs) ys = codes_append (number * 0o100 + code) xs ys
 

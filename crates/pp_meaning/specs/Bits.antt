@@ -1,5 +1,6 @@
 -- The fields of VFD: numbers of so many bits, one behind another. Twelve bits are a word.
-use Rattle.std.specs.Prelude.{ℕ, zero, suc, ℤ, pos, ◌+◌, ◌-◌, ◌*◌, ◌/◌, ◌%◌, ◌^◌, ◌==◌, ◌&&◌, nat_le, Option, Some, None, List, [], ◌∷◌, ◌++◌, length, take, drop, replicate, slice_get, if◌then◌else◌}
+use Rattle.std.specs.Prelude.{ℕ, zero, suc, ℤ, pos, ◌+◌, ◌-◌, ◌*◌, ◌/◌, ◌%◌, ◌^◌, ◌==◌, ◌&&◌, nat_le, Option, Some, None, List, []}
+use Rattle.std.specs.Prelude.{◌∷◌, ◌++◌, length, take, drop, replicate, slice_get, if◌then◌else◌}
 use Rattle.pp_meaning.specs.Expressions.{named_value}
 use Rattle.pp_meaning.specs.Fields.{item_field}
 use Rattle.pp_meaning.specs.Numbers.{number_value}

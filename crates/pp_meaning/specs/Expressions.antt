@@ -1,5 +1,6 @@
 -- What operands stand for. Each is given by its terms; specs/Lines.antt says how these are written.
-use Rattle.std.specs.Prelude.{ℕ, ℤ, pos, negsuc, ◌+◌, ◌-◌, ◌^◌, ◌%◌, ◌&&◌, ◌||◌, nat_le, nat_lt, not, Bool, true, false, Option, Some, None, List, [], ◌∷◌, slice_get, take, bit_xor, fold, if◌then◌else◌}
+use Rattle.std.specs.Prelude.{ℕ, ℤ, pos, negsuc, ◌+◌, ◌-◌, ◌^◌, ◌%◌, ◌&&◌, ◌||◌, nat_le, nat_lt, not, Bool, true, false, Option}
+use Rattle.std.specs.Prelude.{Some, None, List, [], ◌∷◌, slice_get, take, bit_xor, fold, if◌then◌else◌}
 use Rattle.std.specs.List.{list_all}
 use Rattle.std.specs.Prelude.{int_lt}
 use Rattle.std.specs.Prelude.{◌+ℤ◌, ◌-ℤ◌, ◌*ℤ◌, int_div}
@@ -8,7 +9,8 @@ use Rattle.pp_meaning.specs.Numbers.{decimal_number, number_value}
 use Rattle.pp_meaning.specs.Texts.{text_number}
 use Rattle.pp_meaning.specs.declared.expressions.Base.TheVariants.{Decimal}
 use Rattle.pp_meaning.specs.declared.expressions.Atom.{Atom}
-use Rattle.pp_meaning.specs.declared.expressions.Atom.TheVariants.{Number, Name, Here, LocationCounter, OriginCounter, Nothing, Symbols, Shifted}
+use Rattle.pp_meaning.specs.declared.expressions.Atom.TheVariants.{Number, Name, Here, LocationCounter}
+use Rattle.pp_meaning.specs.declared.expressions.Atom.TheVariants.{OriginCounter, Nothing, Symbols, Shifted}
 use Rattle.pp_meaning.specs.declared.expressions.Expression.{Expression}
 use Rattle.pp_meaning.specs.declared.expressions.Factor.{Factor}
 use Rattle.pp_meaning.specs.declared.expressions.Item.TheVariants.{Sum}
@@ -43,7 +45,8 @@ atom_value symbols place Here = Some (pos place.location)
 atom_value symbols place LocationCounter = Some (pos place.location)
 atom_value symbols place OriginCounter = Some (pos place.origin)
 atom_value symbols place Nothing = Some (pos 0)
-atom_value symbols place (Shifted digits radix shift) = shifted (number_value place.base digits.items radix) (decimal_number shift.items)
+atom_value symbols place (Shifted digits radix shift) = shifted (number_value place.base digits.items radix)
+    (decimal_number shift.items)
 atom_value symbols place (Symbols digits items) = text_number digits.items items.items
 
 -- A quotient has no fraction, and is 0 if the divisor is 0.

@@ -1,5 +1,6 @@
 -- Operands as numbers of so many bits.
-use Rattle.std.specs.Prelude.{ℕ, ℤ, pos, negsuc, ◌+◌, ◌-◌, ◌/◌, ◌%◌, ◌^◌, ◌==◌, ◌&&◌, nat_le, Bool, true, false, Option, Some, None, List, [], ◌∷◌, length, slice_get, if◌then◌else◌}
+use Rattle.std.specs.Prelude.{ℕ, ℤ, pos, negsuc, ◌+◌, ◌-◌, ◌/◌, ◌%◌, ◌^◌, ◌==◌, ◌&&◌, nat_le, Bool, true, false, Option, Some, None}
+use Rattle.std.specs.Prelude.{List, [], ◌∷◌, length, slice_get, if◌then◌else◌}
 use Rattle.pp_meaning.specs.Expressions.{named_value, sum}
 use Rattle.pp_meaning.specs.Texts.{filled, is_ended, number_from_codes}
 use Rattle.pp_meaning.specs.declared.expressions.Atom.{Atom}
@@ -60,7 +61,8 @@ has_count (Marked mark) = false
 
 abbrev pub fits : ℕ → Text → Bool
 fits bits text =
-    fills_up text.kind && has_count text.cut && is_ended text.cut text.codes.items && bits % 6 == 0 && nat_le (length text.codes.items) (bits / 6)
+    fills_up text.kind && has_count text.cut && is_ended text.cut text.codes.items && bits % 6 == 0 && nat_le
+    (length text.codes.items) (bits / 6)
 
 -- The codes of a text as a number of so many bits, six for each code.
 abbrev pub text_field : ℕ → Text → Option ℕ

@@ -1,12 +1,14 @@
 -- How statements are written. A line is a label, an operation, operands and a comment, with blanks between two.
-use Rattle.std.specs.Prelude.{◌≡◌, ◌+◌, ◌==◌, ◌&&◌, ◌||◌, not, ℕ, Bool, true, false, length, take, drop, Option, Some, None, List, [], ◌∷◌, ◌++◌, codes, map, slice_get, if◌then◌else◌}
+use Rattle.std.specs.Prelude.{◌≡◌, ◌+◌, ◌==◌, ◌&&◌, ◌||◌, not, ℕ, Bool, true, false, length, take, drop, Option, Some, None, List}
+use Rattle.std.specs.Prelude.{[], ◌∷◌, ◌++◌, codes, map, slice_get, if◌then◌else◌}
 use Rattle.std.specs.List.{AllByRecursion, flat_map, list_all}
 use Rattle.pp_notation.specs.DisplayCode.{symbol}
 use Rattle.pp_notation.specs.Mnemonics.{mnemonic}
 use Rattle.pp_meaning.specs.Numbers.{decimal_number}
 use Rattle.pp_meaning.specs.Texts.{has_all, text_with}
 use Rattle.pp_meaning.specs.declared.expressions.Atom.{Atom}
-use Rattle.pp_meaning.specs.declared.expressions.Atom.TheVariants.{Number, Name, Here, LocationCounter, OriginCounter, Nothing, Symbols, Shifted}
+use Rattle.pp_meaning.specs.declared.expressions.Atom.TheVariants.{Number, Name, Here, LocationCounter}
+use Rattle.pp_meaning.specs.declared.expressions.Atom.TheVariants.{OriginCounter, Nothing, Symbols, Shifted}
 use Rattle.pp_meaning.specs.declared.expressions.Base.{Base}
 use Rattle.pp_meaning.specs.declared.expressions.Base.TheVariants.{Octal, Decimal, Mixed}
 use Rattle.pp_meaning.specs.declared.expressions.Expression.{Expression}
@@ -28,7 +30,9 @@ use Rattle.pp_meaning.specs.declared.expressions.Width.TheVariants.{Digits, Name
 use Rattle.pp_meaning.specs.declared.statements.Label.{Label}
 use Rattle.pp_meaning.specs.declared.statements.Label.TheVariants.{Empty, Plus, Minus, Named}
 use Rattle.pp_meaning.specs.declared.statements.Operation.{Operation}
-use Rattle.pp_meaning.specs.declared.statements.Operation.TheVariants.{Blank, Instruction, Constants, Data, Zeros, Space, Origin, Location, Equate, Set, Choose, SetBase, Deck, Display, Bits, Position, Shortest, Pool, End}
+use Rattle.pp_meaning.specs.declared.statements.Operation.TheVariants.{Blank, Instruction, Constants, Data, Zeros, Space, Origin}
+use Rattle.pp_meaning.specs.declared.statements.Operation.TheVariants.{Location, Equate, Set, Choose, SetBase, Deck, Display, Bits}
+use Rattle.pp_meaning.specs.declared.statements.Operation.TheVariants.{Position, Shortest, Pool, End}
 use Rattle.pp_meaning.specs.declared.statements.Statement.{Statement}
 use Rattle.pp_meaning.specs.declared.statements.SystemText.{SystemText}
 use Rattle.pp_meaning.specs.declared.texts.Cut.{Cut}

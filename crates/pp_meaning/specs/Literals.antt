@@ -1,5 +1,6 @@
 -- Words that operands name by what they are.
-use Rattle.std.specs.Prelude.{ℕ, ◌+◌, ◌==◌, ◌&&◌, Bool, true, false, Option, Some, None, List, [], ◌∷◌, bytes_eq, length, if◌then◌else◌}
+use Rattle.std.specs.Prelude.{ℕ, ◌+◌, ◌==◌, ◌&&◌, Bool, true, false, Option, Some, None}
+use Rattle.std.specs.Prelude.{List, [], ◌∷◌, bytes_eq, length, if◌then◌else◌}
 use Rattle.std.specs.List.{flat_map}
 use Rattle.pp_meaning.specs.declared.expressions.Literal.{Literal}
 

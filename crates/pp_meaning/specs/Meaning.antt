@@ -1,5 +1,7 @@
 -- What the words of statements are.
-use Rattle.std.specs.Prelude.{◌≡◌, ℕ, ℤ, pos, negsuc, ◌+◌, ◌-◌, ◌*◌, ◌%◌, ◌==◌, ◌&&◌, nat_le, nat_lt, not, Bool, true, false, Option, Some, None, List, [], ◌∷◌, ◌++◌, length, replicate, take, slice_get, slice_set, fold, if◌then◌else◌}
+use Rattle.std.specs.Prelude.{◌≡◌, ℕ, ℤ, pos, negsuc, ◌+◌, ◌-◌, ◌*◌, ◌%◌, ◌==◌, ◌&&◌, nat_le, nat_lt, not}
+use Rattle.std.specs.Prelude.{Bool, true, false, Option, Some, None, List, [], ◌∷◌, ◌++◌, length}
+use Rattle.std.specs.Prelude.{replicate, take, slice_get, slice_set, fold, if◌then◌else◌}
 use Rattle.std.specs.Ordering.{int_eq}
 use Rattle.pp_notation.specs.Instructions.{form}
 use Rattle.pp_notation.specs.InstructionWords.{constant_words, one_word, then_distance}
@@ -27,7 +29,9 @@ use Rattle.pp_meaning.specs.declared.assembled.Image.{Image}
 use Rattle.pp_meaning.specs.declared.statements.Label.{Label}
 use Rattle.pp_meaning.specs.declared.statements.Label.TheVariants.{Empty, Minus, Named}
 use Rattle.pp_meaning.specs.declared.statements.Operation.{Operation}
-use Rattle.pp_meaning.specs.declared.statements.Operation.TheVariants.{Blank, Instruction, Constants, Data, Zeros, Space, Origin, Location, Equate, Set, Choose, SetBase, Deck, Display, Bits, Position, Shortest, Pool, End}
+use Rattle.pp_meaning.specs.declared.statements.Operation.TheVariants.{Blank, Instruction, Constants, Data, Zeros, Space, Origin}
+use Rattle.pp_meaning.specs.declared.statements.Operation.TheVariants.{Location, Equate, Set, Choose, SetBase, Deck, Display, Bits}
+use Rattle.pp_meaning.specs.declared.statements.Operation.TheVariants.{Position, Shortest, Pool, End}
 use Rattle.pp_meaning.specs.declared.statements.State.{State}
 use Rattle.pp_meaning.specs.declared.statements.Statement.{Statement}
 use Rattle.pp_meaning.specs.declared.statements.SystemText.{SystemText}
@@ -159,9 +163,9 @@ words_of symbols place _ operands = None
 
 -- ---- statements
 
--- What there is so far: the counters, the base of numbers, how many symbols are defined, how many literals are named, the cell after the
--- highest one, the memory, the words in the order of their statements, how many bits of the last word are used, if VFD has not filled it,
--- or 0, and where a processor begins.
+-- What there is so far: the counters, the base of numbers, how many symbols are defined, how many literals are named, the cell
+-- after the highest one, the memory, the words in the order of their statements, how many bits of the last word are used, if VFD
+-- has not filled it, or 0, and where a processor begins.
 pub record Standing : Type 0 where
   pub location : ℕ
   pub origin : ℕ
@@ -205,7 +209,8 @@ is_symbol is_set number (Some symbol) = int_eq symbol.value number && (if is_set
 abbrev pub define : List Symbol → Bool → Standing → ℕ → Option ℤ → Option Standing
 define symbols is_set s index None = None
 define symbols is_set s index (Some number) =
-    if index == s.defined && is_symbol is_set number (slice_get symbols index) then Some (record s { defined = s.defined + 1 }) else None
+    if index == s.defined && is_symbol is_set number (slice_get symbols index) then Some (record s { defined = s.defined + 1 })
+    else None
 
 -- A label stands for the location. + and - in its place are none.
 abbrev pub labelled : List Symbol → Standing → Label → Option Standing
@@ -298,7 +303,8 @@ after symbols s label Location (x ∷ []) =
     then_labelled symbols (at s (Some s.origin) (address (value_above symbols (place_of s) x))) label
 after symbols s (Named index) (Equate is_sign) (x ∷ []) = define symbols false s index (value_above symbols (place_of s) x)
 after symbols s (Named index) Set (x ∷ []) = define symbols true s index (value_above symbols (place_of s) x)
-after symbols s (Named index) (Choose is_greatest) operands = define symbols true s index (chosen symbols (place_of s) is_greatest operands)
+after symbols s (Named index) (Choose is_greatest) operands = define symbols true s index
+    (chosen symbols (place_of s) is_greatest operands)
 after symbols s label Bits operands = then_bits symbols (labelled symbols s label) label operands
 after symbols s label Position (x ∷ []) = then_position symbols (labelled symbols s label) label x
 after symbols s (Named index) (Pool address) operands = define symbols false s index (Some (pos address))
@@ -362,7 +368,18 @@ with_literals literals (Some s) =
 
 -- Before the first statement the memory is empty.
 abbrev pub first : Standing
-first = record { location = 0; origin = 0; base = None; defined = 0; literals = 0; reach = 0; memory = replicate 0o10000 None; words = []; used = 0; start = None }
+first = record {
+  location = 0;
+  origin = 0;
+  base = None;
+  defined = 0;
+  literals = 0;
+  reach = 0;
+  memory = replicate 0o10000 None;
+  words = [];
+  used = 0;
+  start = None;
+}
 
 -- A system text leaves its symbols, and nothing else.
 abbrev pub symbols_alone : Option Standing → Option Standing
@@ -398,7 +415,8 @@ standing s = record {
 }
 
 -- The words are what the statements say, and each symbol is defined by one of them, or by one of a system text.
-pub record IsAssembled (symbols : List Symbol) (literals : List Literal) (systems : List SystemText) (statements : List Statement) (image : Image) : Type 0 where
+pub record IsAssembled (symbols : List Symbol) (literals : List Literal) (systems : List SystemText) (statements : List Statement)
+    (image : Image) : Type 0 where
   pub after : Standing
   pub right : assembled symbols literals systems statements ≡ Some after
   pub memory : after.memory ≡ image.memory.items

@@ -1,5 +1,6 @@
 -- The names of symbols.
-use Rattle.std.specs.Prelude.{◌≡◌, ◌≢◌, ◌⊎◌, ◌<◌, ◌+◌, ◌*◌, ◌==◌, ◌&&◌, nat_lt, nat_le, not, ℕ, Bool, true, false, length, Option, Some, None, List, [], ◌∷◌, slice_get}
+use Rattle.std.specs.Prelude.{◌≡◌, ◌≢◌, ◌⊎◌, ◌<◌, ◌+◌, ◌*◌, ◌==◌, ◌&&◌, nat_lt, nat_le, not, ℕ, Bool, true, false, length, Option}
+use Rattle.std.specs.Prelude.{Some, None, List, [], ◌∷◌, slice_get}
 use Rattle.std.specs.List.{AllByRecursion, list_all}
 use Rattle.std.specs.BTreeMap.{BTreeMap, get}
 use Rattle.std.specs.Ordering.{nat_cmp}
@@ -8,7 +9,8 @@ use Rattle.pp_meaning.specs.declared.expressions.Symbol.{Symbol}
 
 -- A name has none of + - * / , ^ ( ) _ " and blank.
 abbrev pub is_sign : ℕ → Bool
-is_sign byte = nat_lt 32 byte && not (nat_le 40 byte && nat_le byte 45) && not (byte == 34) && not (byte == 47) && not (byte == 94) && not (byte == 95)
+is_sign byte = nat_lt 32 byte && not (nat_le 40 byte && nat_le byte 45) && not (byte == 34) && not (byte == 47) && not (byte == 94)
+    && not (byte == 95)
 
 -- A name begins with no digit, $ or =.
 abbrev pub begins : List ℕ → Bool

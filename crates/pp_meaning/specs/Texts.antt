@@ -1,5 +1,6 @@
 -- Texts in display code: how they are written, and their words. A text is given by the codes of its symbols.
-use Rattle.std.specs.Prelude.{ℕ, ℤ, pos, ◌+◌, ◌-◌, ◌*◌, ◌%◌, ◌==◌, ◌&&◌, nat_le, nat_lt, not, Bool, false, Option, Some, None, List, [], ◌∷◌, ◌++◌, length, map, replicate, if◌then◌else◌}
+use Rattle.std.specs.Prelude.{ℕ, ℤ, pos, ◌+◌, ◌-◌, ◌*◌, ◌%◌, ◌==◌, ◌&&◌, nat_le, nat_lt, not, Bool, false, Option, Some, None, List}
+use Rattle.std.specs.Prelude.{[], ◌∷◌, ◌++◌, length, map, replicate, if◌then◌else◌}
 use Rattle.std.specs.List.{list_all}
 use Rattle.pp_notation.specs.DisplayCode.{symbol}
 use Rattle.pp_meaning.specs.Numbers.{decimal_number}

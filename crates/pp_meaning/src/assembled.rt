@@ -52,7 +52,8 @@ fn follow_all(
     literals: &[Literal],
     statements: &[Statement],
 ) -> Result<(), Refusal>
-    ensures { OnOk result (fold (follow symbols.now literals.now) (Some (standing state.old)) statements.now ≡ Some (standing state.new)) }
+    ensures { OnOk result (fold (follow symbols.now literals.now) (Some (standing state.old)) statements.now ≡ Some
+        (standing state.new)) }
 {
     let mut index: usize = 0;
     for statement in statements {

@@ -1,6 +1,7 @@
 //! The fields of VFD: numbers of so many bits.
 ghost use Rattle.std.specs.Prelude.{◌≡◌, ◌++◌, ◌*◌, ◌+◌, ◌/◌, ◌≤◌, IfOk, IfSome, Some, drop, fold, length, take};
-ghost use Rattle.pp_meaning.specs.Bits.{bits_left, bits_of, field_number, field_size, number_from_bits, whole, width_value, with_bits, words_from, words_of_bits, zeros_before};
+ghost use Rattle.pp_meaning.specs.Bits.{bits_left, bits_of, field_number, field_size, number_from_bits, whole, width_value};
+ghost use Rattle.pp_meaning.specs.Bits.{with_bits, words_from, words_of_bits, zeros_before};
 ghost use Rattle.pp_meaning.specs.Meaning.{bits_used};
 
 use crate::expressions::{Base, Item, Operand, Place, Symbol, Width, counter, name_value};
@@ -90,7 +91,8 @@ fn add_field(
     place: Place,
     operand: &Operand,
 ) -> Result<Option<()>, AllocError>
-    ensures { IfOk result (λ made. IfSome made (λ done. with_bits symbols.now place (Some bits.old.items) operand.now ≡ Some bits.new.items)) }
+    ensures { IfOk result (λ made. IfSome made (λ done. with_bits symbols.now place (Some bits.old.items) operand.now ≡ Some
+        bits.new.items)) }
 {
     let Operand::Bits(width, item) = operand else {
         return Ok(None);
@@ -116,7 +118,8 @@ pub fn bits_of_fields(
     before: &[u8],
     operands: &[Operand],
 ) -> Result<Option<Vec<u8>>, AllocError>
-    ensures { IfOk result (λ made. IfSome made (λ bits. fold (with_bits symbols.now place) (Some before.now) operands.now ≡ Some bits.items)) }
+    ensures { IfOk result (λ made. IfSome made (λ bits. fold (with_bits symbols.now place) (Some before.now) operands.now ≡ Some
+        bits.items)) }
 {
     let mut bits = Vec::from_slice(alloc, before)?;
     for operand in operands {

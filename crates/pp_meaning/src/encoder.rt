@@ -12,9 +12,9 @@ use crate::names::are_names;
 use crate::statements::{Refusal, Statement, SystemText};
 use std::alloc::Global;
 
-/// Returns what statements make, and those of system texts before them. They are given as they are performed, with the terms of each
-/// operand, and the symbols with their values, in the order of the statements that define them; and the literals, in the order in which
-/// they are named first.
+/// Returns what statements make, and those of system texts before them. They are given as they are performed, with the terms of
+/// each operand, and the symbols with their values, in the order of the statements that define them; and the literals, in the order
+/// in which they are named first.
 ///
 /// # Errors
 /// Memory ran out, or a statement is not right: its line has not its fields, an operand has no value or does not fit, a symbol does

@@ -1,7 +1,10 @@
 //! Expressions and what they stand for.
 ghost use Rattle.std.specs.Prelude.{◌≡◌, IfSome, Some, pos, fold, slice_get};
 ghost use Rattle.std.specs.List.{list_all};
-ghost use Rattle.pp_meaning.specs.Expressions.{are_signed, better, choose, chosen, decimal_above, is_above, is_atom_above, is_factor_above, is_term_above, sum, atom_value, is_current, is_plus, named_value, plus, shifted, product, times, value, value_above, with_choice, with_factor, with_term};
+ghost use Rattle.pp_meaning.specs.Expressions.{are_signed, better, choose, chosen, decimal_above, is_above};
+ghost use Rattle.pp_meaning.specs.Expressions.{is_atom_above, is_factor_above, is_term_above, sum, atom_value};
+ghost use Rattle.pp_meaning.specs.Expressions.{is_current, is_plus, named_value, plus, shifted, product, times};
+ghost use Rattle.pp_meaning.specs.Expressions.{value, value_above, with_choice, with_factor, with_term};
 
 use crate::numbers::{product_of, shifted_by, sum_of, value_of};
 use crate::texts::{Text, number_of_text};

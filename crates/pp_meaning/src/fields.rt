@@ -1,7 +1,8 @@
 //! Operands as numbers of so many bits.
 ghost use Rattle.std.specs.Prelude.{◌≡◌, ◌==◌, ◌&&◌, ◌-◌, ◌^◌, IfOk, IfSome, IsTrue, Some, length, true};
 ghost use Rattle.pp_meaning.specs.declared.expressions.Item.TheVariants.{Sum};
-ghost use Rattle.pp_meaning.specs.Fields.{are_ones, field, fills_up, fits, has_count, is_minus, is_zero, is_zero_digit, item_field, operand_field, text_field, then_field};
+ghost use Rattle.pp_meaning.specs.Fields.{are_ones, field, fills_up, fits, has_count, is_minus, is_zero, is_zero_digit, item_field};
+ghost use Rattle.pp_meaning.specs.Fields.{operand_field, text_field, then_field};
 
 use crate::expressions::{
     Atom, Expression, Item, Operand, Place, Radix, Sign, Symbol, Term, counter, name_value,

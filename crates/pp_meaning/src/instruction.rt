@@ -4,7 +4,8 @@ ghost use Rattle.pp_notation.specs.Instructions.{form};
 ghost use Rattle.pp_notation.specs.InstructionWords.{constant_words, distance, one_word, then_distance};
 ghost use Rattle.pp_meaning.specs.Expressions.{address_around, value};
 ghost use Rattle.pp_meaning.specs.Fields.{operand_field};
-ghost use Rattle.pp_meaning.specs.Meaning.{distance_at, form_words, minus_code, shortest, sized_words, small_code, two_words, wide_code, wide_words, words_in};
+ghost use Rattle.pp_meaning.specs.Meaning.{distance_at, form_words, minus_code, shortest, sized_words, small_code, two_words};
+ghost use Rattle.pp_meaning.specs.Meaning.{wide_code, wide_words, words_in};
 
 use crate::expressions::{Operand, Place, Symbol, is_known_above, value_of_operand};
 use crate::fields::field_in;

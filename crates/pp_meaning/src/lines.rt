@@ -1,8 +1,12 @@
 //! How statements are written.
-ghost use Rattle.std.specs.Prelude.{◌≡◌, ◌∷◌, ◌++◌, [], codes, slice_get, IfOk, IfSome, IsTrue, OnOk, ◌&&◌, ◌==◌, ◌||◌, not, length, map, take, ◌+◌, true};
+ghost use Rattle.std.specs.Prelude.{◌≡◌, ◌∷◌, ◌++◌, [], codes, slice_get, IfOk, IfSome, IsTrue, OnOk, ◌&&◌, ◌==◌, ◌||◌, not};
+ghost use Rattle.std.specs.Prelude.{length, map, take, ◌+◌, true};
 ghost use Rattle.std.specs.List.{AllByRecursion, flat_map, list_all};
 ghost use Rattle.pp_meaning.specs.declared.statements.Operation.TheVariants.{Instruction};
-ghost use Rattle.pp_meaning.specs.Lines.{AreWritten, IsWritten, atom_text, base_name, begins_blank, external_letter, factor_text, follows_text, is_blank, is_comment, is_cut, is_gap, is_margin, is_wide, item_text, kind_letter, label_text, letter, line_text, operand_text, operands_text, operation_name, sign_text, sum_text, symbol_name, term_text, variable, width_text};
+ghost use Rattle.pp_meaning.specs.Lines.{AreWritten, IsWritten, atom_text, base_name, begins_blank, external_letter, factor_text};
+ghost use Rattle.pp_meaning.specs.Lines.{follows_text, is_blank, is_comment, is_cut, is_gap, is_margin, is_wide, item_text};
+ghost use Rattle.pp_meaning.specs.Lines.{kind_letter, label_text, letter, line_text, operand_text, operands_text, operation_name};
+ghost use Rattle.pp_meaning.specs.Lines.{sign_text, sum_text, symbol_name, term_text, variable, width_text};
 ghost use Rattle.pp_notation.specs.DisplayCode.{symbol};
 ghost use Rattle.pp_meaning.specs.Numbers.{decimal_number};
 ghost use Rattle.pp_meaning.specs.Texts.{has_all, text_with};
@@ -360,7 +364,8 @@ fn text_of_line(
     name: &[u8],
     variable: &[u8],
 ) -> Result<Vec<u8>, AllocError>
-    ensures { IfOk result (λ line. line.items ≡ statement.now.margin.items ++ label_text symbols.now statement.now.label ++ statement.now.gap.items ++ name.now ++ statement.now.space.items ++ variable.now ++ statement.now.comment.items) }
+    ensures { IfOk result (λ line. line.items ≡ statement.now.margin.items ++ label_text symbols.now statement.now.label
+        ++ statement.now.gap.items ++ name.now ++ statement.now.space.items ++ variable.now ++ statement.now.comment.items) }
 {
     let mut line = Vec::new(alloc);
     line.extend_from_slice(&statement.margin)?;
@@ -455,7 +460,10 @@ fn has_comment(operation: Operation, operands: &[Operand], comment: &[u8]) -> bo
 
 /// Returns whether blanks are where a line needs them.
 fn is_cut_so(statement: &Statement, variable: &[u8]) -> bool
-    ensures { IsTrue result → (list_all is_blank statement.now.gap.items && list_all is_blank statement.now.space.items && is_comment statement.now.operation statement.now.operands.items statement.now.comment.items && is_gap statement.now.label statement.now.operation statement.now.margin.items statement.now.gap.items && (not (length statement.now.space.items == 0) || length variable.now == 0)) ≡ true }
+    ensures { IsTrue result → (list_all is_blank statement.now.gap.items && list_all is_blank
+        statement.now.space.items && is_comment statement.now.operation statement.now.operands.items statement.now.comment.items &&
+        is_gap statement.now.label statement.now.operation statement.now.margin.items statement.now.gap.items &&
+        (not (length statement.now.space.items == 0) || length variable.now == 0)) ≡ true }
 {
     are_blanks(&statement.gap)
         && are_blanks(&statement.space)

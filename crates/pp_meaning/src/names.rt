@@ -93,7 +93,9 @@ fn note(
 ) -> Result<bool, AllocError>
     requires { IsLast symbols.now last.old index }
     ensures last { IfOk result (λ yes. IsTrue yes → IsLast symbols.now last.new (index + 1)) }
-    ensures different { IfOk result (λ yes. IsTrue yes → (i : ℕ) → i < index → (symbol_name (slice_get symbols.now i) ≢ symbol_name (slice_get symbols.now index)) ⊎ (is_renamed index (slice_get symbols.now i) ≡ true)) }
+    ensures different { IfOk result (λ yes. IsTrue yes → (i : ℕ) → i < index →
+        (symbol_name (slice_get symbols.now i) ≢ symbol_name (slice_get symbols.now index))
+        ⊎ (is_renamed index (slice_get symbols.now i) ≡ true)) }
 {
     let Some(number) = number_of(symbols, index) else {
         return Ok(false);
@@ -106,7 +108,9 @@ fn note(
 
 /// Returns whether no two symbols are one.
 fn all_new(alloc: Global, symbols: &[Symbol]) -> Result<bool, AllocError>
-    ensures { IfOk result (λ yes. IsTrue yes → (i j : ℕ) → i < j → j < length symbols.now → (symbol_name (slice_get symbols.now i) ≢ symbol_name (slice_get symbols.now j)) ⊎ (is_renamed j (slice_get symbols.now i) ≡ true)) }
+    ensures { IfOk result (λ yes. IsTrue yes → (i j : ℕ) → i < j → j < length symbols.now →
+        (symbol_name (slice_get symbols.now i) ≢ symbol_name (slice_get symbols.now j))
+        ⊎ (is_renamed j (slice_get symbols.now i) ≡ true)) }
 {
     let mut last: BTreeMap<u64, usize> = BTreeMap::new(alloc);
     for index in 0..symbols.len() {

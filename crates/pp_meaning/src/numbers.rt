@@ -1,7 +1,8 @@
 //! Numbers: digits, sums and products.
 ghost use Rattle.std.specs.Prelude.{◌≡◌, ◌^◌, IfSome, Some, pos};
 ghost use Rattle.pp_meaning.specs.Expressions.{difference, plus, shifted, times};
-ghost use Rattle.pp_meaning.specs.Numbers.{are_digits, decimal_number, each_digit, number_value, octal_number, plain_number, small, value_from};
+ghost use Rattle.pp_meaning.specs.Numbers.{are_digits, decimal_number, each_digit, number_value};
+ghost use Rattle.pp_meaning.specs.Numbers.{octal_number, plain_number, small, value_from};
 
 use crate::expressions::{Base, Radix, Sign};
 

@@ -63,8 +63,8 @@ fn start_of(start: Option<u32>) -> Option<Option<u16>>
     }
 }
 
-/// Returns the program that has the words of an image, or `None` if a word has more than twelve bits. Each cell has the line that a list
-/// has at its address.
+/// Returns the program that has the words of an image, or `None` if a word has more than twelve bits. Each cell has the line that a
+/// list has at its address.
 ///
 /// # Errors
 /// Memory ran out.

@@ -1,12 +1,18 @@
 //! Statements, and what they do.
-ghost use Rattle.std.specs.Prelude.{◌≡◌, ℕ, List, ◌∷◌, ◌++◌, ◌+◌, ◌-◌, ◌≤◌, ◌==◌, IfOk, IfSome, OnOk, Some, None, [], pos, fold, if◌then◌else◌, length, not, slice_get, true};
+ghost use Rattle.std.specs.Prelude.{◌≡◌, ℕ, List, ◌∷◌, ◌++◌, ◌+◌, ◌-◌, ◌≤◌, ◌==◌, IfOk, IfSome, OnOk, Some, None, [], pos, fold};
+ghost use Rattle.std.specs.Prelude.{if◌then◌else◌, length, not, slice_get, true};
 ghost use Rattle.pp_meaning.specs.Bits.{with_bits};
 ghost use Rattle.pp_meaning.specs.Expressions.{address, chosen, value_above};
 ghost use Rattle.pp_meaning.specs.Fields.{item_field};
 ghost use Rattle.pp_meaning.specs.Literals.{index_of};
-ghost use Rattle.pp_meaning.specs.Meaning.{after, at, bits_before, cells_on, constant, constants, data_words, datum, define, deck_base, ended, follow, goes_on, is_number, is_something, is_symbol, labelled, moved, naming, opened, put_bits, place_of, reached, standing, store, then_bits, then_position, then_words, with_all_literals, with_constant, with_datum, with_literal, with_literals, with_pool, without_last, with_words, words_in, words_of, zeros};
+ghost use Rattle.pp_meaning.specs.Meaning.{after, at, bits_before, cells_on, constant, constants, data_words, datum, define};
+ghost use Rattle.pp_meaning.specs.Meaning.{deck_base, ended, follow, goes_on, is_number, is_something, is_symbol, labelled, moved};
+ghost use Rattle.pp_meaning.specs.Meaning.{naming, opened, put_bits, place_of, reached, standing, store, then_bits, then_position};
+ghost use Rattle.pp_meaning.specs.Meaning.{then_words, with_all_literals, with_constant, with_datum, with_literal, with_literals};
+ghost use Rattle.pp_meaning.specs.Meaning.{with_pool, without_last, with_words, words_in, words_of, zeros};
 ghost use Rattle.pp_meaning.specs.declared.statements.Label.TheVariants.{Empty};
-ghost use Rattle.pp_meaning.specs.declared.statements.Operation.TheVariants.{Bits, Deck, End, Location, Origin, Pool, Position, Space};
+ghost use Rattle.pp_meaning.specs.declared.statements.Operation.TheVariants.{Bits, Deck, End, Location, Origin};
+ghost use Rattle.pp_meaning.specs.declared.statements.Operation.TheVariants.{Pool, Position, Space};
 
 use crate::bits::{bits_of_fields, bits_used_of, left_after, words_with_bits, zeros_up_to};
 use crate::expressions::{
@@ -180,7 +186,8 @@ fn words_of_constants(
     place: Place,
     operands: &[Operand],
 ) -> Result<Option<Vec<u32>>, AllocError>
-    ensures { IfOk result (λ made. IfSome made (λ words. fold (with_constant symbols.now place) (Some []) operands.now ≡ Some words.items)) }
+    ensures { IfOk result (λ made. IfSome made (λ words. fold (with_constant symbols.now place) (Some []) operands.now ≡ Some
+        words.items)) }
 {
     let mut words = Vec::new(alloc);
     for operand in operands {
@@ -264,7 +271,8 @@ fn words_of_operand(
     place: Place,
     operand: &Operand,
 ) -> Result<Option<Vec<u32>>, AllocError>
-    ensures { IfOk result (λ made. IfSome made (λ more. (words : List ℕ) → with_datum symbols.now place (Some words) operand.now ≡ Some (words ++ more.items))) }
+    ensures { IfOk result (λ made. IfSome made (λ more. (words : List ℕ) → with_datum symbols.now place (Some words) operand.now
+        ≡ Some (words ++ more.items))) }
 {
     match operand {
         Operand::Single(item) => words_of_datum(alloc, symbols, place, item),
@@ -279,7 +287,8 @@ fn words_of_items(
     place: Place,
     operands: &[Operand],
 ) -> Result<Option<Vec<u32>>, AllocError>
-    ensures { IfOk result (λ made. IfSome made (λ words. fold (with_datum symbols.now place) (Some []) operands.now ≡ Some words.items)) }
+    ensures { IfOk result (λ made. IfSome made (λ words. fold (with_datum symbols.now place) (Some []) operands.now ≡ Some
+        words.items)) }
 {
     let mut words = Vec::new(alloc);
     for operand in operands {
@@ -430,7 +439,8 @@ impl State {
 
     /// Defines a symbol. Returns whether it stands for this number.
     fn define(&mut self, symbols: &[Symbol], index: usize, is_set: bool, number: i64) -> Option<()>
-        ensures { IfSome result (λ done. define symbols.now is_set (standing self.old) index (Some number) ≡ Some (standing self.new)) }
+        ensures { IfSome result (λ done. define symbols.now is_set (standing self.old) index (Some number) ≡ Some
+            (standing self.new)) }
     {
         if index != self.defined
             || index >= symbols.len()
@@ -457,7 +467,8 @@ impl State {
 
     /// Puts words into the cells from the origin on.
     fn put_words(&mut self, words: &[u32]) -> Result<Option<()>, AllocError>
-        ensures { IfOk result (λ made. IfSome made (λ done. with_words (standing self.old) (Some words.now) ≡ Some (standing self.new))) }
+        ensures { IfOk result (λ made. IfSome made (λ done. with_words (standing self.old) (Some words.now) ≡ Some
+            (standing self.new))) }
     {
         let Some(location) = self.location.checked_add(words.len()) else {
             return Ok(None);
@@ -515,7 +526,8 @@ impl State {
 
     /// Goes back to the last word, if a VFD goes on in it.
     fn go_back(&mut self, label: Label) -> Option<()>
-        ensures { IfSome result (λ done. (if goes_on (standing self.old) label then without_last (standing self.old) else standing self.old) ≡ standing self.new) }
+        ensures { IfSome result (λ done. (if goes_on (standing self.old) label then without_last (standing self.old) else standing
+            self.old) ≡ standing self.new) }
     {
         if self.goes_on(label) {
             return self.take_last();
@@ -539,7 +551,8 @@ impl State {
         label: Label,
         bits: &[u8],
     ) -> Result<Option<()>, AllocError>
-        ensures { IfOk result (λ made. IfSome made (λ done. put_bits (standing self.old) label (Some bits.now) ≡ Some (standing self.new))) }
+        ensures { IfOk result (λ made. IfSome made (λ done. put_bits (standing self.old) label (Some bits.now) ≡ Some
+            (standing self.new))) }
     {
         let Some(words) = words_with_bits(alloc, bits)? else {
             return Ok(None);
@@ -559,7 +572,8 @@ impl State {
         label: Label,
         operands: &[Operand],
     ) -> Result<Option<Vec<u8>>, AllocError>
-        ensures { IfOk result (λ made. IfSome made (λ bits. fold (with_bits symbols.now (place_of (standing self.now))) (Some (bits_before (standing self.now) label)) operands.now ≡ Some bits.items)) }
+        ensures { IfOk result (λ made. IfSome made (λ bits. fold (with_bits symbols.now (place_of (standing self.now)))
+            (Some (bits_before (standing self.now) label)) operands.now ≡ Some bits.items)) }
     {
         match self.bits_before(alloc, label)? {
             Some(before) => bits_of_fields(alloc, symbols, self.place(), &before, operands),
@@ -575,7 +589,8 @@ impl State {
         label: Label,
         operands: &[Operand],
     ) -> Result<Option<()>, AllocError>
-        ensures { IfOk result (λ made. IfSome made (λ done. then_bits symbols.now (Some (standing self.old)) label operands.now ≡ Some (standing self.new))) }
+        ensures { IfOk result (λ made. IfSome made (λ done. then_bits symbols.now (Some (standing self.old)) label operands.now
+            ≡ Some (standing self.new))) }
     {
         if operands.is_empty() {
             return Ok(None);
@@ -594,7 +609,8 @@ impl State {
         label: Label,
         operands: &[Operand],
     ) -> Result<Option<()>, AllocError>
-        ensures { IfOk result (λ made. IfSome made (λ done. after symbols.now (standing self.old) label Bits operands.now ≡ Some (standing self.new))) }
+        ensures { IfOk result (λ made. IfSome made (λ done. after symbols.now (standing self.old) label Bits operands.now ≡ Some
+            (standing self.new))) }
     {
         if self.label(symbols, label).is_none() {
             return Ok(None);
@@ -610,7 +626,8 @@ impl State {
         label: Label,
         operand: &Operand,
     ) -> Result<Option<()>, AllocError>
-        ensures { IfOk result (λ made. IfSome made (λ done. then_position symbols.now (Some (standing self.old)) label operand.now ≡ Some (standing self.new))) }
+        ensures { IfOk result (λ made. IfSome made (λ done. then_position symbols.now (Some (standing self.old)) label operand.now
+            ≡ Some (standing self.new))) }
     {
         let Some(mut bits) = self.bits_before(alloc, label)? else {
             return Ok(None);
@@ -633,7 +650,8 @@ impl State {
         label: Label,
         operand: &Operand,
     ) -> Result<Option<()>, AllocError>
-        ensures { IfOk result (λ made. IfSome made (λ done. after symbols.now (standing self.old) label Position (operand.now ∷ []) ≡ Some (standing self.new))) }
+        ensures { IfOk result (λ made. IfSome made (λ done. after symbols.now (standing self.old) label Position (operand.now ∷ [])
+            ≡ Some (standing self.new))) }
     {
         if self.label(symbols, label).is_none() {
             return Ok(None);
@@ -655,7 +673,8 @@ impl State {
 
     /// BSS.
     fn space(&mut self, symbols: &[Symbol], label: Label, operand: &Operand) -> Option<()>
-        ensures { IfSome result (λ done. after symbols.now (standing self.old) label Space (operand.now ∷ []) ≡ Some (standing self.new)) }
+        ensures { IfSome result (λ done. after symbols.now (standing self.old) label Space (operand.now ∷ []) ≡ Some
+            (standing self.new)) }
     {
         self.label(symbols, label)?;
         let number = value_by_names_above(symbols, self.place(), operand)?;
@@ -664,7 +683,8 @@ impl State {
 
     /// ORG.
     fn set_origin(&mut self, symbols: &[Symbol], label: Label, operand: &Operand) -> Option<()>
-        ensures { IfSome result (λ done. after symbols.now (standing self.old) label Origin (operand.now ∷ []) ≡ Some (standing self.new)) }
+        ensures { IfSome result (λ done. after symbols.now (standing self.old) label Origin (operand.now ∷ []) ≡ Some
+            (standing self.new)) }
     {
         let cell = address_above(symbols, self.place(), operand)?;
         self.origin = cell;
@@ -675,7 +695,8 @@ impl State {
 
     /// LOC.
     fn set_location(&mut self, symbols: &[Symbol], label: Label, operand: &Operand) -> Option<()>
-        ensures { IfSome result (λ done. after symbols.now (standing self.old) label Location (operand.now ∷ []) ≡ Some (standing self.new)) }
+        ensures { IfSome result (λ done. after symbols.now (standing self.old) label Location (operand.now ∷ []) ≡ Some
+            (standing self.new)) }
     {
         self.location = address_above(symbols, self.place(), operand)?;
         self.used = 0;
@@ -690,7 +711,8 @@ impl State {
         is_set: bool,
         operand: &Operand,
     ) -> Option<()>
-        ensures { IfSome result (λ done. define symbols.now is_set (standing self.old) index (value_above symbols.now (place_of (standing self.old)) operand.now) ≡ Some (standing self.new)) }
+        ensures { IfSome result (λ done. define symbols.now is_set (standing self.old) index
+            (value_above symbols.now (place_of (standing self.old)) operand.now) ≡ Some (standing self.new)) }
     {
         let number = value_by_names_above(symbols, self.place(), operand)?;
         self.define(symbols, index, is_set, number)
@@ -704,7 +726,8 @@ impl State {
         is_greatest: bool,
         operands: &[Operand],
     ) -> Option<()>
-        ensures { IfSome result (λ done. define symbols.now true (standing self.old) index (chosen symbols.now (place_of (standing self.old)) is_greatest operands.now) ≡ Some (standing self.new)) }
+        ensures { IfSome result (λ done. define symbols.now true (standing self.old) index
+            (chosen symbols.now (place_of (standing self.old)) is_greatest operands.now) ≡ Some (standing self.new)) }
     {
         let number = chosen_value(symbols, self.place(), is_greatest, operands)?;
         self.define(symbols, index, true, number)
@@ -718,7 +741,8 @@ impl State {
         address: usize,
         operands: &[Operand],
     ) -> Option<()>
-        ensures { IfSome result (λ done. after symbols.now (standing self.old) label (Pool address) operands.now ≡ Some (standing self.new)) }
+        ensures { IfSome result (λ done. after symbols.now (standing self.old) label (Pool address) operands.now ≡ Some
+            (standing self.new)) }
     {
         match label {
             Label::Empty | Label::Minus => Some(()),
@@ -742,7 +766,8 @@ impl State {
 
     /// END with an address.
     fn end(&mut self, symbols: &[Symbol], operand: &Operand) -> Option<()>
-        ensures { IfSome result (λ done. after symbols.now (standing self.old) Empty End (operand.now ∷ []) ≡ Some (standing self.new)) }
+        ensures { IfSome result (λ done. after symbols.now (standing self.old) Empty End (operand.now ∷ []) ≡ Some
+            (standing self.new)) }
     {
         self.start = Some(field_in(WORD, symbols, self.place(), operand)?);
         Some(())
@@ -757,7 +782,8 @@ impl State {
         operation: Operation,
         operands: &[Operand],
     ) -> Result<Option<()>, AllocError>
-        ensures { IfOk result (λ made. IfSome made (λ done. then_words symbols.now (labelled symbols.now (standing self.old) label) operation operands.now ≡ Some (standing self.new))) }
+        ensures { IfOk result (λ made. IfSome made (λ done. then_words symbols.now (labelled symbols.now (standing self.old) label)
+            operation operands.now ≡ Some (standing self.new))) }
     {
         if self.label(symbols, label).is_none() {
             return Ok(None);
@@ -777,7 +803,8 @@ impl State {
         operation: Operation,
         operands: &[Operand],
     ) -> Result<Option<()>, AllocError>
-        ensures { IfOk result (λ made. IfSome made (λ done. after symbols.now (standing self.old) label operation operands.now ≡ Some (standing self.new))) }
+        ensures { IfOk result (λ made. IfSome made (λ done. after symbols.now (standing self.old) label operation operands.now
+            ≡ Some (standing self.new))) }
     {
         match (label, operation, operands) {
             (_, Operation::Space, [x]) => Ok(self.space(symbols, label, x)),
@@ -825,7 +852,8 @@ impl State {
 impl State {
     /// Notes that a literal is named. Returns whether it is one of those named above, or the next one.
     fn name_literal(&mut self, literals: &[Literal], address: usize, words: &[u32]) -> Option<()>
-        ensures { IfSome result (λ done. naming literals.now (standing self.old) address (index_of literals.now (Some words.now)) ≡ Some (standing self.new)) }
+        ensures { IfSome result (λ done. naming literals.now (standing self.old) address (index_of literals.now (Some words.now))
+            ≡ Some (standing self.new)) }
     {
         let index = find(literals, words)?;
         if !is_literal_at(literals, index, address) {
@@ -849,7 +877,8 @@ impl State {
         literals: &[Literal],
         operand: &Operand,
     ) -> Result<Option<()>, AllocError>
-        ensures { IfOk result (λ made. IfSome made (λ done. with_literal symbols.now literals.now (Some (standing self.old)) operand.now ≡ Some (standing self.new))) }
+        ensures { IfOk result (λ made. IfSome made (λ done. with_literal symbols.now literals.now (Some (standing self.old))
+            operand.now ≡ Some (standing self.new))) }
     {
         let Operand::Literal(address, item) = operand else {
             return Ok(Some(()));
@@ -868,7 +897,8 @@ impl State {
         literals: &[Literal],
         operands: &[Operand],
     ) -> Result<Option<()>, AllocError>
-        ensures { IfOk result (λ made. IfSome made (λ done. fold (with_literal symbols.now literals.now) (Some (standing self.old)) operands.now ≡ Some (standing self.new))) }
+        ensures { IfOk result (λ made. IfSome made (λ done. fold (with_literal symbols.now literals.now) (Some (standing self.old))
+            operands.now ≡ Some (standing self.new))) }
     {
         for operand in operands {
             if self
@@ -890,7 +920,9 @@ impl State {
         address: usize,
         operands: &[Operand],
     ) -> Result<Option<()>, AllocError>
-        ensures { IfOk result (λ made. IfSome made (λ done. naming literals.now (standing self.old) address (index_of literals.now (data_words symbols.now (place_of (standing self.old)) operands.now)) ≡ Some (standing self.new))) }
+        ensures { IfOk result (λ made. IfSome made (λ done. naming literals.now (standing self.old) address
+            (index_of literals.now (data_words symbols.now (place_of (standing self.old)) operands.now)) ≡ Some
+            (standing self.new))) }
     {
         match some_data(alloc, symbols, self.place(), operands)? {
             Some(words) => Ok(self.name_literal(literals, address, &words)),
@@ -907,7 +939,8 @@ impl State {
         operation: Operation,
         operands: &[Operand],
     ) -> Result<Option<()>, AllocError>
-        ensures { IfOk result (λ made. IfSome made (λ done. with_pool symbols.now literals.now (Some (standing self.old)) operation operands.now ≡ Some (standing self.new))) }
+        ensures { IfOk result (λ made. IfSome made (λ done. with_pool symbols.now literals.now (Some (standing self.old)) operation
+            operands.now ≡ Some (standing self.new))) }
     {
         match operation {
             Operation::Pool(address) => self.name_data(alloc, symbols, literals, address, operands),
@@ -924,7 +957,8 @@ impl State {
         operation: Operation,
         operands: &[Operand],
     ) -> Result<Option<()>, AllocError>
-        ensures { IfOk result (λ made. IfSome made (λ done. with_all_literals symbols.now literals.now (Some (standing self.old)) operation operands.now ≡ Some (standing self.new))) }
+        ensures { IfOk result (λ made. IfSome made (λ done. with_all_literals symbols.now literals.now (Some (standing self.old))
+            operation operands.now ≡ Some (standing self.new))) }
     {
         if self
             .note_operands(alloc, symbols, literals, operands)?
@@ -952,7 +986,8 @@ impl State {
         literals: &[Literal],
         statement: &Statement,
     ) -> Result<Option<()>, AllocError>
-        ensures { IfOk result (λ made. IfSome made (λ done. follow symbols.now literals.now (Some (standing self.old)) statement.now ≡ Some (standing self.new))) }
+        ensures { IfOk result (λ made. IfSome made (λ done. follow symbols.now literals.now (Some (standing self.old)) statement.now
+            ≡ Some (standing self.new))) }
     {
         let operands = &statement.operands;
         let Statement {
@@ -982,7 +1017,8 @@ impl State {
         alloc: Global,
         literals: &[Literal],
     ) -> Result<Option<()>, AllocError>
-        ensures { IfOk result (λ made. IfSome made (λ done. with_literals literals.now (Some (standing self.old)) ≡ Some (standing self.new))) }
+        ensures { IfOk result (λ made. IfSome made (λ done. with_literals literals.now (Some (standing self.old)) ≡ Some
+            (standing self.new))) }
     {
         if literals.is_empty() {
             return Ok(Some(()));

@@ -1,8 +1,11 @@
 //! Texts in display code.
-ghost use Rattle.std.specs.Prelude.{◌≡◌, ◌++◌, ◌==◌, ◌-◌, ◌+◌, ◌*◌, IfOk, IfSome, IsTrue, OnOk, Some, length, map, pos, replicate, true};
+ghost use Rattle.std.specs.Prelude.{◌≡◌, ◌++◌, ◌==◌, ◌-◌, ◌+◌, ◌*◌, IfOk, IfSome, IsTrue, OnOk};
+ghost use Rattle.std.specs.Prelude.{Some, length, map, pos, replicate, true};
 ghost use Rattle.pp_notation.specs.DisplayCode.{symbol};
 ghost use Rattle.pp_meaning.specs.Numbers.{decimal_number};
-ghost use Rattle.pp_meaning.specs.Texts.{are_codes, count_words, display, display_words, filled, filled_with, is_cut, is_ended, is_mark, is_whole, is_without, is_word, least_size, number_from_codes, pairs, text_number, text_words, text_after, text_with, whole_words};
+ghost use Rattle.pp_meaning.specs.Texts.{are_codes, count_words, display, display_words, filled, filled_with, is_cut, is_ended};
+ghost use Rattle.pp_meaning.specs.Texts.{is_mark, is_whole, is_without, is_word, least_size, number_from_codes, pairs, text_number};
+ghost use Rattle.pp_meaning.specs.Texts.{text_words, text_after, text_with, whole_words};
 
 use crate::numbers::decimal_value;
 use pp_notation::symbol_of;

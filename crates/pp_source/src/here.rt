@@ -29,7 +29,8 @@ impl<'a> Here<'a> {
         self.line.read.part(part.first, part.end)
     }
 
-    /// Returns the line and the column, from 1, of a column of the line, from 0. A system text is before the first column of the source.
+    /// Returns the line and the column, from 1, of a column of the line, from 0. A system text is before the first column of the
+    /// source.
     pub fn place_of(&self, column: usize) -> (u32, usize) {
         if !self.line.system.is_empty() {
             return (1, 1);

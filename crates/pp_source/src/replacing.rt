@@ -14,8 +14,8 @@ pub fn split(kept: &[u8], list: Span) -> (Span, Option<Span>) {
     (Span::new(list.first, end), others)
 }
 
-/// Returns the first item of a list that is kept, without its parentheses, and the others, if there are some. A comma in parentheses is
-/// within an item.
+/// Returns the first item of a list that is kept, without its parentheses, and the others, if there are some. A comma in
+/// parentheses is within an item.
 pub fn split_nested(kept: &[u8], list: Span) -> (Span, Option<Span>) {
     let text = list.of(kept);
     let mut depth: u32 = 0;
@@ -99,8 +99,8 @@ impl Vocabulary {
         Ok(())
     }
 
-    /// Adds a text to the line that is made, with what is given for its names; a _ between names joins them. The B of 12B is no name,
-    /// the A of $A$ is one.
+    /// Adds a text to the line that is made, with what is given for its names; a _ between names joins them. The B of 12B is no
+    /// name, the A of $A$ is one.
     pub fn replace(&mut self, text: &[u8]) -> Result<(), AllocError> {
         for word in text.chunk_by(|one, next| is_alphanumeric(*one) && is_alphanumeric(*next)) {
             let given = match word {

@@ -116,8 +116,8 @@ impl Symbols {
         self.qualifiers.clear();
     }
 
-    /// Begins the source. A name that it has itself, as the pass before has found, is no longer that of a system; but one of SET is, up to
-    /// the first SET of the source.
+    /// Begins the source. A name that it has itself, as the pass before has found, is no longer that of a system; but one of SET
+    /// is, up to the first SET of the source.
     pub fn begin_source(&mut self) {
         for symbol in &mut self.all {
             if let Some(own) = symbol.before
@@ -262,8 +262,8 @@ impl Symbols {
         self.meant(name)?.seen
     }
 
-    /// Returns what a name stands for. Only a name of a line above counts if that is asked, and of SET in any case. In the first pass
-    /// a name may stand for nothing yet.
+    /// Returns what a name stands for. Only a name of a line above counts if that is asked, and of SET in any case. In the first
+    /// pass a name may stand for nothing yet.
     pub fn look_up(&self, name: &[u8], at: Place, is_last: bool) -> Outcome<Definition> {
         let symbol = self.meant(name);
         if let Some(seen) = symbol.and_then(|symbol| symbol.seen) {

@@ -88,7 +88,8 @@ impl Scope {
     }
 }
 
-/// Returns that a statement has a symbol that is not known yet, if one of its fields has: only the comment may have letters beyond ASCII.
+/// Returns that a statement has a symbol that is not known yet, if one of its fields has: only the comment may have letters beyond
+/// ASCII.
 pub fn is_known(here: &Here, statement: Statement) -> Outcome {
     for field in &[statement.location, statement.operation, statement.operand] {
         for symbol in field.of(here.text) {

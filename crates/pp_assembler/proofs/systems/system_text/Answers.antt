@@ -11,7 +11,9 @@ loop-row-preserved c =
           rw (w.statements-is, w.in_ok-push-in-Some.ensures.items)
           (push_one (λ statement. (index : ℕ) × IsPerformed c.args.lines.now c.args.text.now.rows.items statement index)
           c.loop-row.statements.items w.in-Some.statement c.loop-row.invariant
-          (performed_of_row c.args.lines.now c.args.text.now.rows.items c.deref-row-items.result.now c.loop-row.row-index _ c.in_ok-made.made
-          w.in-Some.statement c.in_ok-made.ensures (search rules) c.deref-row-items.ensures.value c.loop-row-test.true (search rules)))
+          (performed_of_row c.args.lines.now c.args.text.now.rows.items c.deref-row-items.result.now c.loop-row.row-index _
+          c.in_ok-made.made
+          w.in-Some.statement c.in_ok-made.ensures (search rules) c.deref-row-items.ensures.value c.loop-row-test.true
+          (search rules)))
       | in-None w ↦ rw w.statements-is c.loop-row.invariant
     ]

@@ -1,9 +1,11 @@
-use Rattle.std.proofs.Common.{◌≡◌, ◌∙◌, ◌==◌, ◌-◌, List, [], ◌∷◌, ℕ, ap, arith, drop, false, length, refl, sym, take, take_all, true}
+use Rattle.std.proofs.Common.{◌≡◌, ◌∙◌, ◌==◌, ◌-◌, List, [], ◌∷◌, ℕ, ap, arith, drop}
+use Rattle.std.proofs.Common.{false, length, refl, sym, take, take_all, true}
 use Rattle.std.specs.List.{list_any}
 use Rattle.pp_listing.specs.Texts.{unqualified}
 use Rattle.pp_listing.proofs.forms.without_qualifier.Goals as goal
 
-shorter : (name : List ℕ) → list_any (λ one. one == 47) name ≡ true → unqualified (take (length name - 1) (drop 1 name)) ≡ unqualified name
+shorter : (name : List ℕ) → list_any (λ one. one == 47) name ≡ true →
+    unqualified (take (length name - 1) (drop 1 name)) ≡ unqualified name
 unfolding unqualified
 shorter [] h = refl
 shorter (symbol ∷ name) h = rw h (ap unqualified (take_all (length (symbol ∷ name) - 1) name (omega arith)))

@@ -1,5 +1,7 @@
-use Rattle.std.proofs.Common.{◌≡◌, ◌∙◌, ◌<◌, ◌≤◌, ◌∷◌, ◌++◌, List, [], ℕ, ap, append-nil, append_assoc, arith, drop, length, refl, slice_get, sym}
-use Rattle.pp_listing.specs.Listing.{address_fields, further_lines, listed_row, text_of, two_on, value_field, without_tabs, words_field}
+use Rattle.std.proofs.Common.{◌≡◌, ◌∙◌, ◌<◌, ◌≤◌, ◌∷◌, ◌++◌, List, [], ℕ, ap, append-nil}
+use Rattle.std.proofs.Common.{append_assoc, arith, drop, length, refl, slice_get, sym}
+use Rattle.pp_listing.specs.Listing.{address_fields, further_lines, listed_row, text_of}
+use Rattle.pp_listing.specs.Listing.{two_on, value_field, without_tabs, words_field}
 use Rattle.pp_notation.specs.Columns.{ended}
 use Rattle.pp_listing.specs.Texts.{row_words}
 use Rattle.pp_statements.specs.declared.scope.Row.{Row}
@@ -39,6 +41,8 @@ loop-words-preserved c = after-line c.loop-words.out.items _ _ c.loop-words.word
 
 pub returns : goal.returns
 returns c = sym (append-nil c.loop-words.out.items)
-    ∙ (ap (λ rest. c.loop-words.out.items ++ rest) (sym (no-further c.loop-words.next c.loop-words.words.now c.loop-words-test.false))
-    ∙ (c.loop-words.invariant ∙ all-lines c.args.out.now.items _ _ _ c.args.made.now c.args.row.now c.words_of-words.ensures c.text_of.ensures
+    ∙ (ap (λ rest. c.loop-words.out.items ++ rest)
+    (sym (no-further c.loop-words.next c.loop-words.words.now c.loop-words-test.false))
+    ∙ (c.loop-words.invariant ∙ all-lines c.args.out.now.items _ _ _ c.args.made.now c.args.row.now c.words_of-words.ensures
+    c.text_of.ensures
     c.in_ok-put_first.ensures))

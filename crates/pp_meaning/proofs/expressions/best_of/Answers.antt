@@ -8,5 +8,6 @@ pub loop-operand-preserved : goal.loop-operand-preserved
 loop-operand-preserved c =
     let fits : SFits w64 c.in_ok-best.best = search rules in
     let step = fold_on (with_choice c.args.symbols.now c.args.place c.args.is_greatest) _ _ c.args.others.now
-    c.loop-operand.operand-index c.operand-item.result c.loop-operand-test.true c.operand-item.is c.in_ok-best.ensures ∙ c.loop-operand.invariant in
+    c.loop-operand.operand-index c.operand-item.result c.loop-operand-test.true c.operand-item.is c.in_ok-best.ensures
+    ∙ c.loop-operand.invariant in
     rw (to_z-of_z w64 c.in_ok-best.best fits) step

@@ -4,4 +4,5 @@ use Rattle.pp_meaning.specs.Lines.{AreWritten}
 use Rattle.pp_meaning.proofs.lines.all_written.Given as goal
 
 abbrev pub invariant-loop-text : goal.invariant-loop-text
-invariant-loop-text l = AllByRecursion (AreWritten l.symbols) (drop l.text-index l.systems) → AllByRecursion (AreWritten l.symbols) l.systems
+invariant-loop-text l = AllByRecursion (AreWritten l.symbols) (drop l.text-index l.systems) → AllByRecursion (AreWritten l.symbols)
+    l.systems

@@ -4,4 +4,5 @@ use Rattle.pp_meaning.specs.Lines.{IsWritten}
 use Rattle.pp_meaning.proofs.lines.are_written.Given as goal
 
 abbrev pub invariant-loop-statement : goal.invariant-loop-statement
-invariant-loop-statement l = AllByRecursion (IsWritten l.symbols) (drop l.statement-index l.statements) → AllByRecursion (IsWritten l.symbols) l.statements
+invariant-loop-statement l = AllByRecursion (IsWritten l.symbols) (drop l.statement-index l.statements) → AllByRecursion
+    (IsWritten l.symbols) l.statements

@@ -4,4 +4,5 @@ use Rattle.pp_meaning.specs.Lines.{operand_text}
 use Rattle.pp_meaning.proofs.lines.with_commas.Given as goal
 
 abbrev pub invariant-loop-operand : goal.invariant-loop-operand
-invariant-loop-operand l = l.out.items ≡ flat_map (λ operand. codes "," ++ operand_text l.symbols operand) (take l.operand-index l.operands)
+invariant-loop-operand l = l.out.items ≡ flat_map (λ operand. codes "," ++ operand_text l.symbols operand)
+    (take l.operand-index l.operands)

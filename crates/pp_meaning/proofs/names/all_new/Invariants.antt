@@ -7,5 +7,6 @@ use Rattle.pp_meaning.proofs.names.all_new.Given as goal
 abbrev pub invariant-loop-index : goal.invariant-loop-index
 invariant-loop-index l = record {
   last : IsLast l.symbols l.last l.index;
-  different : (i j : ℕ) → i < j → j < l.index → (symbol_name (slice_get l.symbols i) ≢ symbol_name (slice_get l.symbols j)) ⊎ (is_renamed j (slice_get l.symbols i) ≡ true);
+  different : (i j : ℕ) → i < j → j < l.index →
+      (symbol_name (slice_get l.symbols i) ≢ symbol_name (slice_get l.symbols j)) ⊎ (is_renamed j (slice_get l.symbols i) ≡ true);
 }

@@ -3,4 +3,5 @@ use Rattle.pp_meaning.specs.Meaning.{with_constant}
 use Rattle.pp_meaning.proofs.statements.words_of_constants.Given as goal
 
 abbrev pub invariant-loop-operand : goal.invariant-loop-operand
-invariant-loop-operand l = fold (with_constant l.symbols l.place) (Some l.words.items) (drop l.operand-index l.operands) ≡ fold (with_constant l.symbols l.place) (Some []) l.operands
+invariant-loop-operand l = fold (with_constant l.symbols l.place) (Some l.words.items) (drop l.operand-index l.operands) ≡ fold
+    (with_constant l.symbols l.place) (Some []) l.operands

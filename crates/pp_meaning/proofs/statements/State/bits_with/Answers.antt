@@ -7,7 +7,11 @@ pub returns-in-Some : goal.returns-in-Some
 returns-in-Some c =
     let same : c.deref.result.now ≡ c.in-Some.before.items = search rules in
     let before : c.in-Some.before.items ≡ bits_before (standing c.args.self.now) c.args.label = search rules in
-    subst (λ place. IfOk c.bits_of_fields.result (λ made. IfSome made (λ bits. fold (with_bits c.args.symbols.now place) (Some (bits_before (standing c.args.self.now) c.args.label)) c.args.operands.now ≡ Some bits.items)))
+    subst (λ place. IfOk c.bits_of_fields.result
+    (λ made. IfSome made (λ bits. fold (with_bits c.args.symbols.now place)
+    (Some (bits_before (standing c.args.self.now) c.args.label)) c.args.operands.now ≡ Some bits.items)))
     c.place.ensures
-    (subst (λ first. IfOk c.bits_of_fields.result (λ made. IfSome made (λ bits. fold (with_bits c.args.symbols.now c.place.result) (Some first) c.args.operands.now ≡ Some bits.items)))
+    (subst (λ first. IfOk c.bits_of_fields.result
+    (λ made. IfSome made (λ bits. fold (with_bits c.args.symbols.now c.place.result) (Some first) c.args.operands.now ≡ Some
+    bits.items)))
     (same ∙ before) c.bits_of_fields.ensures)

@@ -9,5 +9,7 @@ returns-in-Some c =
     let found : data_words c.args.symbols.now c.place.result c.args.operands.now ≡ Some c.in-Some.words.items = search rules in
     let words : data_words c.args.symbols.now (place_of (standing c.args.self.now)) c.args.operands.now ≡ Some c.deref.result.now =
     ap (λ place. data_words c.args.symbols.now place c.args.operands.now) (sym c.place.ensures) ∙ found ∙ ap Some (sym same) in
-    subst (λ made. IfSome c.name_literal.result (λ done. naming c.args.literals.now (standing c.args.self.now) c.args.address (index_of c.args.literals.now made) ≡ Some (standing c.name_literal.new.self)))
+    subst (λ made. IfSome c.name_literal.result
+    (λ done. naming c.args.literals.now (standing c.args.self.now) c.args.address (index_of c.args.literals.now made) ≡ Some
+    (standing c.name_literal.new.self)))
     (sym words) c.name_literal.ensures

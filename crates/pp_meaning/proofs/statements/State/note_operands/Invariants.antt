@@ -3,4 +3,5 @@ use Rattle.pp_meaning.specs.Meaning.{standing, with_literal}
 use Rattle.pp_meaning.proofs.statements.State.note_operands.Given as goal
 
 abbrev pub invariant-loop-operand : goal.invariant-loop-operand
-invariant-loop-operand l = fold (with_literal l.symbols l.literals) (Some (standing l.self)) (drop l.operand-index l.operands) ≡ fold (with_literal l.symbols l.literals) (Some (standing l.initial.self)) l.operands
+invariant-loop-operand l = fold (with_literal l.symbols l.literals) (Some (standing l.self)) (drop l.operand-index l.operands)
+    ≡ fold (with_literal l.symbols l.literals) (Some (standing l.initial.self)) l.operands
