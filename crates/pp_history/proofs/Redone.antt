@@ -56,7 +56,7 @@ module _ {M A R P H : Type 0} (rules : Ghosts M A R P H) where
         old.ahead ≡ ahead + length heads →
         IsRun rules start old (λ v. after_forward v count) machine (with_head rules old block at kept ahead tails undone)
     forward_stretch count [] heads' rest at done ends is enough machine tails undone (none, same_machine, same_tails, same_undone)
-    block set_is kept ahead counted left =
+        block set_is kept ahead counted left =
         let here : old.at ≡ at = omega (arith, ends) in
         let kept_is : kept ≡ old.kept = omega (arith, counted) in
         let ahead_is : ahead ≡ old.ahead = omega (arith, left) in
@@ -69,7 +69,7 @@ module _ {M A R P H : Type 0} (rules : Ghosts M A R P H) where
     forward_stretch count (head ∷ earlier) [] rest at done ends is enough machine tails undone redone block set_is kept ahead
         counted left = absurd redone
     forward_stretch count (head ∷ earlier) (head' ∷ earlier') rest at done ends is enough machine tails undone
-    (was, between, items, before, acted, undone_is) block set_is kept ahead counted left =
+        (was, between, items, before, acted, undone_is) block set_is kept ahead counted left =
         let slots = placed old.heads.block.items (at + 1) earlier' in
         let block' = with_items old.heads.block slots in
         let slots_are : block'.items ≡ slots = with_items_is old.heads.block slots
