@@ -2,41 +2,35 @@
 
 use arrayvec::ArrayVec;
 use pp_arith::*;
-use std::process::Abort;
-
-/// Checks a number. An `assert_eq` in each test takes the prover longer.
-fn is(rt: &impl Abort, found: u32, wanted: u32) {
-    assert_eq!(rt; found, wanted);
-}
 
 #[test]
 fn adds_and_subtracts_ones_complement(rt: HostRuntime) {
-    is(&rt, add18(0o777776, 1), 0);
-    is(&rt, add18(0o777777, 0), 0);
-    is(&rt, add18(0o777777, 0o777777), 0o777777);
-    is(&rt, sub18(0, 1), 0o777776);
-    is(&rt, sub18(0, 0o777777), 0);
-    is(&rt, sub18(0o777777, 0o777777), 0);
-    is(&rt, sub18(0o777777, 0), 0o777777);
+    assert_eq!(rt; add18(0o777776, 1), 0);
+    assert_eq!(rt; add18(0o777777, 0), 0);
+    assert_eq!(rt; add18(0o777777, 0o777777), 0o777777);
+    assert_eq!(rt; sub18(0, 1), 0o777776);
+    assert_eq!(rt; sub18(0, 0o777777), 0);
+    assert_eq!(rt; sub18(0o777777, 0o777777), 0);
+    assert_eq!(rt; sub18(0o777777, 0), 0o777777);
 }
 
 #[test]
 fn shifts_left_in_a_circle_and_right_end_off(rt: HostRuntime) {
-    is(&rt, shift18(0o400000, 0o01), 0o000001);
-    is(&rt, shift18(0o777777, 0o76), 0o377777);
-    is(&rt, shift18(0o123456, 0o77), 0o123456);
-    is(&rt, shift18(0o123456, 0o22), 0o123456);
-    is(&rt, shift18(0o777777, 0o40), 0);
+    assert_eq!(rt; shift18(0o400000, 0o01), 0o000001);
+    assert_eq!(rt; shift18(0o777777, 0o76), 0o377777);
+    assert_eq!(rt; shift18(0o123456, 0o77), 0o123456);
+    assert_eq!(rt; shift18(0o123456, 0o22), 0o123456);
+    assert_eq!(rt; shift18(0o777777, 0o40), 0);
 }
 
 #[test]
 fn wraps_addresses(rt: HostRuntime) {
-    is(&rt, u32::from(index12(0o7777, 0)), 0o7777);
-    is(&rt, u32::from(index12(0o7777, 1)), 1);
-    is(&rt, u32::from(relative(0o0100, 0o05)), 0o0105);
-    is(&rt, u32::from(relative(0o0100, 0o72)), 0o0073);
-    is(&rt, u32::from(relative(0, 0o76)), 0o7777);
-    is(&rt, u32::from(relative(0o7777, 0o01)), 0);
+    assert_eq!(rt; index12(0o7777, 0), 0o7777);
+    assert_eq!(rt; index12(0o7777, 1), 1);
+    assert_eq!(rt; relative(0o0100, 0o05), 0o0105);
+    assert_eq!(rt; relative(0o0100, 0o72), 0o0073);
+    assert_eq!(rt; relative(0, 0o76), 0o7777);
+    assert_eq!(rt; relative(0o7777, 0o01), 0);
 }
 
 #[test]
