@@ -15,7 +15,7 @@ use crate::meaning::{Found, encode_performed};
 use crate::program::{Assembly, Performed};
 use crate::readings::{are_read, are_readings};
 use pp_complaints::{Known, complaints};
-use pp_decks::{Decks, Lines, Span, Text, cut_lines, placed, read_lines};
+use pp_decks::{Complaint, Decks, Lines, Span, Text, cut_lines, placed, read_lines};
 use pp_expansion::{Ending, Pass, Reading};
 use pp_notation::{Program, Slot, program_of};
 use pp_source::{Fault, Message, Symbols, Vocabulary, Wording};
@@ -176,9 +176,9 @@ fn assembly_of(
     let made = without_messages(alloc, read, scope, found)?;
     let messages = match made.meaning {
         Some(_) => Vec::new(alloc),
-        None => placed(alloc, &complaints(alloc, known_of(&made), &wrong)?, spans)?,
+        None => complaints_at(alloc, &made, &wrong, spans)?,
     };
-    let warnings = placed(alloc, &complaints(alloc, known_of(&made), &noticed)?, spans)?;
+    let warnings = complaints_at(alloc, &made, &noticed, spans)?;
     Ok(Assembly {
         messages,
         warnings,
@@ -224,6 +224,18 @@ fn without_messages(
         messages: Vec::new(alloc),
         warnings: Vec::new(alloc),
     })
+}
+
+/// Returns what messages say, each at its place in a source with these lines.
+fn complaints_at(
+    alloc: Global,
+    made: &Assembly,
+    messages: &[Message],
+    spans: &[Span],
+) -> Result<Vec<Complaint>, AllocError>
+    ensures { IfOk result (λ placed. All (IsOfLine (map length_of spans.now)) placed.items) }
+{
+    placed(alloc, &complaints(alloc, known_of(made), messages)?, spans)
 }
 
 /// Returns what messages may name.
