@@ -1,6 +1,6 @@
 //! All that is known of a source.
 use crate::readings::Reading;
-use pp_meaning::{Literal, Statement, Symbol, SystemText};
+use pp_meaning::{Block, Literal, Statement, Symbol, SystemText};
 use pp_notation::Program;
 use pp_source::{Complaint, Decks, Lines, Symbols, Vocabulary};
 use pp_statements::{Row, SystemRows, Unit};
@@ -12,6 +12,8 @@ pub struct Performed {
     pub symbols: Vec<Symbol>,
     /// The words that operands name by what they are, in the order in which they are named first.
     pub literals: Vec<Literal>,
+    /// The blocks of USE, in the order in which they are named first.
+    pub blocks: Vec<Block>,
     /// Those of system texts that name numbers.
     pub systems: Vec<SystemText>,
     pub statements: Vec<Statement>,

@@ -12,5 +12,5 @@ mod values;
 pub use directives::{base_of, the_only, wants_operand};
 pub use performing::is_known;
 pub use scope::{CELLS, MOST_STATEMENTS, Row, Scope, SystemRows, count_one, too_many_statements};
-pub use units::{Blocks, Unit};
+pub use units::{Blocks, NamedBlock, Unit};
 pub use values::Base;
