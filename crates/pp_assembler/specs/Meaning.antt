@@ -10,6 +10,7 @@ use Rattle.pp_meaning.specs.Names.{AreNames}
 use Rattle.pp_meaning.specs.declared.expressions.Literal.{Literal}
 use Rattle.pp_meaning.specs.declared.expressions.Symbol.{Symbol}
 use Rattle.pp_meaning.specs.declared.assembled.Image.{Image}
+use Rattle.pp_meaning.specs.declared.statements.Block.{Block}
 use Rattle.pp_meaning.specs.declared.statements.Statement.{Statement}
 use Rattle.pp_meaning.specs.declared.statements.SystemText.{SystemText}
 use Rattle.pp_decks.specs.declared.lines.Line.{Line}
@@ -23,10 +24,10 @@ use Rattle.pp_assembler.specs.declared.program.Performed.{Performed}
 
 -- The words of a program, by cell and in the order of the listing, are those that statements mean. The line of each statement is
 -- its label, operation, operands and comment, and no two names are one.
-pub record IsWordsOf (symbols : List Symbol) (literals : List Literal) (systems : List SystemText) (statements : List Statement)
-    (program : Program) (words : List ℕ) : Type 0 where
+pub record IsWordsOf (symbols : List Symbol) (literals : List Literal) (blocks : List Block) (systems : List SystemText)
+    (statements : List Statement) (program : Program) (words : List ℕ) : Type 0 where
   pub image : Image
-  pub assembled : IsAssembled symbols literals systems statements image
+  pub assembled : IsAssembled symbols literals blocks systems statements image
   pub written : AllByRecursion (IsWritten symbols) statements
   pub systems_written : AllByRecursion (AreWritten symbols) systems
   pub names : AreNames symbols
@@ -68,7 +69,8 @@ ArePerformedAll lines rows systems performed = ArePerformed lines rows performed
 -- A program and its words are those of statements that have been performed.
 abbrev pub AreMeant : Lines → List Row → List SystemRows → Program → List ℕ → Performed → Type 0
 AreMeant lines rows systems program words performed =
-    IsWordsOf performed.symbols.items performed.literals.items performed.systems.items performed.statements.items program words
+    IsWordsOf performed.symbols.items performed.literals.items performed.blocks.items performed.systems.items
+    performed.statements.items program words
     × ArePerformedAll lines rows systems performed
 
 -- What a pass has found has words only if they are those of its statements.

@@ -1,16 +1,17 @@
 //! The words that `pp_meaning` gives to the statements of a source, if it has the meaning of them all.
 ghost use Rattle.std.specs.Prelude.{◌≡◌, IfOk, IfSome};
 ghost use Rattle.std.specs.List.{AllZip};
-ghost use Rattle.pp_assembler.specs.Meaning.{AreOfSystem, ArePerformedAll, IsFound, IsWordsOf, read_at};
+ghost use Rattle.pp_assembler.specs.Meaning.{AreOfSystem, ArePerformedAll, IsFound, IsWordsOf};
 
 use crate::program::Performed;
+use crate::readings::read_line;
 use crate::systems::system_texts;
 use crate::terms::{Names, begins_with_blank, field_of, may_follow, operand_of, text_of_display};
 use pp_decks::{Lines, Span, tail};
 use pp_expansion::Pass;
 use pp_meaning::{
-    Item, Literal, Operand, Operation as Meant, Refusal, Statement, Symbol, SystemText, encode,
-    program_of,
+    Block, Item, Literal, Operand, Operation as Meant, Refusal, Statement, Symbol, SystemText,
+    encode, program_of,
 };
 use pp_notation::{Cell, Form, Program, form_of};
 use pp_source::{
@@ -75,6 +76,7 @@ fn meant(
         Operation::Set => Meant::Set,
         Operation::Greatest => Meant::Choose(true),
         Operation::Least => Meant::Choose(false),
+        Operation::Base if matches!(operand, b"*") => Meant::BaseBefore,
         Operation::Base => {
             let more = u8::try_from(operand.len().wrapping_sub(1)).ok()?;
             Meant::SetBase(base_of(operand)?, more)
@@ -86,6 +88,7 @@ fn meant(
         Operation::Position => Meant::Position,
         Operation::Shortest(code, ..) => Meant::Shortest(code != LOAD),
         Operation::Literals => Meant::Pool(address?),
+        Operation::Use if !matches!(operand, b"LITERALS*") => Meant::Use,
         _ => return None,
     })
 }
@@ -109,8 +112,11 @@ fn is_silent(operation: Operation) -> bool {
 
 /// Returns whether a statement has no label where one says nothing.
 fn is_right_label(operation: Meant, fields: Fields) -> bool {
-    !matches!(operation, Meant::SetBase(..) | Meant::Deck | Meant::End)
-        || fields.location.is_empty()
+    let may_not_have = matches!(
+        operation,
+        Meant::SetBase(..) | Meant::BaseBefore | Meant::Deck | Meant::End
+    );
+    !may_not_have || fields.location.is_empty()
 }
 
 /// Returns what the statement of a row is.
@@ -210,6 +216,20 @@ fn literals_of(alloc: Global, pass: &Pass) -> Result<Vec<Literal>, AllocError> {
     Ok(literals)
 }
 
+/// Returns the blocks of USE.
+fn blocks_of(alloc: Global, pass: &Pass) -> Result<Vec<Block>, AllocError> {
+    let mut blocks = Vec::new(alloc);
+    for index in 0..pass.scope.output.rows.len() {
+        let Some(block) = pass.scope.named_block_of_first(index) else {
+            break;
+        };
+        let name = Vec::from_slice(alloc, block.name)?;
+        let base = usize::try_from(block.base).unwrap_or(CELLS);
+        blocks.push(Block { name, base })?;
+    }
+    Ok(blocks)
+}
+
 /// Returns the words of a row.
 fn words_of_row<'a>(pass: &'a Pass, row: &Row) -> &'a [u16] {
     pass.scope
@@ -274,6 +294,16 @@ fn display_of(
     Ok(Some((operands, field)))
 }
 
+/// Returns what USE has, if it has something.
+fn word_of(alloc: Global, line: &[u8], field: Span) -> Result<Vec<Operand>, AllocError> {
+    let mut operands = Vec::new(alloc);
+    if !field.is_empty() {
+        let word = Vec::from_slice(alloc, field.of(line))?;
+        operands.push(Operand::Word(word))?;
+    }
+    Ok(operands)
+}
+
 /// Returns the operands of a statement with their terms, and the columns that they have.
 fn variable_of(
     alloc: Global,
@@ -284,9 +314,10 @@ fn variable_of(
     words: &[u16],
 ) -> Result<Option<(Vec<Operand>, Span)>, AllocError> {
     match operation {
-        Meant::SetBase(..) => Ok(Some((Vec::new(alloc), field))),
+        Meant::SetBase(..) | Meant::BaseBefore => Ok(Some((Vec::new(alloc), field))),
         Meant::Deck => Ok(Some((Vec::new(alloc), Span::none()))),
         Meant::Display => display_of(alloc, line, field),
+        Meant::Use => Ok(Some((word_of(alloc, line, field)?, field))),
         _ => match operands_of(alloc, names, line, operation, field, words)? {
             Some(operands) => Ok(Some((operands, field))),
             None => Ok(None),
@@ -335,16 +366,6 @@ pub fn statement_of(
     }))
 }
 
-/// Returns the line at an index, as it is read.
-pub fn read_line(lines: &Lines, index: usize) -> &[u8]
-    ensures { result.now ≡ read_at lines.now index }
-{
-    match lines.all.get(index) {
-        Some(line) => line.read.of(&lines.capitals),
-        None => b"",
-    }
-}
-
 /// Returns the statements of the listing with their terms.
 fn statements_of(
     alloc: Global,
@@ -383,6 +404,7 @@ fn statements_of(
     Ok(Some(Performed {
         symbols: names.all,
         literals: literals_of(alloc, pass)?,
+        blocks: blocks_of(alloc, pass)?,
         systems,
         statements,
         lines: indices,
@@ -438,14 +460,15 @@ fn encoding_of(
     alloc: Global,
     symbols: &[Symbol],
     literals: &[Literal],
+    blocks: &[Block],
     systems: &[SystemText],
     statements: &[Statement],
     lines: &[u32],
     count: usize,
 ) -> Result<(Program, Vec<u16>), Refusal>
-    ensures { IfOk result (λ made. IsWordsOf symbols.now literals.now systems.now statements.now made.0 made.1.items) }
+    ensures { IfOk result (λ made. IsWordsOf symbols.now literals.now blocks.now systems.now statements.now made.0 made.1.items) }
 {
-    let image = encode(alloc, symbols, literals, systems, statements)?;
+    let image = encode(alloc, symbols, literals, blocks, systems, statements)?;
     let refusal = Refusal::At(statements.len());
     let Some(program) = program_of(alloc, &image, lines)? else {
         return Err(refusal);
@@ -456,13 +479,10 @@ fn encoding_of(
     }
 }
 
-/// Returns whether the statement at an index is BSS, which may go back below cell 0, or has a logical difference, whose numbers may
-/// have a minus: `pp_meaning` has no words of that.
+/// Returns whether the statement at an index is BSS, which may go back below cell 0: `pp_meaning` has no words of that.
 fn may_be_refused(statements: &[Statement], index: usize) -> bool {
     match statements.get(index) {
-        Some(statement) => {
-            matches!(statement.operation, Meant::Space) || statement.line.contains(&b'^')
-        }
+        Some(statement) => matches!(statement.operation, Meant::Space),
         None => false,
     }
 }
@@ -500,12 +520,15 @@ pub fn encode_performed(alloc: Global, lines: &Lines, pass: &Pass) -> Result<Fou
     let Performed {
         symbols,
         literals,
+        blocks,
         systems,
         statements,
         ..
     } = &performed;
     let count = pass.scope.output.words.len();
-    match encoding_of(alloc, symbols, literals, systems, statements, &cells, count) {
+    match encoding_of(
+        alloc, symbols, literals, blocks, systems, statements, &cells, count,
+    ) {
         Ok((program, words)) => Ok(Found::Words(Encoded {
             performed,
             program,

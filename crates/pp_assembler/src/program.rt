@@ -1,7 +1,7 @@
 //! All that is known of a source.
 use pp_decks::{Complaint, Decks, Lines};
 use pp_expansion::Reading;
-use pp_meaning::{Literal, Statement, Symbol, SystemText};
+use pp_meaning::{Block, Literal, Statement, Symbol, SystemText};
 use pp_notation::Program;
 use pp_source::{Symbols, Vocabulary};
 use pp_statements::{Row, SystemRows, Unit};
@@ -14,6 +14,8 @@ pub struct Performed {
     pub symbols: Vec<Symbol>,
     /// The words that operands name by what they are, in the order in which they are named first.
     pub literals: Vec<Literal>,
+    /// The blocks of USE, in the order in which they are named first.
+    pub blocks: Vec<Block>,
     /// Those of system texts that name numbers.
     pub systems: Vec<SystemText>,
     pub statements: Vec<Statement>,

@@ -40,7 +40,7 @@ fn deck_lines<'a>(lines: &'a Lines, decks: &Decks, index: usize) -> &'a [Line]
 }
 
 /// Returns the line at an index, as it is read.
-fn read_line(lines: &Lines, index: usize) -> &[u8]
+pub fn read_line(lines: &Lines, index: usize) -> &[u8]
     ensures { result.now ≡ read_at lines.now index }
 {
     match lines.all.get(index) {

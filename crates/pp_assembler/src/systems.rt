@@ -3,7 +3,8 @@ ghost use Rattle.std.specs.Prelude.{◌≡◌, IfOk, IfSome, true};
 ghost use Rattle.std.specs.List.{AllZip};
 ghost use Rattle.pp_assembler.specs.Meaning.{AreOfSystem, read_at};
 
-use crate::meaning::{Part, is_name, part_of, read_line, statement_of};
+use crate::meaning::{Part, is_name, part_of, statement_of};
+use crate::readings::read_line;
 use crate::terms::Names;
 use pp_decks::Lines;
 use pp_expansion::Pass;
@@ -85,7 +86,7 @@ fn statement_of_row(
     ensures { IfOk result (λ made. IfSome made (λ statement. statement.line.items ≡ read_at lines.now row.now.statement)) }
 {
     match part_of(pass, lines, row) {
-        Part::Kept(fields, operation @ (Meant::SetBase(..) | Meant::Deck)) => {
+        Part::Kept(fields, operation @ (Meant::SetBase(..) | Meant::BaseBefore | Meant::Deck)) => {
             let line = read_line(lines, row.statement);
             statement_of(alloc, names, line, fields, operation, &[])
         }

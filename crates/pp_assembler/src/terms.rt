@@ -98,6 +98,16 @@ impl Names {
     }
 }
 
+/// Returns what the letter of a number says, and how many letters it is.
+fn radix_of(number: Number) -> (Radix, usize) {
+    match number.letter {
+        Some(b'B') => (Radix::B, 1),
+        Some(b'O') => (Radix::O, 1),
+        Some(_) => (Radix::D, 1),
+        None => (Radix::Plain, 0),
+    }
+}
+
 /// A number that is shifted by more bits is 0.
 const MOST_SHIFT: u32 = 62;
 
@@ -157,12 +167,7 @@ impl<'a> Reader<'a> {
 
     /// Returns a number, which may be shifted.
     fn number(&mut self, number: Number<'a>) -> Result<Option<Atom>, AllocError> {
-        let (radix, letters) = match number.letter {
-            Some(b'B') => (Radix::B, 1),
-            Some(b'O') => (Radix::O, 1),
-            Some(_) => (Radix::D, 1),
-            None => (Radix::Plain, 0),
-        };
+        let (radix, letters) = radix_of(number);
         let digits = Vec::from_slice(self.alloc, number.digits)?;
         let size = number.digits.len().saturating_add(letters);
         let shift = match self.rest.get(size..) {
@@ -334,7 +339,7 @@ pub fn operand_of(
     }
 }
 
-/// Returns what the size of a field of VFD says: a number, a name or `*P`.
+/// Returns what the size of a field of VFD says: a number, a name, `*P` or an expression.
 fn width_of(alloc: Global, names: &Names, text: &[u8]) -> Result<Option<Width>, AllocError> {
     if matches!(text, b"*P") {
         return Ok(Some(Width::Rest));
@@ -342,20 +347,17 @@ fn width_of(alloc: Global, names: &Names, text: &[u8]) -> Result<Option<Width>, 
     if end_of_name(text, 0) == Some(text.len()) {
         return Ok(names.index_of(text).map(Width::Named));
     }
-    let Some(number) = number_of(text) else {
-        return Ok(None);
-    };
-    let (radix, letters) = match number.letter {
-        Some(b'B') => (Radix::B, 1),
-        Some(b'O') => (Radix::O, 1),
-        Some(_) => (Radix::D, 1),
-        None => (Radix::Plain, 0),
-    };
-    if number.digits.len().saturating_add(letters) != text.len() {
-        return Ok(None);
+    if let Some(number) = number_of(text) {
+        let (radix, letters) = radix_of(number);
+        if number.digits.len().saturating_add(letters) == text.len() {
+            let digits = Vec::from_slice(alloc, number.digits)?;
+            return Ok(Some(Width::Digits(digits, radix)));
+        }
     }
-    let digits = Vec::from_slice(alloc, number.digits)?;
-    Ok(Some(Width::Digits(digits, radix)))
+    match sum_of(alloc, names, text)? {
+        Some(Item::Sum(x)) => Ok(Some(Width::Count(x))),
+        _ => Ok(None),
+    }
 }
 
 /// Returns a field of VFD: its size, and its expression, which may be left out.

@@ -1,7 +1,7 @@
 -- The fields of VFD: numbers of so many bits, one behind another. Twelve bits are a word.
 use Rattle.std.specs.Prelude.{ℕ, zero, suc, ℤ, pos, ◌+◌, ◌-◌, ◌*◌, ◌/◌, ◌%◌, ◌^◌, ◌==◌, ◌&&◌, nat_le, Option, Some, None, List, []}
 use Rattle.std.specs.Prelude.{◌∷◌, ◌++◌, length, take, drop, replicate, slice_get, if◌then◌else◌}
-use Rattle.pp_meaning.specs.Expressions.{named_value}
+use Rattle.pp_meaning.specs.Expressions.{named_value, sum}
 use Rattle.pp_meaning.specs.Fields.{item_field}
 use Rattle.pp_meaning.specs.Numbers.{number_value}
 use Rattle.pp_meaning.specs.declared.expressions.Base.TheVariants.{Decimal}
@@ -12,7 +12,7 @@ use Rattle.pp_meaning.specs.declared.expressions.Operand.TheVariants.{Bits}
 use Rattle.pp_meaning.specs.declared.expressions.Place.{Place}
 use Rattle.pp_meaning.specs.declared.expressions.Symbol.{Symbol}
 use Rattle.pp_meaning.specs.declared.expressions.Width.{Width}
-use Rattle.pp_meaning.specs.declared.expressions.Width.TheVariants.{Digits, Named, Rest}
+use Rattle.pp_meaning.specs.declared.expressions.Width.TheVariants.{Count, Digits, Named, Rest}
 
 -- So many bits of a number, the upper ones first.
 abbrev pub bits_of : ℕ → ℕ → List ℕ
@@ -23,11 +23,13 @@ bits_of (suc size) number = (number / 2 ^ size % 2) ∷ bits_of size number
 abbrev pub bits_left : ℕ → ℕ
 bits_left count = 12 - count % 12
 
--- How many bits a field has that is behind so many: a decimal number, a name from above, or *P, the bits that the word has left.
+-- How many bits a field has that is behind so many: a decimal number, a name from above, *P, the bits that the word has left, or an
+-- expression of both.
 abbrev pub width_value : List Symbol → Place → ℕ → Width → Option ℤ
 width_value symbols place count (Digits digits radix) = number_value (Some Decimal) digits.items radix
 width_value symbols place count (Named index) = named_value place index (slice_get (take place.defined symbols) index)
 width_value symbols place count Rest = Some (pos (bits_left count))
+width_value symbols place count (Count x) = sum (take place.defined symbols) (record place { base = Some Decimal }) x
 
 -- A field has 1 to 60 bits.
 abbrev pub field_size : Option ℤ → Option ℕ

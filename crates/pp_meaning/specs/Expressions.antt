@@ -64,15 +64,17 @@ with_factor symbols place product factor = times factor.is_quotient product (ato
 abbrev pub product : List Symbol → Place → Term → Option ℤ
 product symbols place term = fold (with_factor symbols place) (atom_value symbols place term.atom) term.factors.items
 
--- The bits in which two numbers differ. Neither has a minus.
-abbrev pub difference : ℤ → ℤ → Option ℤ
-difference (pos a) (pos b) = Some (pos (bit_xor a b))
-difference _ _ = None
+-- The bits in which two numbers differ. A number with a minus has all bits but those of the number below its size.
+abbrev pub difference : ℤ → ℤ → ℤ
+difference (pos a) (pos b) = pos (bit_xor a b)
+difference (negsuc a) (negsuc b) = pos (bit_xor a b)
+difference (pos a) (negsuc b) = negsuc (bit_xor a b)
+difference (negsuc a) (pos b) = negsuc (bit_xor a b)
 
 abbrev pub plus : Sign → Option ℤ → Option ℤ → Option ℤ
 plus Plus (Some a) (Some b) = Some (a +ℤ b)
 plus Minus (Some a) (Some b) = Some (a -ℤ b)
-plus Differ (Some a) (Some b) = difference a b
+plus Differ (Some a) (Some b) = Some (difference a b)
 plus _ _ _ = None
 
 abbrev pub with_term : List Symbol → Place → Option ℤ → Term → Option ℤ

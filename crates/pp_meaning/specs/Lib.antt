@@ -1,4 +1,5 @@
 pub mod Bits
+pub mod Blocks
 pub mod Cells
 pub mod Expressions
 pub mod Fields
@@ -7,4 +8,5 @@ pub mod Literals
 pub mod Meaning
 pub mod Names
 pub mod Numbers
+pub mod Standing
 pub mod Texts

@@ -16,7 +16,7 @@ use Rattle.pp_meaning.specs.declared.expressions.Factor.{Factor}
 use Rattle.pp_meaning.specs.declared.expressions.Item.{Item}
 use Rattle.pp_meaning.specs.declared.expressions.Item.TheVariants.{Characters, Nothing as Null, Sum}
 use Rattle.pp_meaning.specs.declared.expressions.Operand.{Operand}
-use Rattle.pp_meaning.specs.declared.expressions.Operand.TheVariants.{Single, External, Literal as Named, Bits as Field}
+use Rattle.pp_meaning.specs.declared.expressions.Operand.TheVariants.{Single, External, Literal as Named, Bits as Field, Word}
 use Rattle.pp_meaning.specs.declared.expressions.Linkage.{Linkage}
 use Rattle.pp_meaning.specs.declared.expressions.Linkage.TheVariants.{S, X, Y}
 use Rattle.pp_meaning.specs.declared.expressions.Radix.{Radix}
@@ -26,13 +26,13 @@ use Rattle.pp_meaning.specs.declared.expressions.Sign.TheVariants.{Plus as Added
 use Rattle.pp_meaning.specs.declared.expressions.Symbol.{Symbol}
 use Rattle.pp_meaning.specs.declared.expressions.Term.{Term}
 use Rattle.pp_meaning.specs.declared.expressions.Width.{Width}
-use Rattle.pp_meaning.specs.declared.expressions.Width.TheVariants.{Digits, Named as Width_name, Rest}
+use Rattle.pp_meaning.specs.declared.expressions.Width.TheVariants.{Digits, Named as Width_name, Rest, Count}
 use Rattle.pp_meaning.specs.declared.statements.Label.{Label}
 use Rattle.pp_meaning.specs.declared.statements.Label.TheVariants.{Empty, Plus, Minus, Named}
 use Rattle.pp_meaning.specs.declared.statements.Operation.{Operation}
 use Rattle.pp_meaning.specs.declared.statements.Operation.TheVariants.{Blank, Instruction, Constants, Data, Zeros, Space, Origin}
-use Rattle.pp_meaning.specs.declared.statements.Operation.TheVariants.{Location, Equate, Set, Choose, SetBase, Deck, Display, Bits}
-use Rattle.pp_meaning.specs.declared.statements.Operation.TheVariants.{Position, Shortest, Pool, End}
+use Rattle.pp_meaning.specs.declared.statements.Operation.TheVariants.{Location, Equate, Set, Choose, SetBase, BaseBefore, Deck}
+use Rattle.pp_meaning.specs.declared.statements.Operation.TheVariants.{Display, Bits, Position, Shortest, Pool, Use, End}
 use Rattle.pp_meaning.specs.declared.statements.Statement.{Statement}
 use Rattle.pp_meaning.specs.declared.statements.SystemText.{SystemText}
 use Rattle.pp_meaning.specs.declared.texts.Cut.{Cut}
@@ -96,6 +96,7 @@ abbrev pub width_text : List Symbol → Width → List ℕ
 width_text symbols (Digits digits radix) = digits.items ++ letter radix
 width_text symbols (Width_name index) = symbol_name (slice_get symbols index)
 width_text symbols Rest = codes "*P"
+width_text symbols (Count x) = sum_text symbols x
 
 abbrev pub external_letter : Linkage → List ℕ
 external_letter S = codes "S"
@@ -108,6 +109,7 @@ operand_text symbols (Single item) = item_text symbols item
 operand_text symbols (Named address item) = codes "=" ++ item_text symbols item
 operand_text symbols (External letter index) = codes "=" ++ external_letter letter ++ symbol_name (slice_get symbols index)
 operand_text symbols (Field width item) = width_text symbols width ++ codes "/" ++ item_text symbols item
+operand_text symbols (Word name) = name.items
 
 -- Operands have a comma between two.
 abbrev pub operands_text : List Symbol → List Operand → List ℕ
@@ -133,17 +135,20 @@ operation_name (Equate is_sign) = if is_sign then codes "=" else codes "EQU"
 operation_name Set = codes "SET"
 operation_name (Choose is_greatest) = if is_greatest then codes "MAX" else codes "MIN"
 operation_name (SetBase base more) = codes "BASE"
+operation_name BaseBefore = codes "BASE"
 operation_name Deck = codes "PERIPH"
 operation_name Display = codes "DIS"
 operation_name Bits = codes "VFD"
 operation_name Position = codes "POS"
 operation_name (Shortest is_sum) = if is_sum then codes "ADK" else codes "LDK"
 operation_name (Pool address) = codes "LIT"
+operation_name Use = codes "USE"
 operation_name End = codes "END"
 
 -- BASE has the beginning of a base's name, at least its first letter. DIS has a comma before its text.
 abbrev pub variable : List Symbol → Operation → List Operand → List ℕ
 variable symbols (SetBase base more) operands = take (more + 1) (base_name base)
+variable symbols BaseBefore operands = codes "*"
 variable symbols Display (Single (Characters text) ∷ []) = text_with (codes ",") text
 variable symbols operation operands = operands_text symbols operands
 

@@ -1,21 +1,22 @@
 -- What the words of statements are.
 use Rattle.std.specs.Prelude.{◌≡◌, ℕ, ℤ, pos, negsuc, ◌+◌, ◌-◌, ◌*◌, ◌%◌, ◌==◌, ◌&&◌, nat_le, nat_lt, not}
-use Rattle.std.specs.Prelude.{Bool, true, false, Option, Some, None, List, [], ◌∷◌, ◌++◌, length}
-use Rattle.std.specs.Prelude.{replicate, take, slice_get, slice_set, fold, if◌then◌else◌}
+use Rattle.std.specs.Prelude.{Bool, true, false, Option, Some, None, List, [], ◌∷◌, ◌++◌, length, replicate}
+use Rattle.std.specs.Prelude.{take, drop, slice_get, slice_set, fold, if◌then◌else◌}
 use Rattle.std.specs.Ordering.{int_eq}
 use Rattle.pp_notation.specs.Instructions.{form}
 use Rattle.pp_notation.specs.InstructionWords.{constant_words, one_word, then_distance}
 use Rattle.pp_notation.specs.declared.instructions.Form.{Form}
 use Rattle.pp_notation.specs.declared.instructions.Form.TheVariants.{Alone, D as OneField, Target, Constant, Indexed, Both}
+use Rattle.pp_meaning.specs.Blocks.{block_used, closed, lie_behind, nominal}
 use Rattle.pp_meaning.specs.Bits.{bits_left, bits_of, with_bits, words_of_bits, zeros_before}
 use Rattle.pp_meaning.specs.Expressions.{address, address_around, chosen, decimal_above, is_above, value, value_above}
 use Rattle.pp_meaning.specs.Fields.{item_field, operand_field}
 use Rattle.pp_meaning.specs.Literals.{are_placed, index_of, is_at, words_of_literals}
+use Rattle.pp_meaning.specs.Standing.{Standing, first, place_of}
 use Rattle.pp_meaning.specs.Texts.{display, text_words}
 use Rattle.pp_meaning.specs.declared.expressions.Atom.{Atom}
 use Rattle.pp_meaning.specs.declared.expressions.Atom.TheVariants.{Number}
 use Rattle.pp_meaning.specs.declared.expressions.Base.{Base}
-use Rattle.pp_meaning.specs.declared.expressions.Base.TheVariants.{Decimal}
 use Rattle.pp_meaning.specs.declared.expressions.Item.{Item}
 use Rattle.pp_meaning.specs.declared.expressions.Item.TheVariants.{Characters, Nothing, Sum}
 use Rattle.pp_meaning.specs.declared.expressions.Literal.{Literal}
@@ -26,13 +27,13 @@ use Rattle.pp_meaning.specs.declared.expressions.Symbol.{Symbol}
 use Rattle.pp_meaning.specs.declared.expressions.Term.{Term}
 use Rattle.pp_meaning.specs.declared.instruction.Words.{Words}
 use Rattle.pp_meaning.specs.declared.assembled.Image.{Image}
+use Rattle.pp_meaning.specs.declared.statements.Block.{Block}
 use Rattle.pp_meaning.specs.declared.statements.Label.{Label}
 use Rattle.pp_meaning.specs.declared.statements.Label.TheVariants.{Empty, Minus, Named}
 use Rattle.pp_meaning.specs.declared.statements.Operation.{Operation}
 use Rattle.pp_meaning.specs.declared.statements.Operation.TheVariants.{Blank, Instruction, Constants, Data, Zeros, Space, Origin}
-use Rattle.pp_meaning.specs.declared.statements.Operation.TheVariants.{Location, Equate, Set, Choose, SetBase, Deck, Display, Bits}
-use Rattle.pp_meaning.specs.declared.statements.Operation.TheVariants.{Position, Shortest, Pool, End}
-use Rattle.pp_meaning.specs.declared.statements.State.{State}
+use Rattle.pp_meaning.specs.declared.statements.Operation.TheVariants.{Location, Equate, Set, Choose, SetBase, BaseBefore, Deck}
+use Rattle.pp_meaning.specs.declared.statements.Operation.TheVariants.{Display, Bits, Position, Shortest, Pool, Use, End}
 use Rattle.pp_meaning.specs.declared.statements.Statement.{Statement}
 use Rattle.pp_meaning.specs.declared.statements.SystemText.{SystemText}
 
@@ -163,24 +164,6 @@ words_of symbols place _ operands = None
 
 -- ---- statements
 
--- What there is so far: the counters, the base of numbers, how many symbols are defined, how many literals are named, the cell
--- after the highest one, the memory, the words in the order of their statements, how many bits of the last word are used, if VFD
--- has not filled it, or 0, and where a processor begins.
-pub record Standing : Type 0 where
-  pub location : ℕ
-  pub origin : ℕ
-  pub base : Option Base
-  pub defined : ℕ
-  pub literals : ℕ
-  pub reach : ℕ
-  pub memory : List (Option ℕ)
-  pub words : List ℕ
-  pub used : ℕ
-  pub start : Option ℕ
-
-abbrev pub place_of : Standing → Place
-place_of s = record { location = s.location; origin = s.origin; base = s.base; defined = s.defined }
-
 -- One word more in the memory.
 abbrev pub store : ℕ × List (Option ℕ) → ℕ → ℕ × List (Option ℕ)
 store before word = (before.0 + 1, slice_set before.1 before.0 (Some word))
@@ -226,6 +209,10 @@ abbrev pub at : Standing → Option ℕ → Option ℕ → Option Standing
 at s (Some origin) (Some location) = Some (record s { origin = origin; location = location; used = 0 })
 at s _ _ = None
 
+abbrev pub then_at : Option Standing → Option ℕ → Option Standing
+then_at None cell = None
+then_at (Some s) cell = at s cell cell
+
 abbrev pub moved : Standing → Option ℤ → Option Standing
 moved s None = None
 moved s (Some number) = at s (cells_on s.origin number) (cells_on s.location number)
@@ -242,10 +229,10 @@ abbrev pub then_words : List Symbol → Option Standing → Operation → List O
 then_words symbols None operation operands = None
 then_words symbols (Some s) operation operands = with_words s (words_of symbols (place_of s) operation operands)
 
--- PERIPH says that the source is a deck: before BASE its numbers are decimal.
-abbrev pub deck_base : Option Base → Base
-deck_base None = Decimal
-deck_base (Some base) = base
+-- BASE * goes back to the base before.
+abbrev pub base_before : Standing → Option (Option Base) → Option Standing
+base_before s None = None
+base_before s (Some base) = Some (record s { base = base; bases = take (length s.bases - 1) s.bases })
 
 abbrev pub ended : Standing → Option ℕ → Option Standing
 ended s None = None
@@ -298,7 +285,7 @@ then_position symbols (Some s) label x =
 abbrev pub after : List Symbol → Standing → Label → Operation → List Operand → Option Standing
 after symbols s label Space (x ∷ []) = then_moved symbols (labelled symbols s label) x
 after symbols s label Origin (x ∷ []) =
-    let cell = address (value_above symbols (place_of s) x) in then_labelled symbols (at s cell cell) label
+    then_labelled symbols (then_at (nominal s) (address (value_above symbols (place_of s) x))) label
 after symbols s label Location (x ∷ []) =
     then_labelled symbols (at s (Some s.origin) (address (value_above symbols (place_of s) x))) label
 after symbols s (Named index) (Equate is_sign) (x ∷ []) = define symbols false s index (value_above symbols (place_of s) x)
@@ -310,8 +297,9 @@ after symbols s label Position (x ∷ []) = then_position symbols (labelled symb
 after symbols s (Named index) (Pool address) operands = define symbols false s index (Some (pos address))
 after symbols s Empty (Pool address) operands = Some s
 after symbols s Minus (Pool address) operands = Some s
-after symbols s Empty (SetBase base more) [] = Some (record s { base = Some base })
-after symbols s Empty Deck [] = Some (record s { base = Some (deck_base s.base) })
+after symbols s Empty (SetBase base more) [] = Some (record s { base = Some base; bases = s.bases ++ s.base ∷ [] })
+after symbols s Empty BaseBefore [] = base_before s (slice_get s.bases (length s.bases - 1))
+after symbols s Empty Deck [] = Some (record s { is_deck = true })
 after symbols s Empty End [] = Some s
 after symbols s Empty End (x ∷ []) = ended s (operand_field 12 symbols (place_of s) x)
 after symbols s label operation operands = then_words symbols (labelled symbols s label) operation operands
@@ -345,19 +333,26 @@ abbrev pub with_all_literals : List Symbol → List Literal → Option Standing 
 with_all_literals symbols literals before operation operands =
     with_pool symbols literals (fold (with_literal symbols literals) before operands) operation operands
 
-abbrev pub then_after : List Symbol → Option Standing → Statement → Option Standing
-then_after symbols None statement = None
-then_after symbols (Some s) statement = after symbols s statement.label statement.operation statement.operands.items
+-- USE goes on with a block, in which its label is.
+abbrev pub after_any : List Symbol → List Block → Standing → Label → Operation → List Operand → Option Standing
+after_any symbols blocks s label Use operands = then_labelled symbols (block_used blocks s operands) label
+after_any symbols blocks s label operation operands = after symbols s label operation operands
+
+abbrev pub then_after : List Symbol → List Block → Option Standing → Statement → Option Standing
+then_after symbols blocks None statement = None
+then_after symbols blocks (Some s) statement = after_any symbols blocks s statement.label statement.operation
+    statement.operands.items
 
 abbrev pub reached : Option Standing → Option Standing
 reached None = None
 reached (Some s) = Some (record s { reach = if nat_lt s.reach s.origin then s.origin else s.reach })
 
-abbrev pub follow : List Symbol → List Literal → Option Standing → Statement → Option Standing
-follow symbols literals before statement =
-    reached (then_after symbols (with_all_literals symbols literals before statement.operation statement.operands.items) statement)
+abbrev pub follow : List Symbol → List Literal → List Block → Option Standing → Statement → Option Standing
+follow symbols literals blocks before statement =
+    reached (then_after symbols blocks (with_all_literals symbols literals before statement.operation statement.operands.items)
+    statement)
 
--- The literals are behind the highest cell.
+-- The literals are behind the highest cell of the nominal block.
 abbrev pub with_literals : List Literal → Option Standing → Option Standing
 with_literals literals None = None
 with_literals [] (Some s) = Some s
@@ -366,59 +361,41 @@ with_literals literals (Some s) =
     then with_words (record s { origin = s.reach }) (Some (words_of_literals literals))
     else None
 
--- Before the first statement the memory is empty.
-abbrev pub first : Standing
-first = record {
-  location = 0;
-  origin = 0;
-  base = None;
-  defined = 0;
-  literals = 0;
-  reach = 0;
-  memory = replicate 0o10000 None;
-  words = [];
-  used = 0;
-  start = None;
-}
+-- Behind the nominal block and the literals are the other blocks, each of which USE has named.
+abbrev pub with_blocks : List Literal → List Block → Option Standing → Option Standing
+with_blocks literals blocks None = None
+with_blocks literals blocks (Some s) =
+    if s.named == length blocks && lie_behind (s.reach + length (words_of_literals literals)) blocks (drop 1 s.blocks) then Some s
+    else None
 
--- A system text leaves its symbols, and nothing else.
-abbrev pub symbols_alone : Option Standing → Option Standing
-symbols_alone None = None
-symbols_alone (Some s) = Some (record first { defined = s.defined })
+-- A system text leaves its symbols, and nothing else. It has no literals and no blocks.
+abbrev pub symbols_of : Option Standing → Option ℕ
+symbols_of None = None
+symbols_of (Some s) = Some s.defined
 
--- A system text has no literals.
-abbrev pub with_system : List Symbol → Option Standing → SystemText → Option Standing
-with_system symbols before text = symbols_alone (fold (follow symbols []) before text.statements.items)
+abbrev pub with_system : List Symbol → Option ℕ → SystemText → Option ℕ
+with_system symbols None text = None
+with_system symbols (Some defined) text = symbols_of (fold (follow symbols [] []) (Some (first [] defined)) text.statements.items)
 
--- What there is before a source: the symbols of its system texts.
-abbrev pub begun : List Symbol → List SystemText → Option Standing
-begun symbols systems = fold (with_system symbols) (Some first) systems
+-- How many symbols system texts define.
+abbrev pub begun : List Symbol → List SystemText → Option ℕ
+begun symbols systems = fold (with_system symbols) (Some 0) systems
 
-abbrev pub performed : List Symbol → List Literal → List SystemText → List Statement → Option Standing
-performed symbols literals systems statements = fold (follow symbols literals) (begun symbols systems) statements
+abbrev pub performed : List Symbol → List Literal → List Block → List Statement → Option ℕ → Option Standing
+performed symbols literals blocks statements None = None
+performed symbols literals blocks statements (Some defined) =
+    fold (follow symbols literals blocks) (Some (first blocks defined)) statements
 
-abbrev pub assembled : List Symbol → List Literal → List SystemText → List Statement → Option Standing
-assembled symbols literals systems statements = with_literals literals (performed symbols literals systems statements)
-
-abbrev pub standing : State → Standing
-standing s = record {
-  location = s.location;
-  origin = s.origin;
-  base = s.base;
-  defined = s.defined;
-  literals = s.literals;
-  reach = s.reach;
-  memory = s.memory.items;
-  words = s.words.items;
-  used = s.used;
-  start = s.start;
-}
+abbrev pub assembled : List Symbol → List Literal → List Block → List SystemText → List Statement → Option Standing
+assembled symbols literals blocks systems statements =
+    with_blocks literals blocks (with_literals literals
+    (closed (performed symbols literals blocks statements (begun symbols systems))))
 
 -- The words are what the statements say, and each symbol is defined by one of them, or by one of a system text.
-pub record IsAssembled (symbols : List Symbol) (literals : List Literal) (systems : List SystemText) (statements : List Statement)
-    (image : Image) : Type 0 where
+pub record IsAssembled (symbols : List Symbol) (literals : List Literal) (blocks : List Block) (systems : List SystemText)
+    (statements : List Statement) (image : Image) : Type 0 where
   pub after : Standing
-  pub right : assembled symbols literals systems statements ≡ Some after
+  pub right : assembled symbols literals blocks systems statements ≡ Some after
   pub memory : after.memory ≡ image.memory.items
   pub words : after.words ≡ image.words.items
   pub start : after.start ≡ image.start

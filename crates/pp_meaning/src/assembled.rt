@@ -1,9 +1,12 @@
 //! What the statements of a source make, behind those of its system texts.
-ghost use Rattle.std.specs.Prelude.{◌≡◌, IfOk, None, OnOk, Some, fold, replicate};
-ghost use Rattle.pp_meaning.specs.Meaning.{IsAssembled, assembled, begun, first, follow, performed, standing, with_system};
+ghost use Rattle.std.specs.Prelude.{◌≡◌, IfOk, IfSome, None, OnOk, Some, fold, replicate};
+ghost use Rattle.pp_meaning.specs.Meaning.{IsAssembled, assembled, begun, follow, performed};
+ghost use Rattle.pp_meaning.specs.Meaning.{with_blocks, with_literals, with_system};
+ghost use Rattle.pp_meaning.specs.Blocks.{closed};
+ghost use Rattle.pp_meaning.specs.Standing.{first, first_counters, from_cell, standing};
 
 use crate::expressions::{Literal, Symbol};
-use crate::statements::{CELLS, Refusal, State, Statement, SystemText};
+use crate::statements::{Block, CELLS, Counters, Refusal, State, Statement, SystemText};
 use std::alloc::{AllocError, Global};
 
 /// What statements make: a word or none for each cell, the words in the order of their statements, and where a processor begins.
@@ -25,15 +28,41 @@ fn empty_memory(alloc: Global) -> Result<Vec<Option<u32>>, AllocError>
     Ok(memory)
 }
 
+/// Returns the counters of blocks at their beginning, behind those of the nominal one.
+fn counters_of(alloc: Global, blocks: &[Block]) -> Result<Vec<Counters>, AllocError>
+    ensures { IfOk result (λ counters. counters.items ≡ first_counters blocks.now) }
+{
+    let mut counters = Vec::new(alloc);
+    counters.push(counters_from(0))?;
+    for block in blocks {
+        counters.push(counters_from(block.base))?;
+    }
+    Ok(counters)
+}
+
+/// Returns the counters of a block that begins at a cell.
+fn counters_from(cell: usize) -> Counters
+    ensures { result ≡ from_cell cell }
+{
+    Counters {
+        location: cell,
+        origin: cell,
+        reach: cell,
+    }
+}
+
 /// Returns what there is before the first statement, if so many symbols are defined.
-fn state_with(alloc: Global, defined: usize) -> Result<State, AllocError>
-    ensures { IfOk result (λ state. record first { defined = defined } ≡ standing state) }
+fn state_with(alloc: Global, blocks: &[Block], defined: usize) -> Result<State, AllocError>
+    ensures { IfOk result (λ state. first blocks.now defined ≡ standing state) }
 {
     let memory = empty_memory(alloc)?;
+    let counters = counters_of(alloc, blocks)?;
     Ok(State {
         location: 0,
         origin: 0,
+        is_deck: false,
         base: None,
+        bases: Vec::new(alloc),
         defined,
         literals: 0,
         reach: 0,
@@ -41,6 +70,10 @@ fn state_with(alloc: Global, defined: usize) -> Result<State, AllocError>
         words: Vec::new(alloc),
         used: 0,
         start: None,
+        block: 0,
+        before: Vec::new(alloc),
+        named: 0,
+        blocks: counters,
     })
 }
 
@@ -50,14 +83,18 @@ fn follow_all(
     state: &mut State,
     symbols: &[Symbol],
     literals: &[Literal],
+    blocks: &[Block],
     statements: &[Statement],
 ) -> Result<(), Refusal>
-    ensures { OnOk result (fold (follow symbols.now literals.now) (Some (standing state.old)) statements.now ≡ Some
+    ensures { OnOk result (fold (follow symbols.now literals.now blocks.now) (Some (standing state.old)) statements.now ≡ Some
         (standing state.new)) }
 {
     let mut index: usize = 0;
     for statement in statements {
-        if state.follow(alloc, symbols, literals, statement)?.is_none() {
+        if state
+            .follow(alloc, symbols, literals, blocks, statement)?
+            .is_none()
+        {
             return Err(Refusal::At(index));
         }
         index = index.saturating_add(1);
@@ -65,46 +102,85 @@ fn follow_all(
     Ok(())
 }
 
-/// Returns what a system text leaves.
+/// Returns how many symbols are defined after a system text.
 fn after_system(
     alloc: Global,
     symbols: &[Symbol],
-    before: State,
+    defined: usize,
     text: &SystemText,
-) -> Result<State, Refusal>
-    ensures { IfOk result (λ after. with_system symbols.now (Some (standing before)) text.now ≡ Some (standing after)) }
+) -> Result<usize, Refusal>
+    ensures { IfOk result (λ after. with_system symbols.now (Some defined) text.now ≡ Some after) }
 {
-    let mut state = before;
-    match follow_all(alloc, &mut state, symbols, &[], &text.statements) {
-        Ok(()) => Ok(state_with(alloc, state.defined)?),
+    let mut state = state_with(alloc, &[], defined)?;
+    match follow_all(alloc, &mut state, symbols, &[], &[], &text.statements) {
+        Ok(()) => Ok(state.defined),
         Err(refusal) => Err(refusal.of_system()),
     }
 }
 
-/// Returns what there is before a source: the symbols of its system texts.
-fn begin(alloc: Global, symbols: &[Symbol], systems: &[SystemText]) -> Result<State, Refusal>
-    ensures { IfOk result (λ state. begun symbols.now systems.now ≡ Some (standing state)) }
+/// Returns how many symbols system texts define.
+fn after_systems(
+    alloc: Global,
+    symbols: &[Symbol],
+    systems: &[SystemText],
+) -> Result<usize, Refusal>
+    ensures { IfOk result (λ defined. begun symbols.now systems.now ≡ Some defined) }
 {
-    let mut state = state_with(alloc, 0)?;
+    let mut defined: usize = 0;
     for text in systems {
-        state = after_system(alloc, symbols, state, text)?;
+        defined = after_system(alloc, symbols, defined, text)?;
     }
+    Ok(defined)
+}
+
+/// Returns what there is after statements.
+fn perform_all(
+    alloc: Global,
+    symbols: &[Symbol],
+    literals: &[Literal],
+    blocks: &[Block],
+    defined: usize,
+    statements: &[Statement],
+) -> Result<State, Refusal>
+    ensures { IfOk result (λ state. performed symbols.now literals.now blocks.now statements.now (Some defined) ≡ Some
+        (standing state)) }
+{
+    let mut state = state_with(alloc, blocks, defined)?;
+    follow_all(alloc, &mut state, symbols, literals, blocks, statements)?;
     Ok(state)
 }
 
-/// Returns what there is after statements and literals.
+/// Goes on behind the last statement: with the literals, and the blocks.
+fn end(
+    alloc: Global,
+    state: &mut State,
+    literals: &[Literal],
+    blocks: &[Block],
+) -> Result<Option<()>, AllocError>
+    ensures { IfOk result (λ made. IfSome made (λ done. with_blocks literals.now blocks.now
+        (with_literals literals.now (closed (Some (standing state.old)))) ≡ Some (standing state.new))) }
+{
+    if state.close().is_none() || state.put_literals(alloc, literals)?.is_none() {
+        return Ok(None);
+    }
+    Ok(state.has_blocks(literals, blocks))
+}
+
+/// Returns what there is after statements, literals and blocks.
 fn assemble_all(
     alloc: Global,
     symbols: &[Symbol],
     literals: &[Literal],
+    blocks: &[Block],
     systems: &[SystemText],
     statements: &[Statement],
 ) -> Result<State, Refusal>
-    ensures { IfOk result (λ state. assembled symbols.now literals.now systems.now statements.now ≡ Some (standing state)) }
+    ensures { IfOk result (λ state. assembled symbols.now literals.now blocks.now systems.now statements.now ≡ Some
+        (standing state)) }
 {
-    let mut state = begin(alloc, symbols, systems)?;
-    follow_all(alloc, &mut state, symbols, literals, statements)?;
-    match state.put_literals(alloc, literals)? {
+    let defined = after_systems(alloc, symbols, systems)?;
+    let mut state = perform_all(alloc, symbols, literals, blocks, defined, statements)?;
+    match end(alloc, &mut state, literals, blocks)? {
         Some(()) => Ok(state),
         None => Err(Refusal::At(statements.len())),
     }
@@ -115,12 +191,13 @@ pub fn image_of(
     alloc: Global,
     symbols: &[Symbol],
     literals: &[Literal],
+    blocks: &[Block],
     systems: &[SystemText],
     statements: &[Statement],
 ) -> Result<Image, Refusal>
-    ensures { IfOk result (λ image. IsAssembled symbols.now literals.now systems.now statements.now image) }
+    ensures { IfOk result (λ image. IsAssembled symbols.now literals.now blocks.now systems.now statements.now image) }
 {
-    let state = assemble_all(alloc, symbols, literals, systems, statements)?;
+    let state = assemble_all(alloc, symbols, literals, blocks, systems, statements)?;
     if state.defined != symbols.len() {
         return Err(Refusal::At(statements.len()));
     }

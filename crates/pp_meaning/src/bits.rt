@@ -4,7 +4,9 @@ ghost use Rattle.pp_meaning.specs.Bits.{bits_left, bits_of, field_number, field_
 ghost use Rattle.pp_meaning.specs.Bits.{with_bits, words_from, words_of_bits, zeros_before};
 ghost use Rattle.pp_meaning.specs.Meaning.{bits_used};
 
-use crate::expressions::{Base, Item, Operand, Place, Symbol, Width, counter, name_value};
+use crate::expressions::{
+    Base, Item, Operand, Place, Symbol, Width, counter, decimal_sum_above, name_value,
+};
 use crate::fields::field_of_item;
 use crate::numbers::{power_of_two, value_of};
 use std::alloc::{AllocError, Global};
@@ -35,6 +37,7 @@ fn value_of_width(symbols: &[Symbol], place: Place, count: usize, width: &Width)
             name_value(&symbols[..place.defined], place, *index)
         }
         Width::Rest => counter(left_after(count)),
+        Width::Count(x) => decimal_sum_above(symbols, place, x),
     }
 }
 

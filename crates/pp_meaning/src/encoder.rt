@@ -9,12 +9,12 @@ use crate::assembled::{Image, image_of};
 use crate::expressions::{Literal, Symbol};
 use crate::lines::{all_written, are_written};
 use crate::names::are_names;
-use crate::statements::{Refusal, Statement, SystemText};
+use crate::statements::{Block, Refusal, Statement, SystemText};
 use std::alloc::Global;
 
 /// Returns what statements make, and those of system texts before them. They are given as they are performed, with the terms of
-/// each operand, and the symbols with their values, in the order of the statements that define them; and the literals, in the order
-/// in which they are named first.
+/// each operand, and the symbols with their values, in the order of the statements that define them; and the literals and the
+/// blocks of USE, in the order in which they are named first.
 ///
 /// # Errors
 /// Memory ran out, or a statement is not right: its line has not its fields, an operand has no value or does not fit, a symbol does
@@ -23,11 +23,12 @@ pub fn encode(
     alloc: Global,
     symbols: &[Symbol],
     literals: &[Literal],
+    blocks: &[Block],
     systems: &[SystemText],
     statements: &[Statement],
 ) -> Result<Image, Refusal>
     // The words are what the statements mean.
-    ensures words { IfOk result (λ image. IsAssembled symbols.now literals.now systems.now statements.now image) }
+    ensures words { IfOk result (λ image. IsAssembled symbols.now literals.now blocks.now systems.now statements.now image) }
     // The fields of each statement are those of its line.
     ensures lines { OnOk result (AllByRecursion (IsWritten symbols.now) statements.now) }
     // So are those of each statement of a system text.
@@ -40,5 +41,5 @@ pub fn encode(
     }
     all_written(alloc, symbols, systems)?;
     are_written(alloc, symbols, statements)?;
-    image_of(alloc, symbols, literals, systems, statements)
+    image_of(alloc, symbols, literals, blocks, systems, statements)
 }

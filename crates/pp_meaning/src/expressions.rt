@@ -1,6 +1,7 @@
 //! Expressions and what they stand for.
-ghost use Rattle.std.specs.Prelude.{◌≡◌, IfSome, Some, pos, fold, slice_get};
+ghost use Rattle.std.specs.Prelude.{◌≡◌, IfSome, Some, pos, fold, slice_get, take};
 ghost use Rattle.std.specs.List.{list_all};
+ghost use Rattle.pp_meaning.specs.declared.expressions.Base.TheVariants.{Decimal};
 ghost use Rattle.pp_meaning.specs.Expressions.{are_signed, better, choose, chosen, decimal_above, is_above};
 ghost use Rattle.pp_meaning.specs.Expressions.{is_atom_above, is_factor_above, is_term_above, sum, atom_value};
 ghost use Rattle.pp_meaning.specs.Expressions.{is_current, is_plus, named_value, plus, shifted, product, times};
@@ -109,6 +110,8 @@ pub enum Width {
     Named(usize),
     /// `*P`: the bits that the word has left.
     Rest,
+    /// An expression, whose numbers are decimal.
+    Count(Expression),
 }
 
 /// The letter before the name of a symbol that may be one of another program.
@@ -129,6 +132,8 @@ pub enum Operand {
     External(Linkage, usize),
     /// A field of VFD.
     Bits(Width, Item),
+    /// What USE has: the name of a block, 0 or `*`.
+    Word(Vec<u8>),
 }
 
 /// Words that are named by what they are, from an address on.
@@ -284,6 +289,21 @@ pub fn decimal_by_names_above(symbols: &[Symbol], place: Place, operand: &Operan
         ..place
     };
     value_by_names_above(symbols, place, operand)
+}
+
+/// Returns the value of an expression by the names above, whose numbers are decimal.
+pub fn decimal_sum_above(symbols: &[Symbol], place: Place, x: &Expression) -> Option<i64>
+    ensures { IfSome result (λ number. sum (take place.defined symbols.now) (record place { base = Some Decimal }) x.now ≡ Some
+        number) }
+{
+    if place.defined > symbols.len() {
+        return None;
+    }
+    let place = Place {
+        base: Some(Base::Decimal),
+        ..place
+    };
+    value_of_sum(&symbols[..place.defined], place, x)
 }
 
 /// Returns whether an atom is no name that is defined below.

@@ -135,7 +135,7 @@ fn wide_field_in(bits: u32, symbols: &[Symbol], place: Place, operand: &Operand)
             let number = name_value(symbols, place, *index)?;
             field_of(greatest(bits)?, false, number)
         }
-        Operand::Bits(..) => None,
+        Operand::Bits(..) | Operand::Word(_) => None,
     }
 }
 

@@ -2,7 +2,10 @@
 #![tactic(auto)]
 
 mod assembled;
+mod bit_words;
 mod bits;
+mod blocks;
+mod directives;
 mod encoder;
 mod expressions;
 mod fields;
@@ -10,10 +13,14 @@ mod instruction;
 mod lines;
 mod literals;
 mod names;
+mod naming;
 mod numbers;
+mod performing;
 mod program;
+mod state;
 mod statements;
 mod texts;
+mod words;
 
 pub use assembled::Image;
 pub use encoder::encode;
@@ -22,5 +29,5 @@ pub use expressions::{
     Term, Width,
 };
 pub use program::program_of;
-pub use statements::{Label, Operation, Refusal, State, Statement, SystemText};
+pub use statements::{Block, Counters, Label, Operation, Refusal, State, Statement, SystemText};
 pub use texts::{Cut, Kind, Text};

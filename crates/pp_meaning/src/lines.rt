@@ -1,5 +1,5 @@
 //! How statements are written.
-ghost use Rattle.std.specs.Prelude.{◌≡◌, ◌∷◌, ◌++◌, [], codes, slice_get, IfOk, IfSome, IsTrue, OnOk, ◌&&◌, ◌==◌, ◌||◌, not};
+ghost use Rattle.std.specs.Prelude.{◌≡◌, ◌∷◌, ◌++◌, [], codes, drop, slice_get, IfOk, IfSome, IsTrue, OnOk, ◌&&◌, ◌==◌, ◌||◌, not};
 ghost use Rattle.std.specs.Prelude.{length, map, take, ◌+◌, true};
 ghost use Rattle.std.specs.List.{AllByRecursion, flat_map, list_all};
 ghost use Rattle.pp_meaning.specs.declared.statements.Operation.TheVariants.{Instruction};
@@ -123,6 +123,16 @@ fn terms_text(alloc: Global, symbols: &[Symbol], terms: &[Term]) -> Result<Vec<u
     Ok(out)
 }
 
+/// Returns a text without its first symbol.
+fn without_first(text: &[u8]) -> &[u8]
+    ensures { result.now ≡ drop 1 text.now }
+{
+    match text {
+        [] => text,
+        [_, rest @ ..] => rest,
+    }
+}
+
 /// Writes an expression.
 fn put_sum(
     alloc: Global,
@@ -136,10 +146,7 @@ fn put_sum(
     if x.has_sign {
         return out.extend_from_slice(&signed);
     }
-    match signed.as_slice() {
-        [] => Ok(()),
-        [_, unsigned @ ..] => out.extend_from_slice(unsigned),
-    }
+    out.extend_from_slice(without_first(&signed))
 }
 
 /// Returns the letter of a text.
@@ -173,7 +180,12 @@ fn put_item(
 }
 
 /// Writes how many bits a field of VFD has.
-fn put_width(out: &mut Vec<u8>, symbols: &[Symbol], width: &Width) -> Result<(), AllocError>
+fn put_width(
+    alloc: Global,
+    out: &mut Vec<u8>,
+    symbols: &[Symbol],
+    width: &Width,
+) -> Result<(), AllocError>
     ensures { OnOk result (out.new.items ≡ out.old.items ++ width_text symbols.now width.now) }
 {
     match width {
@@ -183,6 +195,7 @@ fn put_width(out: &mut Vec<u8>, symbols: &[Symbol], width: &Width) -> Result<(),
         }
         Width::Named(index) => out.extend_from_slice(name_at(symbols, *index)),
         Width::Rest => out.extend_from_slice(b"*P"),
+        Width::Count(x) => put_sum(alloc, out, symbols, x),
     }
 }
 
@@ -218,10 +231,11 @@ fn put_operand(
             out.extend_from_slice(name_at(symbols, *index))
         }
         Operand::Bits(width, item) => {
-            put_width(out, symbols, width)?;
+            put_width(alloc, out, symbols, width)?;
             out.push(b'/')?;
             put_item(alloc, out, symbols, item)
         }
+        Operand::Word(name) => out.extend_from_slice(name),
     }
 }
 
@@ -259,10 +273,7 @@ fn text_of_operands(
     ensures { IfOk result (λ text. text.items ≡ operands_text symbols.now operands.now) }
 {
     let all = with_commas(alloc, symbols, operands)?;
-    match all.as_slice() {
-        [] => Ok(Vec::new(alloc)),
-        [_, rest @ ..] => Vec::from_slice(alloc, rest),
-    }
+    Vec::from_slice(alloc, without_first(&all))
 }
 
 /// Returns the name of a base.
@@ -296,6 +307,7 @@ fn variable_of(
 {
     match (operation, operands) {
         (Operation::SetBase(base, more), _) => Vec::from_slice(alloc, beginning(base, more)),
+        (Operation::BaseBefore, _) => Vec::from_slice(alloc, b"*"),
         (Operation::Display, [Operand::Single(Item::Characters(text))]) => text_of_display(
             alloc, text,
         ),
@@ -332,7 +344,7 @@ fn name_of_operation(operation: Operation) -> Option<&'static [u8]>
         Operation::Set => Some(b"SET"),
         Operation::Choose(true) => Some(b"MAX"),
         Operation::Choose(false) => Some(b"MIN"),
-        Operation::SetBase(..) => Some(b"BASE"),
+        Operation::SetBase(..) | Operation::BaseBefore => Some(b"BASE"),
         Operation::Deck => Some(b"PERIPH"),
         Operation::Display => Some(b"DIS"),
         Operation::Bits => Some(b"VFD"),
@@ -340,6 +352,7 @@ fn name_of_operation(operation: Operation) -> Option<&'static [u8]>
         Operation::Shortest(true) => Some(b"ADK"),
         Operation::Shortest(false) => Some(b"LDK"),
         Operation::Pool(_) => Some(b"LIT"),
+        Operation::Use => Some(b"USE"),
         Operation::End => Some(b"END"),
     }
 }

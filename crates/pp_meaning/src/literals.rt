@@ -1,5 +1,5 @@
 //! Words that operands name by what they are.
-ghost use Rattle.std.specs.Prelude.{◌≡◌, IfOk, IfSome, IsTrue, Some, bytes_eq, slice_get, true};
+ghost use Rattle.std.specs.Prelude.{◌≡◌, IfOk, IfSome, IsTrue, Some, bytes_eq, length, slice_get, true};
 ghost use Rattle.pp_meaning.specs.Literals.{are_placed, has_words, index_from, index_of, is_at, words_of_literals};
 
 use crate::expressions::Literal;
@@ -51,6 +51,17 @@ pub fn follow_one_another(literals: &[Literal], first: usize) -> bool
         }
     }
     true
+}
+
+/// Returns how many words literals have.
+pub fn size_of_all(literals: &[Literal]) -> Option<usize>
+    ensures { IfSome result (λ size. size ≡ length (words_of_literals literals.now)) }
+{
+    let mut size: usize = 0;
+    for literal in literals {
+        size = size.checked_add(literal.words.len())?;
+    }
+    Some(size)
 }
 
 /// Returns the words of literals.

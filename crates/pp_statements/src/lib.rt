@@ -15,5 +15,5 @@ pub use scope::{
     CELLS, Counters, MOST_STATEMENTS, Output, Programs, Row, Scope, SystemRows, count_one,
     too_many_statements,
 };
-pub use units::{Blocks, Unit};
+pub use units::{Blocks, NamedBlock, Unit};
 pub use values::Base;

@@ -9,6 +9,8 @@ use std::alloc::{AllocError, Global};
 
 /// The index of the nominal block, which has no name. That of the literals is behind it.
 const NOMINAL: usize = 0;
+/// The index of the first block that USE names.
+const FIRST_NAMED: usize = 2;
 
 const NAME_OF_LITERALS: &[u8; 9] = b"LITERALS*";
 
@@ -133,7 +135,24 @@ impl Placed {
     }
 }
 
+/// A block of a program, as USE names it, and the cell at which it begins.
+#[derive(Clone, Copy)]
+pub struct NamedBlock<'a> {
+    pub name: &'a [u8],
+    pub base: i64,
+}
+
 impl Scope {
+    /// Returns the block of the first program with an index, behind the nominal one and that of the literals.
+    pub fn named_block_of_first(&self, index: usize) -> Option<NamedBlock<'_>> {
+        let at = index.checked_add(FIRST_NAMED)?;
+        let placed = self.blocks.placed.get(at)?;
+        (placed.unit == 0).then_some(NamedBlock {
+            name: self.symbols.text_of(placed.name),
+            base: placed.base,
+        })
+    }
+
     /// Begins a program, whose blocks are where the pass before has found room for them.
     pub fn begin_unit(&mut self, name: &[u8]) -> Result<(), AllocError> {
         self.programs.name = Vec::from_slice(self.alloc, name)?;

@@ -1,6 +1,6 @@
 use Rattle.std.proofs.Common.{◌≡◌, ◌≤◌, ◌+◌, ◌-◌, drop, fold, length}
 use Rattle.pp_meaning.specs.Meaning.{store}
-use Rattle.pp_meaning.proofs.statements.put.Given as goal
+use Rattle.pp_meaning.proofs.state.put.Given as goal
 
 abbrev pub invariant-loop-word : goal.invariant-loop-word
 invariant-loop-word l = record {

@@ -1,6 +1,6 @@
 use Rattle.std.proofs.Common.{◌≡◌, drop, fold, Some, []}
 use Rattle.pp_meaning.specs.Meaning.{with_datum}
-use Rattle.pp_meaning.proofs.statements.words_of_items.Given as goal
+use Rattle.pp_meaning.proofs.words.words_of_items.Given as goal
 
 abbrev pub invariant-loop-operand : goal.invariant-loop-operand
 invariant-loop-operand l = fold (with_datum l.symbols l.place) (Some l.words.items) (drop l.operand-index l.operands) ≡ fold

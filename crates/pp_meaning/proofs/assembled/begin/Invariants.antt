@@ -1,7 +1,0 @@
-use Rattle.std.proofs.Common.{◌≡◌, drop, fold, Some}
-use Rattle.pp_meaning.specs.Meaning.{begun, standing, with_system}
-use Rattle.pp_meaning.proofs.assembled.begin.Given as goal
-
-abbrev pub invariant-loop-text : goal.invariant-loop-text
-invariant-loop-text l = fold (with_system l.symbols) (Some (standing l.state)) (drop l.text-index l.systems) ≡ begun l.symbols
-    l.systems

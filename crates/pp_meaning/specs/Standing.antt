@@ -1,0 +1,91 @@
+-- What there is between statements.
+use Rattle.std.specs.Prelude.{ℕ, Bool, false, if◌then◌else◌, Option, Some, None, List, [], ◌∷◌, map, replicate}
+use Rattle.pp_meaning.specs.declared.expressions.Base.{Base}
+use Rattle.pp_meaning.specs.declared.expressions.Base.TheVariants.{Decimal}
+use Rattle.pp_meaning.specs.declared.expressions.Place.{Place}
+use Rattle.pp_meaning.specs.declared.statements.Block.{Block}
+use Rattle.pp_meaning.specs.declared.statements.Counters.{Counters}
+use Rattle.pp_meaning.specs.declared.statements.State.{State}
+
+-- Numbers of a deck are decimal before BASE.
+abbrev pub deck_base : Option Base → Base
+deck_base None = Decimal
+deck_base (Some base) = base
+
+-- What there is so far: the counters, whether PERIPH says that the source is a deck, the base of numbers, those that BASE * goes
+-- back to, how many symbols are defined, how many literals are named, the cell after the highest one, the memory, the words in the
+-- order of their statements, how many bits of the last word are used, if VFD has not filled it, or 0, and where a processor begins.
+-- Of the blocks of USE there are the present one, those that USE * goes back to, how many have been named, and their counters.
+pub record Standing : Type 0 where
+  pub location : ℕ
+  pub origin : ℕ
+  pub is_deck : Bool
+  pub base : Option Base
+  pub bases : List (Option Base)
+  pub defined : ℕ
+  pub literals : ℕ
+  pub reach : ℕ
+  pub memory : List (Option ℕ)
+  pub words : List ℕ
+  pub used : ℕ
+  pub start : Option ℕ
+  pub block : ℕ
+  pub before : List ℕ
+  pub named : ℕ
+  pub blocks : List Counters
+
+abbrev pub place_of : Standing → Place
+place_of s = record {
+  location = s.location;
+  origin = s.origin;
+  base = if s.is_deck then Some (deck_base s.base) else s.base;
+  defined = s.defined;
+}
+
+-- A block begins at its base, and the nominal one at cell 0.
+abbrev pub from_cell : ℕ → Counters
+from_cell cell = record { location = cell; origin = cell; reach = cell }
+
+abbrev pub first_counters : List Block → List Counters
+first_counters blocks = from_cell 0 ∷ map (λ block. from_cell block.base) blocks
+
+-- Before the first statement the memory is empty. So many symbols are defined.
+abbrev pub first : List Block → ℕ → Standing
+first blocks defined = record {
+  location = 0;
+  origin = 0;
+  is_deck = false;
+  base = None;
+  bases = [];
+  defined = defined;
+  literals = 0;
+  reach = 0;
+  memory = replicate 0o10000 None;
+  words = [];
+  used = 0;
+  start = None;
+  block = 0;
+  before = [];
+  named = 0;
+  blocks = first_counters blocks;
+}
+
+abbrev pub standing : State → Standing
+standing s = record {
+  location = s.location;
+  origin = s.origin;
+  is_deck = s.is_deck;
+  base = s.base;
+  bases = s.bases.items;
+  defined = s.defined;
+  literals = s.literals;
+  reach = s.reach;
+  memory = s.memory.items;
+  words = s.words.items;
+  used = s.used;
+  start = s.start;
+  block = s.block;
+  before = s.before.items;
+  named = s.named;
+  blocks = s.blocks.items;
+}
