@@ -2,7 +2,7 @@ use Rattle.std.proofs.Common.{◌≡◌, ◌∙◌, IfSome, Some, ap, rules, sub
 use Rattle.pp_meaning.specs.Literals.{index_of}
 use Rattle.pp_meaning.specs.Meaning.{data_words, naming}
 use Rattle.pp_meaning.specs.Standing.{place_of, standing}
-use Rattle.pp_meaning.proofs.state.State.name_data.Goals as goal
+use Rattle.pp_meaning.proofs.statements.State.name_data.Goals as goal
 
 pub returns-in-Some : goal.returns-in-Some
 returns-in-Some c =

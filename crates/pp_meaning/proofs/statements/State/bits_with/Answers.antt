@@ -2,7 +2,7 @@ use Rattle.std.proofs.Common.{◌≡◌, ◌∙◌, IfOk, IfSome, Some, fold, ru
 use Rattle.pp_meaning.specs.Bits.{with_bits}
 use Rattle.pp_meaning.specs.Meaning.{bits_before}
 use Rattle.pp_meaning.specs.Standing.{place_of, standing}
-use Rattle.pp_meaning.proofs.state.State.bits_with.Goals as goal
+use Rattle.pp_meaning.proofs.statements.State.bits_with.Goals as goal
 
 pub returns-in-Some : goal.returns-in-Some
 returns-in-Some c =
