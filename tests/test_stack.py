@@ -2,7 +2,8 @@
 
 The language proves that each call returns, on a machine with enough stack. How much is enough, the compiled code says: the sum of the
 frames on the deepest way of calls. None of our own functions calls itself, by whatever way, or calls through a pointer. Of the kit some do:
-clap for each level of commands, of which there is one; a B-tree for each of its levels when it is dropped; and a sort for each halving."""
+clap for each level of commands, of which there is one; a B-tree for each of its levels when it is dropped, or a name is taken out of it;
+and a sort for each halving."""
 
 import collections
 import functools
@@ -23,7 +24,7 @@ MOST = 48 * 1024  # bytes of stack from `run`
 OF_CALLS = {"until": 144 * 1024, "assemble": 36 * 1024, "load_lines": 36 * 1024}  # from a call of the library; 16 KB from another
 LITTLE = 64 * 1024  # bytes, with which the system runs the program; it needs some for itself
 OURS = re.compile(r"^pp_[a-z]+::(?!clap)|pp6600")
-RECURSIVE = re.compile(r"clap(::|\+\+)|^std_collections::btree::node::Node::destroy\b|^core::slice::sort::")
+RECURSIVE = re.compile(r"clap(::|\+\+)|^std_collections::btree::node::Node::(destroy|take_at|pop_last)\b|^core::slice::sort::")
 RANDOM = int(os.environ.get("PP6600_STACK_SESSIONS", "200"))
 
 FUNCTION, CODE = re.compile(r"^[0-9a-f]+ <(.+)>:$"), re.compile(r"^\s*[0-9a-f]+:\s+(\S+)\s*(.*)$")
