@@ -1,13 +1,13 @@
 #!/usr/bin/env python3
 """Tries mutants, many in one check of their crate: tests/mutants.py [CRATE ..]
 
-A mutant, crates/CRATE/must-fail/NAME.edit or mutants/NAME.edit, is code that is wrong on purpose. Those of a crate are applied to a copy of
-it, at once, each in a function of its own, and rt checks the copy. A mutant is refused if a goal of the function that it changes is not
-proved, or a goal of one that names this function and no other that is changed. A goal may wait for the proof of what its function calls:
-so what is not refused is tried again, without what has been, and in the end alone.
+A mutant, crates/CRATE/must-fail/NAME.edit or mutants/NAME.edit, is code that is wrong on purpose. Those of a crate are applied at
+once, each in a function of its own, to a copy of the repository, and rt checks the crate there. A mutant is refused if a goal of the
+function that it changes is not proved, or a goal of one that names this function and no other that is changed. A goal may wait for
+the proof of what its function calls: so what is not refused is tried again, without what has been, and in the end alone.
 
-These fail: a mutant that the prover accepts, or can't read; one that only met a limit of the prover; one for which a proof only names what
-is gone; and one that only renames. They say nothing of a contract. The last line is 'N passed, M failed'.
+These fail: a mutant that the prover accepts, or can't read; one that only met a limit of the prover; one for which a proof only
+names what is gone; and one that only renames. They say nothing of a contract. The last line is 'N passed, M failed'.
 """
 
 import sys
@@ -47,7 +47,7 @@ def first_of(lines, at):
 
 
 class Mutant:
-    """What an edit changes: pairs of an old and a new text in a file of its crate, and the one function that they are in, if it is one."""
+    """What an edit changes: pairs of an old and a new text in a file of its crate."""
 
     def __init__(self, path):
         self.name, self.pairs, file, old = os.path.basename(path)[:-len(".edit")], [], "", ""
@@ -89,17 +89,20 @@ class Sources:
                 self.words.setdefault(function, set()).update(WORD.findall(line))
 
     def functions_of_answer(self, module, name):
-        """Returns the functions that a folder of proofs may be of: the module's, with the name of a type behind it where it is a method."""
-        parts = (module or "lib").split("/")
-        files = ["src/" + "/".join(parts[:count]) + end for count in range(1, len(parts) + 1) for end in (".rt", "/mod.rt")]
-        return {function for function in filter(None, self.functions.values()) if function[2] == name and function[0] in [*files, "src/lib.rt"]}
+        """Returns the functions that a folder of proofs may be of. Behind the module it has the name of a type, for a method."""
+        parts = module.split("/")
+        files = {"src/" + "/".join(parts[:count]) + ".rt" for count in range(1, len(parts) + 1)} | {"src/lib.rt"}
+        return {function for function in filter(None, self.functions.values()) if function[2] == name and function[0] in files}
 
 
 class Crate:
-    """A crate of the copy, whose mutants are tried."""
+    """A crate whose mutants are tried, in a copy of its own: the crates above it must not see them."""
 
     def __init__(self, room, name):
-        self.name, self.folder, self.checks = name, f"{room}/crates/{name}", 0
+        self.name, self.top, self.folder, self.checks = name, f"{room}/{name}", f"{room}/{name}/crates/{name}", 0
+        shutil.copytree(f"{TOP}/crates", f"{self.top}/crates", ignore=shutil.ignore_patterns("must-fail", "mutants", "out"))
+        for file in ("crates.txt", "HANDLES"):
+            shutil.copy(f"{TOP}/{file}", self.top)
         paths = glob.glob(f"{TOP}/crates/{name}/must-fail/*.edit") + glob.glob(f"{TOP}/crates/{name}/mutants/*.edit")
         self.mutants, self.sources = [Mutant(path) for path in sorted(paths)], Sources(self.folder)
 
@@ -169,11 +172,8 @@ def main():
             print(f"tests/mutants.py: there is no crate {name}", file=sys.stderr)
             return 2
     with tempfile.TemporaryDirectory() as room:
-        shutil.copytree(f"{TOP}/crates", f"{room}/crates", ignore=shutil.ignore_patterns("must-fail", "mutants"))
-        for name in ("crates.txt", "HANDLES"):
-            shutil.copy(f"{TOP}/{name}", room)
-        wanted = [Crate(room, name) for name in sys.argv[1:] or crates]
-        wanted = sorted((crate for crate in wanted if crate.mutants), key=lambda crate: -len(crate.mutants))
+        wanted = [Crate(room, name) for name in sys.argv[1:] or crates if glob.glob(f"{TOP}/crates/{name}/m*/*.edit")]
+        wanted.sort(key=lambda crate: -len(crate.mutants))
         with concurrent.futures.ThreadPoolExecutor(workers()) as pool:
             counts = list(pool.map(tried, wanted))
     every, failed = (sum(numbers) for numbers in zip(*counts)) if counts else (0, 0)
