@@ -2,6 +2,7 @@
 
 use arrayvec::ArrayVec;
 use pp_arith::*;
+use std::process::Abort;
 
 /// Checks that each row of a test is so.
 fn check_rows(rt: &impl Abort, rows: &[bool]) {
