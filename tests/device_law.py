@@ -208,7 +208,7 @@ class Session:
         return answer[0].split()[3] if answer[0].startswith(word) else None
 
     def back_w(self, _):
-        before, oldest = self.units[:self.position], self.session.history.oldest
+        before, oldest = self.units[:self.position], self.session.oldest
         answer = self.session.act("BACK W")
         count = int(answer[0].split()[1], 8) if answer[0].startswith("BACK") else 0
         self.position -= count

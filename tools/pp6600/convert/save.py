@@ -59,7 +59,7 @@ def main() -> int:
     number, first, last = processor(asked.words[0]), cell(asked.words[1]), cell(asked.words[2])
     if last < first:
         raise Failure(f"cell {last:o} is before cell {first:o}")
-    run, script = replayed(asked, symbols_of(asked), path)
+    run, refusals = replayed(asked, symbols_of(asked), path)
     run.goto(run.tape.end)
     words = run.cells(number, first, last)
     run.end()
@@ -67,4 +67,4 @@ def main() -> int:
         write_bytes(BINARY[asked.form](words))
     else:
         write_lines(LINES[asked.form](number, first, words))
-    return script.refusals.status()
+    return refusals.status()

@@ -21,6 +21,8 @@ NAMES = {"x86_64": ("pp6600", "pp6600-static"), "aarch64": ("pp6600-aarch64",), 
 LIBRARIES = {"x86_64": ("libpp6600.so", "libpp6600.a"), "aarch64": ("libpp6600-aarch64.so", "libpp6600-aarch64.a"),
              "windows": ("pp6600.dll", "libpp6600.dll.a")}
 MACHINES = {("Linux", "x86_64"): "x86_64", ("Linux", "aarch64"): "aarch64", ("Windows", "AMD64"): "windows", ("Windows", "ARM64"): "windows"}
+MACHINE_HERE = MACHINES.get((platform.system(), platform.machine()), "")  # of another machine it is empty
+LIBRARY_HERE = LIBRARIES[MACHINE_HERE][0] if MACHINE_HERE else ""
 THIS_IS = "this is pp6600-python, which is not proved"
 NOT_PROVED = f"the proved program does not start here; {THIS_IS}"
 
@@ -48,14 +50,9 @@ def words_to_run(program: str) -> Tuple[str, ...]:
     return first_that_starts(handed_out(HOME)) if whole == os.path.realpath(os.path.join(HOME, "pp6600")) else (program,)
 
 
-def machine_here() -> str:
-    """Returns the machine of NAMES that this one is; of another it is empty."""
-    return MACHINES.get((platform.system(), platform.machine()), "")
-
-
 def names_here() -> Tuple[str, ...]:
     """Returns the names of the proved programs for this machine."""
-    return NAMES.get(machine_here(), ())
+    return NAMES.get(MACHINE_HERE, ())
 
 
 def of_checkout(top: str) -> List[str]:

@@ -30,7 +30,7 @@ def overwritten(records: Records) -> Dict[int, int]:
 def next_turn(run: Session) -> Tuple[Dict[int, int], Numbers]:
     """Makes the next turn of the tape. Returns what it overwrote, and the numbers after it."""
     was = overwritten(run.engine.records(1))
-    run.history.performed(1)
+    run.performed(1)
     return was, Numbers(run)
 
 

@@ -17,7 +17,7 @@ import tempfile
 from typing import Dict, Iterator, List, Optional, Tuple
 
 from ..__main__ import MODULES
-from ..engine.choice import HOME, LIBRARIES, NAMES, first_that_starts, handed_out, machine_here, of_checkout, verified
+from ..engine.choice import HOME, LIBRARIES, MACHINE_HERE, NAMES, first_that_starts, handed_out, of_checkout, verified
 from ..failure import Failure
 from .archives import gzipped
 from .completions import filled
@@ -128,7 +128,7 @@ def whole(machine: Optional[str] = None, program: Optional[str] = None) -> Manif
     if program is not None:
         own = {"pp6600": checked_program(program)[0]}
     elif IS_CHECKOUT:
-        own = programs_for(machine or machine_here())
+        own = programs_for(machine or MACHINE_HERE)
     else:
         own = {}
     return of_this_checkout(own) if IS_CHECKOUT else of_this_installation(own)

@@ -49,7 +49,7 @@ def source_line(console: Console, number: int, symbols: Any) -> str:
 
 def call_lines(run: Session, symbols: Any) -> List[str]:
     """Returns a line for each subroutine of a source that its processor is in, the innermost first."""
-    again = Session.of_tape(run.words, run.history.in_effect())
+    again = Session(run.words, run.in_effect(), is_search=True)
     lines = [f" PP {number:02o}  {sentence(again, number, call, symbols)}"
              for number, source in symbols.sources() for call in calls(again, number, source, again.tape.end)]
     again.close()

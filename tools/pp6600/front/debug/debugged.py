@@ -73,7 +73,7 @@ class Debugged(Base):
             tally.cut(position)
         for scout in self.scouts.values():
             scout.goto(Position(min(scout.position, position)))
-            scout.history.ahead = min(scout.history.ahead, position - scout.position)
+            scout.newest = min(scout.newest, Position(position))
 
     def next_turn(self, number: int) -> Position:
         """Returns the position before the next turn of a processor. After the tape come turns."""

@@ -125,7 +125,7 @@ class Requests(Setting):
         answer: List[str] = machine.typed(line)
         here = counts.position
         if answer == [NO_CHANGE] and Runner(machine, self.points).back(is_typed=True):
-            answer = [f"BACK {here - counts.position:o} SLOT {machine.next_slot:02o}"]
+            answer = [f"BACK {here - counts.position:o} SLOT {machine.slot():02o}"]
         if ahead and answer and answer[0].split()[0] in ("OK", "TURNS"):
             self.wire.say(f"{ahead:o} actions (octal) that were ahead are so no longer")
         return answer

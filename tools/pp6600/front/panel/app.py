@@ -8,7 +8,7 @@ from typing import Any, Callable, Dict, List, Optional, Tuple
 from ...failure import Failure
 from ...run.forms import KINDS
 from ...run.names import AllSymbols
-from ...run.search import FoundTurn
+from ...run.search import Turn
 from ...run.searches import last_before, next_found, turn_of_line_before, turn_of_next_line
 from ...run.state import Memory
 from ...shell.keyboard import FIRST_WORDS, card
@@ -24,7 +24,7 @@ LONG_ANSWER = 2  # lines; a longer answer is shown on a page
 MOVES = {*ARROWS.values(), *PAGES}  # actions that move the cursor
 NEW_ACTIONS = (["SET"], ["STEP"], ["WATCH"], ["UNWATCH"], ["DEADSTART"])  # the first words of their lines
 
-Find = Callable[..., Optional[FoundTurn]]
+Find = Callable[..., Optional[Turn]]
 
 
 class Panel(Display):

@@ -9,7 +9,7 @@ from ...failure import Failure
 from ...run.attached import Attached
 from ...run.console import Console, has_no_answer
 from ...run.device import Device
-from ...run.forms import hit_of, is_refusal
+from ...run.forms import hit_of, refused
 from ...run.searches import MOST_NEW
 from ...run.session import Session
 from ...run.state import State, state_of
@@ -78,7 +78,7 @@ class LoggedSession:
         """Returns whether a new action would be refused: whether another simulator, which watches the same places, refuses it."""
         with closing(Console(self.simulator.words)) as other:
             *_, answer = other.ask_each([*(f"WATCH {place}" for place in self.watched()), line])
-        return is_refusal(answer)
+        return refused(answer) is not None
 
     def send(self, line: str) -> List[str]:
         if not isinstance(line, SourceLine):
@@ -107,7 +107,7 @@ class LoggedSession:
                 break
             ahead, answer = self.history.to_redo, self.send(line)
             discarded += ahead if kind_of(answer) in ("OK", "TURNS") else 0
-            if is_refusal(answer) or hit_of(answer):
+            if refused(answer) or hit_of(answer):
                 break
         if self.history.position != position:
             self.state, self.before = self.read(), state
