@@ -48,13 +48,12 @@ def timeline(words: Sequence[str], attached: Sequence[Device]) -> Session:
 def replayed(asked: Namespace, symbols: Any, path: Optional[str], turn: Optional[int] = None) -> Tuple[Session, Refusals]:
     """Performs the script of a command line, after the lines that load its sources. Returns a simulator before the actions that are
     in effect at its end, or after a turn with the settings before the next one; and the lines that were refused."""
-    words = simulator(asked)
     devices = devices_of(asked) if getattr(asked, "device", None) else []
-    done, refusals = performed(words, symbols.loading(script_lines(path)), devices)
+    done, refusals = performed(simulator(asked), symbols.loading(script_lines(path)), devices)
     tape = done.in_effect()
     if turn is not None:
         tape.cut(tape.after_turn(turn))
-    run = Session(words, tape, is_search=True)
+    run = done.search(tape)
     run.device_channels = frozenset(device.channel for device in devices)
     return run, refusals
 

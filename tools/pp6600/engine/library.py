@@ -86,11 +86,14 @@ CALLS = ("open", "answer", "numbers", "counts", "turns", "again", "looks", "back
 LATER_CALLS = ("origins", "next_origins", "until", "back_until", "last_write")  # which a library before 5.2 does not have, or before 5.3
 
 
+library_of = functools.lru_cache(maxsize=None)(ctypes.CDLL)
+
+
 def load(path: Optional[str] = None) -> Any:
     """Loads the library from this path, or from $PP6600_LIBRARY, or from where the tools are: a checkout, an installation, a package."""
     path = path or os.environ.get("PP6600_LIBRARY") or next(iter(libraries_beside(os.path.join(HOME, "pp6600"))), None)
     try:
-        library = ctypes.CDLL(path or os.path.join(HOME, "dist", LIBRARY_HERE or "libpp6600.so"))
+        library = library_of(path or os.path.join(HOME, "dist", LIBRARY_HERE or "libpp6600.so"))
         for name in CALLS:
             getattr(library, f"pp6600_{name}")
     except (OSError, AttributeError) as error:

@@ -18,7 +18,7 @@ from .new_turns import NewTurns, value_told
 from .past import Past, name_of
 from .plain_script import PlainScript
 from .session import Session
-from .tape import STEP, Position, UnitCounts, Units
+from .tape import STEP, Position, Units
 
 BACK_W = re.compile(r"[ \t]*BACK[ \t]+W[ \t\r]*", re.I)
 
@@ -44,7 +44,6 @@ class Attached(Session):
             self.close()
             raise
         self.plain = PlainScript(self.room, self.tape)
-        self.counts = UnitCounts(self, self.plain)
         self.papers = [""] * len(self.devices)  # as they were shown last
         self.told: Dict[Position, Tuple[int, Any]] = {}  # the number of a device and what it was told, by the position after it
 
@@ -81,9 +80,8 @@ class Attached(Session):
         return found
 
     @property
-    def unit(self) -> Units:
-        """How many units are in effect."""
-        return self.tape.units(self.position)
+    def ahead(self) -> int:
+        return self.plain.ahead
 
     @property
     def sent(self) -> List[str]:

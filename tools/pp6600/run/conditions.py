@@ -128,11 +128,6 @@ def written(column: Column) -> Test:
     return Test((is_written(column.place.number, column.size),), column)
 
 
-def performs(number: int, address: int) -> Form:
-    """Returns the test whether a processor is about to perform the instruction at an address."""
-    return Form(PERFORMS, number, address)
-
-
 # ---- what is typed
 
 def parsed(text: str, symbols: Any = AllSymbols()) -> Condition:
@@ -227,7 +222,7 @@ def processor_test(words: List[str], symbols: Any) -> Tuple[AnyTest, List[str]]:
         return Waits(number), words[3:]
     if is_in and kind[:1] == ["performs"] and len(words) > 3:
         place = Place("P", (number,))
-        return Test((performs(number, number_up_to(words[3], place, symbols)),), Column(place)), words[4:]
+        return Test((Form(PERFORMS, number, number_up_to(words[3], place, symbols)),), Column(place)), words[4:]
     if is_in and kind[:2] == ["returns", "wrongly"]:
         entries = symbols.of[number].entries() if number in symbols.of else {}
         if not entries:

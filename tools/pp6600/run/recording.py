@@ -2,7 +2,6 @@
 
 from __future__ import annotations
 
-from array import array
 from typing import Dict, Tuple
 
 from ..engine.interface import Records
@@ -23,8 +22,7 @@ class Numbers(Dict[int, int]):
 
 def overwritten(records: Records) -> Dict[int, int]:
     """Returns the numbers that actions overwrote, by their places: of a place that is there twice the first one."""
-    olds = array("Q", records.olds)
-    return dict(zip(reversed(olds[::2]), reversed(olds[1::2])))
+    return dict(zip(reversed(records.places), reversed(records.numbers)))
 
 
 def next_turn(run: Session) -> Tuple[Dict[int, int], Numbers]:

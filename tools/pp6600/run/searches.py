@@ -8,7 +8,6 @@ all instructions that a macro made of a line, and a block transfer with the inst
 from __future__ import annotations
 
 import itertools
-from contextlib import closing
 from typing import Any, List, Optional
 
 from ..engine import interface as flat
@@ -50,25 +49,26 @@ def search_for(run: Session, condition: Condition, progress: Progress = lambda t
 
 def going_on(session: Any) -> Session:
     """Returns a session of the actions of the panel's, with new turns after them."""
-    tape = Tape(session.history.tape.runs)
+    tape = Tape(session.simulator.tape.runs)
     tape.append(STEP, session.most_new)
-    return Session(session.simulator.words, tape, is_search=True)
+    found: Session = session.simulator.search(tape)
+    return found
 
 
 def next_found(session: Any, text: str, symbols: Any, progress: Progress) -> Optional[Turn]:
     """Returns the first turn after the present one at whose end the condition holds, and at whose beginning it did not: one
     that was made, or a new one. Returns None if there is none."""
-    with closing(going_on(session)) as run:
+    with going_on(session) as run:
         condition = parsed(text, symbols)
-        found = search_for(run, condition, progress).found(session.history.turns)
+        found = search_for(run, condition, progress).found(session.simulator.turn)
         return next((turn_at(run, position, condition.columns) for position, _ in found), None)
 
 
 def last_before(session: Any, text: str, symbols: Any, progress: Progress) -> Optional[Turn]:
     """Returns what `next_found` does, of the last turn before the present one."""
-    with closing(Session(session.simulator.words, session.history.tape, is_search=True)) as run:
+    with session.simulator.search() as run:
         condition = parsed(text, symbols)
-        found = last_found(search_for(run, condition, progress), 1, 0, session.history.turns - 1)
+        found = last_found(search_for(run, condition, progress), 1, 0, session.simulator.turn - 1)
         return next((turn_at(run, position, condition.columns) for position, _ in found), None)
 
 
@@ -137,7 +137,7 @@ class LineFinder:
 
 def turn_of_next_line(session: Any, number: int, source: Any, count: int, progress: Progress) -> int:
     """Returns after how many turns a processor begins the line that comes so many lines later, by a turn that was made or a new one."""
-    with closing(going_on(session)) as run:
+    with going_on(session) as run:
         begins = LineFinder(number, source)
         run.goto(session.simulator.position)
         begins.see(run)
@@ -149,7 +149,7 @@ def turn_of_next_line(session: Any, number: int, source: Any, count: int, progre
 
 def turn_of_line_before(session: Any, number: int, source: Any, count: int, progress: Progress) -> int:
     """Returns what `turn_of_next_line` does, of the last lines that were begun before the present position."""
-    with closing(Session(session.simulator.words, session.simulator.in_effect(), is_search=True)) as run:
+    with session.simulator.search(session.simulator.in_effect()) as run:
         found = last_found(Search(run, [LineFinder(number, source)], progress), count)
         if len(found) < count:
             raise none_found(count, f"before turn {run.tape.turns:o}")

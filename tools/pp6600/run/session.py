@@ -8,7 +8,6 @@ devices is an `Attached`."""
 from __future__ import annotations
 
 import contextlib
-import functools
 import itertools
 import re
 from typing import FrozenSet, Iterator, List, Optional, Sequence
@@ -16,7 +15,7 @@ from typing import FrozenSet, Iterator, List, Optional, Sequence
 from ..failure import Failure
 from .console import Console
 from .forms import MOST_TURNS, refused
-from .tape import STEP, History, Position, Tape, UnitCounts, Units, room_of
+from .tape import STEP, History, Position, Tape, Units, room_of
 
 MOVE = re.compile(r"[ \t]*(BACK|FORWARD)(?:[ \t]+([0-7]{1,10}))?[ \t\r]*", re.I)
 TOO_FEW_KEPT, TOO_FEW_AHEAD = "ERR 07 TOO FEW KEPT", "ERR 16 TOO FEW AHEAD"
@@ -50,10 +49,9 @@ class Session(Console, History):
         self.written: List[str] = []  # what the engine was sent since it began
         self.times_anew = 0
 
-    @functools.cached_property
-    def counts(self) -> UnitCounts:
-        """What BACK and FORWARD count."""
-        return UnitCounts(self)
+    def search(self, tape: Optional[Tape] = None) -> Session:
+        """Returns a session that searches its tape, or another one. It is used in a `with` block."""
+        return Session(self.words, tape or self.tape, is_search=True)
 
     # ---- lines of the user
 
@@ -87,15 +85,15 @@ class Session(Console, History):
     def act_by_move(self, line: str) -> List[str]:
         """As `act`, but BACK goes back over all actions in effect, and FORWARD on over all that are ahead. The answer says also whether
         `sent` has begun anew."""
-        replays, asked, counts = self.replays, MOVE.fullmatch(line), self.counts
+        replays, asked = self.replays, MOVE.fullmatch(line)
         word, count = (asked[1].upper(), int(asked[2] or "1", 8)) if asked else ("", 0)
-        near, far = (counts.kept, counts.position) if word == "BACK" else (counts.ahead, counts.to_redo)
+        near, far = (self.kept, self.unit) if word == "BACK" else (self.ahead, self.to_redo)
         answer = self.go_over(word, count) if near < count <= far else self.act(line)
         return [*answer, REPLAYED] if self.replays > replays else answer
 
     def go_over(self, word: str, count: int) -> List[str]:
         """Goes BACK or FORWARD over so many units. Returns the answer."""
-        unit = self.tape.units(self.position) + (count if word == "FORWARD" else -count)
+        unit = self.unit + (count if word == "FORWARD" else -count)
         if not 0 <= unit <= self.tape.units(self.tape.end):
             return [TOO_FEW_KEPT if unit < 0 else TOO_FEW_AHEAD]
         self.goto(self.tape.after_units(Units(unit)))
@@ -104,15 +102,14 @@ class Session(Console, History):
     def lines_to(self, turn: int) -> Iterator[str]:
         """Yields the lines that go back or on to where so many turns are in effect, after the settings that follow the last of them. Each
         must be performed before the next one. New turns do not end where a watched number changes."""
-        counts = self.counts
-        if turn < counts.turns:
-            yield f"BACK {counts.back_over(counts.turns - turn):o}"
-        elif turn >= counts.last_turn and counts.to_redo:
-            yield f"FORWARD {counts.to_redo:o}"
-        elif counts.turns < turn < counts.last_turn:
-            yield f"FORWARD {counts.forward_over(turn - counts.turns + 1) - 1:o}"
-        while turn > counts.turns:
-            yield f"STEP {min(turn - counts.turns, MOST_TURNS):o}"
+        if turn < self.turn:
+            yield f"BACK {self.back_over(self.turn - turn):o}"
+        elif turn >= self.tape.turns and self.to_redo:
+            yield f"FORWARD {self.to_redo:o}"
+        elif self.turn < turn < self.tape.turns:
+            yield f"FORWARD {self.forward_over(turn - self.turn + 1) - 1:o}"
+        while turn > self.turn:
+            yield f"STEP {min(turn - self.turn, MOST_TURNS):o}"
 
     # ---- any position
 

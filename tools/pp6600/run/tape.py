@@ -346,59 +346,38 @@ class History:
         self.tape.cut(position)
         self.newest = min(self.newest, position)
 
-
-class UnitCounts:
-    """A history as BACK and FORWARD of its user count it: in units."""
-
-    def __init__(self, history: History, redo: Optional[History] = None) -> None:
-        """The redo list that counts may be that of another history of the tape."""
-        self.history, self.redo, self.tape = history, redo or history, history.tape
+    # ---- in units, as BACK and FORWARD of its user count
 
     @property
-    def position(self) -> Units:
+    def unit(self) -> Units:
         """How many units are in effect."""
-        return self.tape.units(self.history.position)
-
-    @property
-    def oldest(self) -> Units:
-        """How many units come before what the simulator itself can undo."""
-        return self.tape.units(self.history.oldest)
+        return self.tape.units(self.position)
 
     @property
     def kept(self) -> int:
         """How many units the simulator itself can undo."""
-        return self.position - self.oldest
+        return self.unit - self.tape.units(self.oldest)
 
     @property
     def to_redo(self) -> int:
         """How many units are ahead, with those that the simulator no longer has."""
-        return self.tape.units(self.tape.end) - self.position
+        return self.tape.units(self.tape.end) - self.unit
 
     @property
     def ahead(self) -> int:
         """How many units of the redo list are ahead."""
-        return self.tape.units(self.redo.newest) - self.position
-
-    @property
-    def turns(self) -> int:
-        """How many turns are in effect."""
-        return self.history.turn
-
-    @property
-    def last_turn(self) -> int:
-        """How many turns are in effect or ahead."""
-        return self.tape.turns
+        return self.tape.units(self.newest) - self.unit
 
     def over(self, actions: int) -> int:
         """Returns how many units the last so many actions of the tape are."""
-        return self.position - self.tape.whole_units(Position(self.history.position - actions))
+        return self.unit - self.tape.whole_units(Position(self.position - actions))
 
     def back_over(self, turns: int) -> int:
         """Returns how many units in effect have the last so many turns; more than there are if these have fewer turns."""
-        if turns > self.turns:
-            return self.position + turns - self.turns
-        return self.position - self.tape.units(self.tape.after_turn(self.turns - turns)) if turns else 0
+        if turns > self.turn:
+            return self.unit + turns - self.turn
+        return self.unit - self.tape.units(self.tape.after_turn(self.turn - turns)) if turns else 0
 
     def forward_over(self, turns: int) -> int:
         """Returns how many units ahead have the first so many turns."""
-        return self.tape.units(self.tape.at_turn(self.turns + turns)) - self.position if turns else 0
+        return self.tape.units(self.tape.at_turn(self.turn + turns)) - self.unit if turns else 0

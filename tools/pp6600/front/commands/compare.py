@@ -33,7 +33,7 @@ class Side:
     def __init__(self, words: Sequence[str], lines: Sequence[str], symbols: Any = AllSymbols()) -> None:
         self.symbols = symbols
         done, refusals = performed(words, symbols.loading(lines))
-        self.run, self.status = Session(words, done.in_effect(), is_search=True), refusals.status
+        self.run, self.status = done.search(done.in_effect()), refusals.status
         self.turns = self.run.tape.turns
 
     def at(self, turn: int, has_settings: bool = True) -> Session:

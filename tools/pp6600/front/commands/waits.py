@@ -1,7 +1,6 @@
 """The processors that wait."""
 
 import sys
-from contextlib import closing
 from typing import Any, Iterator, List, NamedTuple, Sequence, Set, Tuple
 
 from ...devices.options import DEVICE_OPTIONS, replayed
@@ -85,11 +84,11 @@ def drop_moved(run: Session, turns: int, numbers: Set[int]) -> None:
             run.demand(f"UNWATCH P {number:o}")
 
 
-def waiting_for_ever(words: Sequence[str], tape: Tape, numbers: Sequence[int]) -> Set[int]:
+def waiting_for_ever(found: Session, numbers: Sequence[int]) -> Set[int]:
     """Returns those of at most eight waiting processors that will never go on: the machine comes back to a state where it was,
     and meanwhile they have not moved. Then it does so again and again."""
-    with closing(Session(words, tape, is_search=True)) as run:
-        run.goto(tape.end)
+    with found.search() as run:
+        run.goto(run.tape.end)
         before, central, staying, passed = state_of(run), central_of(run), set(numbers), 0
         for number in numbers:
             run.demand(f"WATCH P {number:o}")
@@ -162,7 +161,7 @@ def waits(run: Session, symbols: Any = AllSymbols()) -> Iterator[str]:
     """Yields a line for each processor that waits, and one for its channel."""
     found, state = at_end(run, symbols)
     numbers = [one.number for one in found if one.processor.channel not in run.device_channels]  # a device may end its wait
-    for_ever = set[int]().union(*(waiting_for_ever(run.words, run.tape, numbers[at:at + MOST_WATCHES])
+    for_ever = set[int]().union(*(waiting_for_ever(run, numbers[at:at + MOST_WATCHES])
                              for at in range(0, len(numbers), MOST_WATCHES)))
     channels = sorted({one.processor.channel for one in found if one.processor.channel < CLOCK})
     changes = {channel: last_change(run, channel, symbols) for channel in channels}

@@ -41,7 +41,7 @@ class Debugged(Base):
 
     def scout(self, name: str = "looks") -> Session:
         if name not in self.scouts:
-            self.scouts[name] = Session(self.words, self.tape, is_search=True)
+            self.scouts[name] = self.search()
         return self.scouts[name]
 
     def close(self) -> None:

@@ -97,7 +97,7 @@ class Panel(Display):
 
     def send(self, lines: List[str]) -> None:
         """Sends lines, but asks before the first of them discards what is ahead, unless it will be refused."""
-        ahead = self.session.history.to_redo
+        ahead = self.session.simulator.to_redo
         if ahead and lines[0].upper().split()[:1] in NEW_ACTIONS and not self.session.would_refuse(lines[0]):
             self.asked = lines
             raise Failure(f"{lines[0]} discards the {ahead:o} actions ahead: y sends it, any other key does not")
@@ -141,13 +141,13 @@ class Panel(Display):
 
     def go_to_found(self, text: str, find: Find = next_found) -> None:
         """Goes to the next turn at which a condition comes to hold, or the last one before; without a text, that typed before."""
-        history, text = self.session.history, text or (self.typed["until"] or [""])[-1]
+        run, text = self.session.simulator, text or (self.typed["until"] or [""])[-1]
         if not text:
             raise Failure("give a condition, as P 0 = 105 or M 0 106 changes")
         found = find(self.session, text, self.symbols, self.report_search)
         if found is None:
-            new = f"in turns {history.turns + 1:o} to {history.last_turn + self.session.most_new:o}"
-            raise Failure(f"NONE: {text}, {new if find is next_found else f'before turn {history.turns:o}'}")
+            new = f"in turns {run.turn + 1:o} to {run.tape.turns + self.session.most_new:o}"
+            raise Failure(f"NONE: {text}, {new if find is next_found else f'before turn {run.turn:o}'}")
         self.show_turn(found.turn, found.text(self.symbols))
 
     def go_by_lines(self, find: Callable[..., int], count: int) -> None:
@@ -155,15 +155,15 @@ class Panel(Display):
         in, or the one before."""
         source = self.source()
         turn = find(self.session, self.view.processor, source, count, self.report_search)
-        self.send(to_turn(self.session.history, turn))
+        self.send(to_turn(self.session.simulator, turn))
 
     def press_keys(self, text: str) -> None:
         """Presses keys of the first device that has some."""
         session, devices = self.session, devices_that(self.session, "told")
         if not devices:
             raise Failure("no device has keys; --device console_display@10 is one that has some")
-        if session.history.to_redo:
-            raise Failure(f"a key would discard the {session.history.to_redo:o} actions ahead: > goes to the newest")
+        if session.simulator.to_redo:
+            raise Failure(f"a key would discard the {session.simulator.to_redo:o} actions ahead: > goes to the newest")
         session.tell(devices[0][0], text.replace("\\r", "\r"))
 
     def search(self, text: str) -> None:
@@ -188,7 +188,7 @@ class Panel(Display):
         if not path:
             raise Failure("w FILE saves what was sent: name a file")
         self.session.save(os.fsdecode(path.encode("latin-1")), over)
-        later = self.session.history.to_redo - self.session.history.ahead
+        later = self.session.simulator.to_redo - self.session.simulator.ahead
         without = f", without the last {later:o} actions ahead" if later else ""
         self.message = f"{len(self.session.sent)} (decimal) lines are saved in {path}{without}"
 
