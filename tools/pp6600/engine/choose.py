@@ -51,11 +51,11 @@ def library_named(name: str) -> Optional[str]:
         return name
     if os.path.basename(name).startswith("pp6600-python"):
         return None
-    from .library import load
+    from .library import loaded
     is_own = os.path.abspath(name) == os.path.join(HOME, "pp6600")
     for path in libraries_beside(name) if is_own or os.path.exists(name) else ():
         with contextlib.suppress(Failure):  # it can't be used on this machine
-            load(path)
+            loaded(path)
             return path
     if not is_own:
         raise Failure(f"{name} is not the simulator: there is no {LIBRARY_HERE or 'library'} beside it")

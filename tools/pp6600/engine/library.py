@@ -5,7 +5,6 @@ from __future__ import annotations
 
 import ctypes
 import functools
-import operator
 import os
 from array import array
 from ctypes import byref, c_size_t, c_uint16, c_uint32, c_uint64
@@ -15,7 +14,7 @@ from ..failure import Failure
 from .choice import HOME, LIBRARY_HERE
 from .choose import libraries_beside
 from .interface import Counts, Form, Records, Rejection
-from .numbers_of_calls import checked
+from .numbers_of_calls import checked, counted
 from .origins import LINK_BYTES, Origins, origins_of
 
 DONE, ROOM, WATCHED, CLOSED, OPEN, NO_MEMORY, REFUSED, LIMIT, NOT_FOUND = range(9)
@@ -25,7 +24,6 @@ MOST_LINKS, LINKS_OF_TURN = 44, 8  # the most links of a turn, and more than mos
 MOST_CONTROL = 7  # the most control places of a turn
 LEAST_ROOM = 96  # bytes that the answer to a line that is no DUMP always fits in
 TEXT_ROOM, ANSWER_ROOM = 112, 1 << 16  # bytes
-MOST_OF_SIZE = 1 << 63  # no buffer has more elements
 
 
 class Refused(Rejection):
@@ -86,19 +84,10 @@ CALLS = ("open", "answer", "numbers", "counts", "turns", "again", "looks", "back
 LATER_CALLS = ("origins", "next_origins", "until", "back_until", "last_write")  # which a library before 5.2 does not have, or before 5.3
 
 
-library_of = functools.lru_cache(maxsize=None)(ctypes.CDLL)
-
-
 def load(path: Optional[str] = None) -> Any:
     """Loads the library from this path, or from $PP6600_LIBRARY, or from where the tools are: a checkout, an installation, a package."""
     path = path or os.environ.get("PP6600_LIBRARY") or next(iter(libraries_beside(os.path.join(HOME, "pp6600"))), None)
-    try:
-        library = library_of(path or os.path.join(HOME, "dist", LIBRARY_HERE or "libpp6600.so"))
-        for name in CALLS:
-            getattr(library, f"pp6600_{name}")
-    except (OSError, AttributeError) as error:
-        raise Unloadable(f"the library of the simulator can't be loaded: {error}") from error
-    return library
+    return loaded(path or os.path.join(HOME, "dist", LIBRARY_HERE or "libpp6600.so"))
 
 
 def call_of(library: Any, name: str) -> Any:
@@ -109,6 +98,18 @@ def call_of(library: Any, name: str) -> Any:
         raise Unloadable(f"the library of the simulator can't be loaded: {error}") from error
     call.restype = c_uint32
     return call
+
+
+@functools.lru_cache(maxsize=None)
+def loaded(path: str) -> Any:
+    """Returns the library of a file."""
+    try:
+        library = ctypes.CDLL(path)
+    except OSError as error:
+        raise Unloadable(f"the library of the simulator can't be loaded: {error}") from error
+    for name in CALLS:
+        call_of(library, name)
+    return library
 
 
 def version(path: Optional[str] = None) -> Tuple[int, int, int]:
@@ -138,9 +139,7 @@ def instruction(code: int, path: Optional[str] = None) -> Tuple[str, int, int]:
 def room_for(kind: Any, count: int) -> Any:
     """Returns an array of C with so many elements. Fails if there is no memory for it."""
     try:
-        if not 0 <= operator.index(count) < MOST_OF_SIZE:
-            raise Failure(f"{count} is no count")
-        return (kind * count)()
+        return (kind * counted(count))()
     except (MemoryError, OverflowError):
         raise Failure(f"there is no memory for {count} numbers") from None
 
@@ -265,7 +264,7 @@ class LibrarySession:
         """Makes a call that records actions, with room for so many pairs for each. Returns its status; of each action the processor and the
         number of places, in turn; and what they overwrote."""
         at_most, = checked(call, most)
-        pairs, turns, used = pairs_of_turn * most + MOST_OLDS, c_size_t(), c_size_t()
+        pairs, turns, used = pairs_of_turn * counted(most) + MOST_OLDS, c_size_t(), c_size_t()
         if self.room != (most, pairs):  # it is kept for the next call
             self.room, self.rooms = (most, pairs), (room_for(c_uint32, 2 * most), room_for(c_uint64, 2 * pairs))
         made, olds = self.rooms

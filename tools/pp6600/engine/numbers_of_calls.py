@@ -14,6 +14,7 @@ WIDTHS = {"open": (32, 32, 8, 8), "numbers": (32,), "turns": (32,), "origins": (
           "form": (32, 32, 64, 64), "back": (32,), "forward": (32,), "assemble": (32,), "assemble_with": (32,), "load_lines": (32,),
           "disassemble": (16, 16), "text_of_status": (32,), "last_write": (32, 32), "instruction": (32,)}
 TYPES: Dict[int, Any] = {8: c_uint8, 16: c_uint16, 32: c_uint32, 64: c_uint64}
+MOST_OF_SIZE = 1 << 63  # no buffer has more elements
 
 
 @functools.lru_cache(maxsize=1024, typed=True)
@@ -23,3 +24,10 @@ def checked(call: str, *numbers: int) -> Tuple[Any, ...]:
         if not 0 <= operator.index(number) < 1 << bits:
             raise Failure(f"{number} is no number of {bits} bits")
     return tuple(TYPES[bits](number) for number, bits in zip(numbers, WIDTHS[call]))
+
+
+def counted(count: int) -> int:
+    """Returns a count of elements. Fails if it is none."""
+    if not 0 <= operator.index(count) < MOST_OF_SIZE:
+        raise Failure(f"{count} is no count")
+    return count

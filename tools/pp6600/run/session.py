@@ -7,7 +7,6 @@ devices is an `Attached`."""
 
 from __future__ import annotations
 
-import contextlib
 import itertools
 import re
 from typing import FrozenSet, Iterator, List, Optional, Sequence
@@ -125,14 +124,6 @@ class Session(Console, History):
             self.written += [] if self.is_search else [f"{'BACK' if count < 0 else 'FORWARD'} {abs(count):o}"]
         if self.position < position:
             self._play(position)
-
-    @contextlib.contextmanager
-    def at(self, position: Position) -> Iterator[Session]:
-        """Goes to a position, and at the end of the block back to where it was."""
-        here = self.position
-        self.goto(position)
-        yield self
-        self.goto(here)
 
     def _watches_over(self, count: int) -> int:
         """Returns how many of the next so many actions are watches."""

@@ -76,10 +76,8 @@ def typed_lines(run: Session) -> Iterator[str]:
 
 def converse(run: Session, transcript: Any) -> int:
     """Performs the lines that are typed, or those of standard input. Returns the exit status."""
-    return converse_at_terminal(run, transcript) if is_terminal() else perform_input(run, transcript)
-
-
-def converse_at_terminal(run: Session, transcript: Any) -> int:
+    if not is_terminal():
+        return perform_input(run, transcript)
     status = 0
     for line in typed_lines(run):
         if line.strip().lower() in FIRST_WORDS:

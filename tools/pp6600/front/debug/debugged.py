@@ -112,5 +112,7 @@ class MachineWithDevices(Debugged, Attached):
 
     def add_turns(self, most: int) -> None:
         """Makes new turns at the end of the tape, at most so many."""
-        with self.at(self.tape.end):
-            self.act(f"STEP {min(most, MADE_AT_ONCE):o}")
+        here = self.position
+        self.goto(self.tape.end)
+        self.act(f"STEP {min(most, MADE_AT_ONCE):o}")
+        self.goto(here)

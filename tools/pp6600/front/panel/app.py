@@ -201,8 +201,8 @@ PROMPTS: Dict[str, Tuple[str, Callable[[Panel, str], None]]] = {
 # What the others do, with the count before their key.
 ACTIONS: Dict[str, Callable[[Panel, int], Any]] = {
     "again": lambda panel, count: panel.go_to_found(""), "back-again": lambda panel, count: panel.go_to_found("", last_before),
-    "next-change": lambda panel, count: panel.go_to_found(f"{panel.view.place()} changes"),
-    "change-before": lambda panel, count: panel.go_to_found(f"{panel.view.place()} changes", last_before),
+    "next-change": lambda panel, count: panel.go_to_found(f"{panel.view.cursor.short} changes"),
+    "change-before": lambda panel, count: panel.go_to_found(f"{panel.view.cursor.short} changes", last_before),
     "next-line": lambda panel, count: panel.go_by_lines(turn_of_next_line, count),
     "line-before": lambda panel, count: panel.go_by_lines(turn_of_line_before, count),
     "next-part": lambda panel, count: panel.view.next_pane(1), "part-before": lambda panel, count: panel.view.next_pane(-1),

@@ -47,7 +47,7 @@ def back_over(run: Session, turns: int) -> List[str]:
 
 
 def toggle_watch(session: LoggedSession, view: View, count: int = 1) -> List[str]:
-    return [f"{'UNWATCH' if view.place() in session.watched() else 'WATCH'} {view.place()}"]
+    return [f"{'UNWATCH' if view.cursor.short in session.watched() else 'WATCH'} {view.cursor.short}"]
 
 
 # The lines of each action that sends some, by the session, what is looked at, and a count.
