@@ -6,7 +6,6 @@ nothing else changes. The simulator in plain Python is at the same machine, and 
 
 import ctypes
 import hashlib
-import itertools
 import random
 import struct
 import sys

@@ -10,8 +10,7 @@ import unittest
 from ctypes import byref, c_size_t, c_uint16, c_uint32
 from unittest import mock
 
-from .assembler_sources import sources
-from .library_assembler import differences
+from .assembler_sources import differences, sources
 from .support import LIBRARY, PROVED, Case, tool
 
 from pp6600.engine.assembler import DONE, LINES, NAMES, ROOM, WORDS, Cell, assembler_here

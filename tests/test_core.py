@@ -8,7 +8,7 @@ import shutil
 import subprocess
 import unittest
 
-from tests.support import TOP, Case, read
+from tests.support import TOP, Case, read, run
 
 from pp6600.__main__ import MODULES
 from pp6600.shell import completions
@@ -23,9 +23,23 @@ COMMANDS = [os.path.basename(path)[:-len(".py")] for path in glob.glob(os.path.j
 class Package(Case):
     @unittest.skipUnless(shutil.which("mypy"), "mypy is not installed")
     def test_types(self):
-        """mypy --strict accepts the tools, as pyproject.toml configures it."""
-        done = subprocess.run(["mypy", "--cache-dir", self.room()], cwd=TOP, capture_output=True, text=True, check=False)
-        self.assertEqual(0, done.returncode, done.stdout)
+        """mypy --strict accepts the tools, as pyproject.toml configures it; and a script of a user, with the types of docs/PYTHON.md."""
+        done = run("mypy", "--cache-dir", self.path("cache"))
+        self.assertEqual(0, done.status, done.out)
+        script = """from typing import Dict, List
+from pp6600 import Attached, Console, Device, Failure, Place, full
+with Console(options=["--history", "5"]) as console:
+    answer: List[str] = console.ask("STEP")
+    registers: Dict[str, str] = console.registers(0)
+    digits: str = console.number(Place("A", (0,)))
+    status: int = console.end()
+session: Attached = Attached(devices=[Device()])
+reply = full(5)
+console.registers("0")
+"""
+        done = run("mypy", "--cache-dir", self.path("cache"), self.file(script.encode(), "own.py"))
+        found = [line.partition("own.py:")[2] for line in done.out.splitlines() if "own.py:" in line]
+        self.assertEqual(['10: error: Argument 1 to "registers" of "Console" has incompatible type "str"; expected "int"  [arg-type]'], found)
 
     @unittest.skipUnless(shutil.which("ruff"), "ruff is not installed")
     def test_style(self):

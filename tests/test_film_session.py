@@ -2,7 +2,6 @@
 docs/FILM.md, and of the program and the tools for the same lines."""
 
 import json
-import os
 import random
 
 from tests.film_blocks import BLOCKS, BlockCase

@@ -10,7 +10,6 @@ import random
 from typing import NamedTuple, Optional
 
 from tests.films import DEVICES, PageCase, moments_of, random_session, text_of
-from tests.fixtures import wait_text
 from tests.support import TOP, program, read
 
 from pp6600 import Console
@@ -47,10 +46,8 @@ def instruction(state, number):
 
 
 def wait_of(state, number):
-    """Returns for what a processor waits, or nothing."""
-    code, channel, in_block = instruction(state, number)
-    letter = state.channels[channel].state if channel < 0o15 else "F"
-    return wait_text(code, channel, letter, int(state.processors[number].registers["A"], 8), in_block)
+    """Returns for what a processor waits, or nothing, as tests/test_panel.py tries it."""
+    return state.processors[number].waits_for(state.states())
 
 
 def word_moved(state, number):
