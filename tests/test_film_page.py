@@ -4,9 +4,10 @@ import json
 import os
 import re
 
+from tests.cases import part
 from tests.film_blocks import BLOCKS, BlockCase
 from tests.films import DEVICES, PageCase, about, class_page, random_session, shown_film
-from tests.support import add_tests, read
+from tests.support import TOP, add_tests, read
 
 from pp6600.front.keys import ROWS
 
@@ -46,6 +47,18 @@ class Tables(PageCase):
                 for row in rows} | {re.sub(r"^\| ", "", row).split(" | ")[0] for row in rows}
         meanings = about(read(self.film("--source", "0", "examples/overwritten-loader/loader.pp")))["meanings"]
         self.assertEqual(set(), {text for name, one in meanings.items() if name[1:] != "x" for text in one.split("\n")} - said)
+
+
+class Card(PageCase):
+    def test_printed(self):
+        """docs/card.html is one sheet of A4 on a printer."""
+        self.browser.ask("Page.navigate", url=f"file://{os.path.join(TOP, 'docs', 'card.html')}")
+        self.browser.wait_for("document.readyState === 'complete' && document.title")
+        self.browser.paper(self.path("card.pdf"))
+        data = part(self.folder, "card.pdf")
+        self.assertEqual(1, len(re.findall(rb"/Type /Page\b(?!s)", data)))
+        sizes = {tuple(round(float(size)) for size in found) for found in re.findall(rb"/MediaBox \[0 0 ([\d.]+) ([\d.]+)\]", data)}
+        self.assertEqual({(595, 842)}, sizes)
 
 
 class Lanes(BlockCase):

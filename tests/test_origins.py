@@ -137,6 +137,7 @@ def alike(turn):
 
 LINE = re.compile(r' *(M [0-7]+ [0-7]+|\w+ [0-7]+) (?:([0-7]+)|"."|LINE END|\.\.)(?: TURN ([0-7]+))? (.*?)(?:, NOW [0-7]+)?$')
 TIMES = re.compile(r" ([0-7]+) TIMES SINCE TURN ([0-7]+)")
+CODE_NAMES = names_of_codes()
 
 
 class LastWrite(NamedTuple):
@@ -217,7 +218,7 @@ class Noted:
         card, column, machine = self.number(flat.CARD), self.number(flat.CARD + 1), self.engine.machine
         (turn,), _ = self.engine.origins(1)
         (code, d), made, now = divmod(turn.word, 0o100), {}, self.now()
-        where = "" if turn.kind == of.IN_BLOCK else f"AT {turn.address:04o} {names_of_codes()[code]} {d:02o}"
+        where = "" if turn.kind == of.IN_BLOCK else f"AT {turn.address:04o} {CODE_NAMES[code]} {d:02o}"
         later = {origin.place for origin in turn.others}
         for one in writes_of(turn, self.number(flat.P + turn.processor)):
             place, sources = one.origin.place, tuple((self.last(source.number), parts) for source, parts in one.sources)
