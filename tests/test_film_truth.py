@@ -1,7 +1,8 @@
 """The modules of a film's page, run by Node, beside the simulator in Python and the program on random sessions: the answers, and of each
-moment its kind, what it changed, what it wrote and from what; and what its searches find. Other seeds: TRUTH_SEEDS="1000 200" compares 200
-sessions from seed 1000 on (decimal)."""
+moment its kind, what it changed, what it wrote and from what; what its searches find; and what its assembler knows of sources, beside the
+tools. Other seeds: TRUTH_SEEDS="1000 200" compares 200 sessions from seed 1000 on (decimal)."""
 
+import glob
 import json
 import os
 import random
@@ -18,13 +19,16 @@ from pp6600.engine import origins as of
 from pp6600.engine.choose import engine_of
 from pp6600.engine.interface import CARD, CLOCK, PHASE, SLOT, STATES, WAITS, A, Form, P, Q
 from pp6600.front.film import page
+from pp6600.language.sources import Source, set_lines
 from pp6600.run.conditions import joined, parsed
 from pp6600.run.forms import CELLS, CHANNELS, PROCESSORS, Place
 from pp6600.run.forms import STATES as LETTERS
+from pp6600.run.names import AllSymbols
 from pp6600.run.turn import BLOCKS, Processor, places_of_setting
 from pp6600.run.written import writes_of
 from pp6600.shell.command_line import arguments
 
+MODULE = os.path.join(TOP, "dist", "pp6600.wasm")
 SEEDS = "100 25"  # of the random sessions: the first, and how many
 OPTIONS = ("--central", "32", "--panel", f"{EXAMPLES}/dead-start/panel", "--deck", f"{EXAMPLES}/read-a-deck/deck")
 # An exchange and what moves P of the central processor, at the end of central memory too; a block past its end; a return address of zero.
@@ -99,7 +103,7 @@ class Truth(Case):
         about = {**page.tables(), **page.options(arguments("").parse_args(list(OPTIONS))), "labels": {}, "lines": []}
         files = {"about": about, "sessions": [{"lines": lines, "deck": read(OPTIONS[-1]), "panel": read(OPTIONS[-3])} for lines in sessions]}
         paths = [self.file(json.dumps(data)) for data in files.values()]
-        return map(json.loads, in_node("film_rows.js", os.path.join(TOP, "dist", "pp6600.wasm"), *paths))
+        return map(json.loads, in_node("film_rows.js", MODULE, *paths))
 
     def test_random_sessions(self):
         first, count = map(int, os.environ.get("TRUTH_SEEDS", SEEDS).split())
@@ -171,7 +175,7 @@ class Searches(Case):
             sessions.append({"lines": lines, "conditions": [text for text, _ in conditions]})
             wanted.append([self.found(lines, forms) for _, forms in conditions])
         about = self.file(json.dumps({**page.tables(), **page.options(arguments("").parse_args([])), "labels": {}}))
-        found = [json.loads(line) for line in in_node("film_searches.js", os.path.join(TOP, "dist", "pp6600.wasm"), about, self.file(json.dumps(sessions)))]
+        found = [json.loads(line) for line in in_node("film_searches.js", MODULE, about, self.file(json.dumps(sessions)))]
         for session, own, others in zip(sessions, wanted, found):
             for text, one, other in zip(session["conditions"], own, others):
                 self.assertEqual(one, other, (text, session["lines"]))
@@ -196,3 +200,59 @@ class Searches(Case):
             at += count
         undone = engine.back_until(forms)
         return [first, at - undone if undone else None]
+
+
+# ---- the assembler
+
+PLACES = ("examples/*/*.pp", "exercises/**/*.pp", "tests/programs/*.pp", "tests/debug/*.pp")
+LEAST = 10  # sources that the module takes
+
+
+def own_lines(source, rows):
+    """Returns the texts of lines but for those that a macro makes."""
+    made = {address for row in source.program.rows if row.is_made for address in (row.location, row.origin)}
+    return {int(address): row for address, row in rows.items() if int(address) not in made}
+
+
+def without_literals(source):
+    """Returns a source without the words of literals, which are of no line."""
+    rows = [row for row in source.program.rows if row.text != "*         LITERAL"]
+    return Source(source.path, source.program._replace(rows=rows, literals={}))
+
+
+@unittest.skipUnless(shutil.which("node"), "there is no node")
+class Assembler(Case):
+    def test_sources(self):
+        """The page knows of a source that it assembles what the tool puts into the page of one that it assembles."""
+        paths = sorted(path for place in PLACES for path in glob.glob(os.path.join(TOP, place), recursive=True))
+        texts = [text for text in map(read, paths) if "\n," not in text and text.isascii()]
+        done = map(json.loads, in_node("film_assembler.js", MODULE, self.file(json.dumps(texts))))
+        made = [(path, one) for path, one in zip((path for path in paths if read(path) in texts), done) if not one["faults"]]
+        self.assertGreater(len(made), LEAST)
+        for path, one in made:
+            with self.subTest(path):
+                self.check(without_literals(Source.of_file(path)), one)
+
+    def check(self, source, one):
+        symbols = AllSymbols()
+        symbols.of[3] = source
+        wanted = json.loads(json.dumps(page.of_symbols(symbols)))
+        self.assertEqual(list(set_lines(source.program, 3)), one["load"])
+        self.assertEqual(wanted["sources"]["3"]["rows"], one["source"]["rows"])
+        lines = wanted["sources"]["3"]["lines"]
+        self.assertEqual(lines, one["source"]["lines"][:len(lines)])
+        labels = wanted["labels"]["3"]
+        self.assertEqual(labels["addresses"], one["labels"]["addresses"])
+        self.assertEqual(*({cell: name for cell, name in them["names"].items() if int(cell) in source.at_location} for them in (labels, one["labels"])))
+        for cell, name in one["labels"]["names"].items():  # the page does not see how long a buffer is
+            label, sign, _ = name.partition("+")
+            self.assertFalse(sign and int(cell) not in source.at_location and labels["addresses"][label] in source.at_location, name)
+        self.assertEqual(sorted(labels["entries"]), sorted(one["labels"]["entries"]))
+        self.assertEqual(own_lines(source, labels["texts"]), own_lines(source, one["labels"]["texts"]))
+
+    def test_products(self):
+        """A product that has 63 bits, and one that has more, which the module makes of halves."""
+        texts = [f"          BASE   DECIMAL\n          CON    {factor}*{factor}/9007199254740992\n          END\n" for factor in (3037000499, 3037000500)]
+        fits, does_not = map(json.loads, in_node("film_assembler.js", MODULE, self.file(json.dumps(texts))))
+        self.assertEqual((fits["faults"], fits["load"]), (0, ["SET M 3 0 1777"]))  # the quotient is 1023 and a part
+        self.assertEqual(does_not["faults"], 1)

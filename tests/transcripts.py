@@ -32,7 +32,7 @@ ALONE = re.compile(r"""(?:(printf\ '[^']*'(?:\ "[^"$`]*")*|echo\ [^|&;<>`$]*|\([
 ONE_BY_ONE = re.compile(r"; (?!echo \$\?)")  # between tools
 DEFINED = re.compile(r"([a-z]+)\(\) \{ (.*); \}")  # a function of the shell
 GIVEN = re.compile(r"\$(\d)|\$\{(\d):-(\w+)\}")  # what it is given, or what it takes in its place
-OUTSIDE = re.compile(r"\.py|/dev/std")  # code or files of the tests' own process
+OUTSIDE = re.compile(r"\.py|/dev/(?!null)")  # code or files of the tests' own process, and files without end
 LEAVES = re.compile(r"(?<!\()\b(?:cd|export) ")  # changes what a tool of this process would not see
 
 
