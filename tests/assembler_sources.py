@@ -1,5 +1,5 @@
-"""Sources for the assemblers, and cells for the disassemblers: those of the repository, and others made at random, also of lines that make,
-choose or repeat others: IF, DUP, MACRO, micros and RMT, right and wrong; and what the library's assembler says of a source."""
+"""Sources for the assemblers, and cells for the disassemblers: those of the repository, and others made at random, also of lines that
+make, choose or repeat others: IF, DUP, MACRO, micros and RMT, right and wrong; and what the library's assembler says of a source."""
 
 import glob
 import hashlib
@@ -64,7 +64,8 @@ def macro(choose: random.Random, depth: int) -> List[str]:
 
 
 def calls(choose: random.Random, depth: int) -> List[str]:
-    return [line(chosen(choose, "labels"), f"{choose.choice(['MCA', 'MCB', 'MCA', 'SUBR', 'LDN', 'LDX'])} {chosen(choose, 'operands of calls')}")
+    names = ["MCA", "MCB", "MCA", "SUBR", "LDN", "LDX"]
+    return [line(chosen(choose, "labels"), f"{choose.choice(names)} {chosen(choose, 'operands of calls')}")
             for _ in range(choose.randrange(1, 4))]
 
 
@@ -115,7 +116,8 @@ def statement(choose: random.Random) -> str:
     parts = [expression(choose) for _ in range(count)]
     if name == "VFD" and choose.random() < 0.8:
         parts = [f"{choose.choice((3, 6, 12, 18, 5, 60))}/{one}" for one in parts or ["1"]]
-    likely = {"DIS": "texts", "DATA": "data", "LIT": "data", "USE": "blocks", "QUAL": "qualifiers", "IDENT": "names of programs"}.get(name)
+    likely = {"DIS": "texts", "DATA": "data", "LIT": "data", "USE": "blocks", "QUAL": "qualifiers",
+              "IDENT": "names of programs"}.get(name)
     operand = chosen(choose, likely) if likely and choose.random() < 0.8 else ",".join(parts)
     line = f"{label:10}{name:6} {operand}"
     line += choose.choice(["", "", "", "  COMMENT"])

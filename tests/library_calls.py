@@ -177,8 +177,8 @@ class Sequence:
         assert found[interface.CENTRAL:] == array("Q", model.numbers(interface.CENTRAL, CENTRAL))
 
     def made(self, handle, name, *given, is_wrong=False, wrong=REFUSED):
-        """Makes a call of a session. Returns its status; None if the handle has no session, or what is given is wrong. Then the call says so,
-        and changes nothing."""
+        """Makes a call of a session. Returns its status; None if the handle has no session, or what is given is wrong. Then the call says
+        so, and changes nothing."""
         status = self.native.call(name, handle, *given)
         if self.models[handle] and not is_wrong:
             assert status != CLOSED
@@ -242,8 +242,8 @@ class Sequence:
         into, = self.outs(8 * min(count, 64))
         status = self.made(handle, "numbers", ("u32", first), into, size(count), is_wrong=first + count > PLACES)
         assert status in (None, DONE)
-        for place, number in enumerate(into.words("Q"), first):
-            assert status is None or interface.WATCHES <= place < interface.CENTRAL or number == self.models[handle].numbers(place, 1)[0]
+        for place, number in enumerate(into.words("Q") if status == DONE else (), first):
+            assert interface.WATCHES <= place < interface.CENTRAL or number == self.models[handle].numbers(place, 1)[0]
 
     def counts(self, handle):
         outs = self.outs(4, 4, 4, 4)
@@ -279,8 +279,8 @@ class Sequence:
         most, model = self.choose.choice((0, 1, 3, 30, 2 ** 32 - 1)), self.models[handle]
         rooms = self.choose.choice((0, 1, 5, 30)), self.choose.choice((0, 43, 44, 45, 300)), self.choose.choice((0, 75, 76, 77, 300))
         made, links, olds, turns, linked, used = self.outs(*(each * room for each, room in zip((16, 24, 16), rooms)), 8, 8, 8)
-        status = self.made(handle, "origins", ("u32", most), made, size(rooms[0]), links, size(rooms[1]), olds, size(rooms[2]), turns,
-                           linked, used)
+        status = self.made(handle, "origins", ("u32", most), made, size(rooms[0]), links, size(rooms[1]), olds, size(rooms[2]),
+                           turns, linked, used)
         if status is None:
             return
         wanted, filled, pairs, is_watched = [], 0, 0, False

@@ -1,6 +1,6 @@
 """The assembler of the library: its answers to 3,000 (decimal) sources, which are those that an assembler in Python had; its forms,
-which are all of one program; and tools where there is no library. Sources are those of the repository, and others made at random. What has
-no room, and wrong numbers, tests/library_calls.py tries.
+which are all of one program; and tools where there is no library. Sources are those of the repository, and others made at random. What
+has no room, and wrong numbers, tests/library_calls.py tries.
 
     PP6600_SOURCES=N   makes N at random (decimal)
 """

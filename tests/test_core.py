@@ -1,5 +1,5 @@
-"""Tests how the tools' package is built: its types, its launchers, and that each room of tools/pp6600 imports the rooms below it alone, as
-docs/ARCHITECTURE.md says."""
+"""Tests how the tools' package is built: its types, its launchers, and that each room of tools/pp6600 imports the rooms below it alone,
+as docs/ARCHITECTURE.md says."""
 
 import ast
 import glob
@@ -27,7 +27,7 @@ imported_by, room_of, IMPORTS = USES["imported_by"], USES["room_of"], USES["impo
 class Package(Case):
     @unittest.skipUnless(shutil.which("mypy"), "mypy is not installed")
     def test_types(self):
-        """mypy --strict accepts the tools, as pyproject.toml configures it; and a script of a user, with the types of docs/PYTHON.md."""
+        """mypy --strict accepts the tools, as pyproject.toml has it; and of a user's script but one line, by docs/PYTHON.md."""
         done = run("mypy", "--cache-dir", self.path("cache"))
         self.assertEqual(0, done.status, done.out)
         script = """from typing import Dict, List

@@ -1,5 +1,5 @@
-"""Both engines are the same session of the machine, the simulator in Python and the library: what they answer and reject, and in random sessions
-the turns that searches with random conditions find, forward and back. Random calls are in tests/library_calls.py.
+"""Both engines are the same session of the machine, the simulator in Python and the library: what they answer and reject, and in random
+sessions the turns that searches with random conditions find, forward and back. Random calls are in tests/library_calls.py.
 
     PP6600_SEARCHES=SEED:COUNT   makes COUNT sessions from seed SEED on (decimal)
 """

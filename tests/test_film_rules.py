@@ -1,6 +1,6 @@
-"""The rules of a film's page where Firefox is there: each number is the simulator's, a look changes nothing, an action in the past begins a
-branch, nothing is lost. In Chromium these are in tests/film.txt and tests/test_film_walk.py; here is what needs its protocol, and the page of
-a class. Expected values are those of docs/FILM.md and of the runs' notes."""
+"""The rules of a film's page where Firefox is there: each number is the simulator's, a look changes nothing, an action in the past begins
+a branch, nothing is lost. In Chromium these are in tests/film.txt and tests/test_film_walk.py; here is what needs its protocol, and the
+page of a class. Expected values are those of docs/FILM.md and of the runs' notes."""
 
 import json
 import os

@@ -81,8 +81,8 @@ class Devices(SessionCase):
         return found
 
     def test_console_display(self):
-        """docs/FILM.md: each turn and each step back is a moment with the picture of the session, and so is each reply, which changes none; beyond
-        the script the page says that it has none."""
+        """docs/FILM.md: each turn and each step back is a moment with the picture of the session, and so is each reply, which changes
+        none; beyond the script the page says that it has none."""
         words, wanted = [program()], self.pictures()
         lines = script_with(words, [ConsoleDisplay()], self.SCRIPT.encode())[0].decode().splitlines()
         with Console(words) as console:

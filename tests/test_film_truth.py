@@ -1,6 +1,6 @@
-"""The modules of a film's page, run by Node, beside the simulator in Python and the program on random sessions: the answers, and of each
-moment its kind, what it changed, what it wrote and from what; what its searches find; and what its assembler knows of sources, beside the
-tools. Other seeds: TRUTH_SEEDS="1000 200" compares 200 sessions from seed 1000 on (decimal)."""
+"""The modules of a film's page, run by Node, beside the simulator in Python and the program on random sessions: the answers, and of
+each moment its kind, what it changed, what it wrote and from what; what its searches find; and what its assembler knows of sources,
+beside the tools. Other seeds: TRUTH_SEEDS="1000 200" compares 200 sessions from seed 1000 on (decimal)."""
 
 import glob
 import json
@@ -68,8 +68,8 @@ def kind_of(turn, before, after):
 
 
 def written(turn, before, after, punched):
-    """Returns what a turn wrote: of each place its number, what kind of write it was, its constant and its sources. The reader was at the
-    column that is at this place of the page."""
+    """Returns what a turn wrote: of each place its number, what kind of write it was, its constant and its sources. The reader was at
+    the column that is at this place of the page."""
     of_devices = [[one.place, BY_DEVICE, "", [[punched, 0]] if one.operation == of.PUNCHED else []]
                   for one in turn.others if STATES <= one.place < CLOCK]
     return sorted(of_devices + [

@@ -1,5 +1,5 @@
-"""The page of a run beside the dumps of the program at random moments: its numbers, what it shows, the picture of the barrel, and the lines of
-sources, beside `Source.line_of`.
+"""The page of a run beside the dumps of the program at random moments: its numbers, what it shows, the picture of the barrel, and the
+lines of sources, beside `Source.line_of`.
 
 The examples, sessions on channels that do not exist and on the clock, and random sessions are filmed. Which word a turn moves over a
 channel is worked out from the state before it, by the tables of docs/MACHINE.md. Each run is the same: a session follows from its

@@ -1,5 +1,5 @@
-"""The library libpp6600.so: the examples in C, random calls, and wrong rooms, counts and places. That it answers as the program does,
-tests/test_artefacts.py tries; wrong options are in tests/test_engine.py."""
+"""The library libpp6600.so: the examples in C, random calls, and wrong rooms, counts and places. That it answers as the program
+does, tests/test_artefacts.py tries; wrong options are in tests/test_engine.py."""
 
 import concurrent.futures
 import functools

@@ -1,4 +1,5 @@
-"""Tests the package from Python: the public calls; tests/test_core.py has their types. tests/sessions/notebook.txt has what a notebook shows, and bad hands."""
+"""Tests the package from Python: the public calls. tests/test_core.py has their types, tests/sessions/notebook.txt what a notebook shows,
+and bad hands."""
 
 import re
 import resource

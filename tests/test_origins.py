@@ -1,6 +1,6 @@
-"""Where numbers come from, as the engines answer it: each number is the one that its origin makes, the answer of the simulator in Python
-is that of the library, and what is read is needed; and as tools/origin follows it, beside the last writes of places turn by turn. Whole
-answers of the tool are in tests/sessions.
+"""Where numbers come from, as the engines answer it: each number is the one that its origin makes, the answer of the simulator in
+Python is that of the library, and what is read is needed; and as tools/origin follows it, beside the last writes of places turn by turn.
+Whole answers of the tool are in tests/sessions.
 
     PP6600_ORIGINS=SEED:COUNT   compares COUNT random sessions from seed SEED on, the tool by one in ten; the default is 0:150
 """
@@ -141,8 +141,8 @@ CODE_NAMES = names_of_codes()
 
 
 class LastWrite(NamedTuple):
-    """The last write of a place: in which turn (None at the start), how the tool's line goes on after that, and the writes that it has its
-    number from, each with the parts of the word that it read, or None for all."""
+    """The last write of a place: in which turn (None at the start), how the tool's line goes on after that, and the writes that it has
+    its number from, each with the parts of the word that it read, or None for all."""
 
     place: Place
     turn: Optional[str] = None
@@ -229,7 +229,8 @@ class Noted:
         paper = {**self.writes, **made}.get(flat.REGISTERS + machine.printer)
         for place, operation, _ in turn.others:
             is_paper = flat.PAPER <= place < flat.SLOT
-            cause = f"CR CARD {card:04o} COLUMN {column:03o}" if operation == of.PUNCHED else "LP" if is_paper else devices.get(place, "")
+            cause = "LP" if is_paper else devices.get(place, "")
+            cause = f"CR CARD {card:04o} COLUMN {column:03o}" if operation == of.PUNCHED else cause
             made[place] = LastWrite(Place.at(place), now, cause, self.number(place), ((paper, None),) if is_paper else ())
         return made
 
@@ -255,8 +256,8 @@ class Followed(SessionCase):
         """Returns places, mostly some that were written in turns, and of each kind alike."""
         of_turns, others = {}, [Place("M", (3, 0o7000)), Place("Q", (5,))]
         for one in noted.writes.values():
-            kind = one.place.kind
-            if kind in ("M", "A", "P", "Q", "C", "H", "XP") or kind == "LP" and one.place.numbers[0] < noted.number(flat.PAPER_LENGTH):
+            kind, length = one.place.kind, noted.number(flat.PAPER_LENGTH)
+            if kind in ("M", "A", "P", "Q", "C", "H", "XP") or kind == "LP" and one.place.numbers[0] < length:
                 (others if one.cause.startswith("SET") else of_turns.setdefault(kind, [])).append(one.place)
         some = [choose.choice(of_turns[choose.choice(list(of_turns))]) for _ in range(5 if of_turns else 0)]
         return some + choose.sample(others, 1)

@@ -48,7 +48,8 @@ class Cases(CaseTests):
         self.assertEqual(wanted, ("".join(answers).encode("latin-1"), fault.encode("latin-1"), status))
 
 
-add_tests(Cases, Cases.check_python, [(name, case) for name, case in named() if len(case.script) < 1000000])  # tests/test_random.py has limits
+# tests/test_random.py has the limit of lines.
+add_tests(Cases, Cases.check_python, [(name, case) for name, case in named() if len(case.script) < 1000000])
 add_tests(Cases, Cases.check_session, sessions())
 
 
