@@ -27,7 +27,7 @@ OUTPUT = "bin/output"  # of a tool, for what reads it
 # A tool with words that need no shell, on what some commands write, a file, the lines that follow or nothing; where its output goes, or what
 # reads it, and with it what it says; and whether its status is shown. Such a tool runs in the tests' own process.
 ALONE = re.compile(r"""(?:(printf\ '[^']*'(?:\ "[^"$`]*")*|echo\ [^|&;<>`$]*|\([^|&<>()]*\))\ \|\ )?
-                       tools/(?!panel|debug)([\w-]+)((?:\ (?:[\w./:=,+@%-]+|'[^']*'))*)(?:\ <([\w./-]+)|\ <<END\n((?:.*\n)*)END)?
+                       tools/(?!panel|debug|talk\ .*--save)([\w-]+)((?:\ (?:[\w./:=,+@%-]+|'[^']*'))*)(?:\ <([\w./-]+)|\ <<END\n((?:.*\n)*)END)?
                        (?:\ >([\w.-]+)|(\ 2>&1)?\ \|\ ((?!.*tools/|.*PIPESTATUS).*))?(;\ echo\ \$\?)?""", re.X)
 ONE_BY_ONE = re.compile(r"; (?!echo \$\?)")  # between tools
 DEFINED = re.compile(r"([a-z]+)\(\) \{ (.*); \}")  # a function of the shell
