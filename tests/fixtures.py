@@ -14,23 +14,6 @@ WITH_SIMULATOR = {"changes": ["M", "0", "106"], "origin": ["M", "0", "106"], "sa
                   "until": ["P", "0", "=", "1"], "waits": [], "film": ["-o", os.devnull]}
 WITHOUT = {"assemble": [], "deck": [], "disassemble": [], "load": ["0", "100"], "symbols": [], "words": ["--dump", "0"]}
 GIVEN = {"assemble": "  LDN 5\n", "deck": "HELLO.\n", "disassemble": "0100 1405\n", "load": "1405\n", "symbols": "A 5\n", "words": "0100 1405\n"}
-# By the tables of docs/MACHINE.md: in which states of its channel each instruction completes, and each block goes on or ends, and
-# what it waits for.
-COMPLETES = {0o70: ("F", "full"), 0o72: ("E", "empty"), 0o74: ("I", "inactive"), 0o75: ("EFX", "active"), 0o76: ("I", "inactive"),
-             0o77: ("I", "inactive")}
-BLOCKS_GO_ON = {0o71: ("IF", "full"), 0o73: ("IE", "empty")}
-
-
-def wait_text(code, channel, state, count, in_block):
-    """Returns for what an instruction, or the block that it began, waits on a channel in this state, as 05 full, or nothing."""
-    goes_on, name = (BLOCKS_GO_ON if in_block else COMPLETES).get(code, ("IEFX", ""))
-    if channel == 0o14:
-        waits = code == 0o73 if in_block else code in (0o72, 0o74, 0o76, 0o77)
-    else:
-        waits = name != "" and not in_block if channel > 0o14 else state not in goes_on
-    if not waits or in_block and count == 0:
-        return ""
-    return f"{channel:02o} {name if channel < 0o14 else 'never'}"
 
 
 def at_terminal(name, *words):

@@ -6,7 +6,6 @@ nothing else changes. The simulator in plain Python is at the same machine, and 
 
 import ctypes
 import hashlib
-import itertools
 import random
 import struct
 import sys
@@ -177,13 +176,15 @@ class Sequence:
         assert found[:interface.WATCHES] == array("Q", model.numbers(0, interface.WATCHES))
         assert found[interface.CENTRAL:] == array("Q", model.numbers(interface.CENTRAL, CENTRAL))
 
-    def is_closed(self, handle, status, *memories):
-        """Returns whether a handle has no session. Then the call says so, and changes nothing."""
-        if self.models[handle]:
+    def made(self, handle, name, *given, is_wrong=False, wrong=REFUSED):
+        """Makes a call of a session. Returns its status; None if the handle has no session, or what is given is wrong. Then the call says
+        so, and changes nothing."""
+        status = self.native.call(name, handle, *given)
+        if self.models[handle] and not is_wrong:
             assert status != CLOSED
-            return False
-        assert status == CLOSED and all(memory.is_same for memory in memories)
-        return True
+            return status
+        assert status == (wrong if self.models[handle] else CLOSED) and all(one.is_same for one in given if isinstance(one, Memory))
+        return None
 
     # ---- the calls, each with what is to be of it
 
@@ -218,8 +219,8 @@ class Sequence:
         lines = typed if typed is not None else self.choose.choice((b"", b"DUMP PP 0\n", b"DUMP CR\nSTEP\n", b"\n* a note\n\nSTEP 3", b"junk\nSTEP\n", self.script()))
         room = self.choose.choice((0, 1, 38, 47, 48, 95, 96, 200, 4000)) if typed is None else 1 << 16
         into, taken, count, made, refused = self.outs(room, 8, 8, 4, 4)
-        status = self.native.call("answer", handle, Memory(lines), size(len(lines)), into, size(room), taken, count, made, refused)
-        if self.is_closed(handle, status, into, taken, count, made, refused):
+        status = self.made(handle, "answer", Memory(lines), size(len(lines)), into, size(room), taken, count, made, refused)
+        if status is None:
             return
         done, rest = lines[:taken.number()], lines[taken.number():]
         assert not rest or not done or done.endswith(b"\n")
@@ -239,35 +240,28 @@ class Sequence:
         count = self.choose.choice((0, 1, 40, max(PLACES - first, 0), max(PLACES - first, 0) + 1, 2 ** 32, 2 ** 61, 2 ** 63, 2 ** 64 - 1))
         count = count if count <= 40 or count > PLACES - first else 40
         into, = self.outs(8 * min(count, 64))
-        status = self.native.call("numbers", handle, ("u32", first), into, size(count))
-        if self.is_closed(handle, status, into):
-            return
-        if first + count > PLACES:
-            assert status == REFUSED and into.is_same
-            return
-        assert status == DONE
-        for place, number in enumerate(into.words("Q"), first):
+        status = self.made(handle, "numbers", ("u32", first), into, size(count), is_wrong=first + count > PLACES)
+        assert status in (None, DONE)
+        for place, number in enumerate(into.words("Q") if status == DONE else (), first):
             assert interface.WATCHES <= place < interface.CENTRAL or number == self.models[handle].numbers(place, 1)[0]
 
     def counts(self, handle):
         outs = self.outs(4, 4, 4, 4)
-        status = self.native.call("counts", handle, *outs)
-        if self.is_closed(handle, status, *outs):
-            return
-        assert status == DONE and [out.number() for out in outs] == list(self.models[handle].counts())
+        status = self.made(handle, "counts", *outs)
+        assert status is None or status == DONE and [out.number() for out in outs] == list(self.models[handle].counts())
 
-    def recording(self, handle, name, most):
+    def recording(self, handle, name, most, **wrong):
         """Makes a call that records actions. Returns the buffers, the status, and how many actions there is room for at most."""
         made_room = self.choose.choice((0, 1, 5, 30))
         olds_room = self.choose.choice((0, 75, 76, 77, 300))
         made, olds, actions, used = self.outs(8 * made_room, 16 * olds_room, 8, 8)
-        status = self.native.call(name, handle, ("u32", most), made, size(made_room), olds, size(olds_room), actions, used)
+        status = self.made(handle, name, ("u32", most), made, size(made_room), olds, size(olds_room), actions, used, **wrong)
         return made, olds, actions, used, status, made_room, olds_room
 
     def turns(self, handle):
         most, before, model = self.choose.choice((0, 1, 3, 30, 2 ** 32 - 1)), self.machine(handle), self.models[handle]
         made, olds, actions, used, status, made_room, olds_room = self.recording(handle, "turns", most)
-        if self.is_closed(handle, status, made, olds, actions, used):
+        if status is None:
             return
         wanted, processors, filled, is_watched = [], [], 0, False
         while len(wanted) < min(most, made_room) and olds_room - filled >= MOST_OLDS and not is_watched:
@@ -284,10 +278,10 @@ class Sequence:
     def origins(self, handle):
         most, model = self.choose.choice((0, 1, 3, 30, 2 ** 32 - 1)), self.models[handle]
         rooms = self.choose.choice((0, 1, 5, 30)), self.choose.choice((0, 43, 44, 45, 300)), self.choose.choice((0, 75, 76, 77, 300))
-        made, links, olds, turns, linked, used = outs = self.outs(*(each * room for each, room in zip((16, 24, 16), rooms)), 8, 8, 8)
-        status = self.native.call("origins", handle, ("u32", most), made, size(rooms[0]), links, size(rooms[1]), olds, size(rooms[2]), turns,
-                                  linked, used)
-        if self.is_closed(handle, status, *outs):
+        made, links, olds, turns, linked, used = self.outs(*(each * room for each, room in zip((16, 24, 16), rooms)), 8, 8, 8)
+        status = self.made(handle, "origins", ("u32", most), made, size(rooms[0]), links, size(rooms[1]), olds, size(rooms[2]),
+                           turns, linked, used)
+        if status is None:
             return
         wanted, filled, pairs, is_watched = [], 0, 0, False
         while len(wanted) < min(most, rooms[0]) and rooms[1] - filled >= MOST_TURN_LINKS and rooms[2] - pairs >= MOST_OLDS and not is_watched:
@@ -303,12 +297,10 @@ class Sequence:
 
     def next_origins(self, handle):
         rooms = self.choose.choice((0, 32, 33, 100)), self.choose.choice((0, 6, 7, 8))
-        turn, links, count, control, control_count = outs = self.outs(16, 24 * rooms[0], 8, 8 * rooms[1], 8)
-        status = self.native.call("next_origins", handle, turn, links, size(rooms[0]), count, control, size(rooms[1]), control_count)
-        if self.is_closed(handle, status, *outs):
-            return
-        if rooms[0] < MOST_LINKS or rooms[1] < MOST_CONTROL:
-            assert status == ROOM and all(one.is_same for one in outs)
+        turn, links, count, control, control_count = self.outs(16, 24 * rooms[0], 8, 8 * rooms[1], 8)
+        status = self.made(handle, "next_origins", turn, links, size(rooms[0]), count, control, size(rooms[1]), control_count,
+                           is_wrong=rooms[0] < MOST_LINKS or rooms[1] < MOST_CONTROL, wrong=ROOM)
+        if status is None:
             return
         found, = turns_of([Made.from_buffer_copy(turn.new)], links.new[:24 * count.number()])
         places_of_control = list(control.words("Q")[:control_count.number()])
@@ -340,11 +332,8 @@ class Sequence:
         model, before = self.models[handle], self.machine(handle)
         ahead = model.counts().ahead if model else 0
         most = self.choose.choice((0, 1, ahead, ahead, ahead + 1, 2 ** 32 - 1))
-        made, olds, actions, used, status, made_room, olds_room = self.recording(handle, "again", most)
-        if self.is_closed(handle, status, made, olds, actions, used):
-            return
-        if most > ahead:
-            assert status == REFUSED and made.is_same and olds.is_same and actions.is_same and used.is_same
+        made, olds, actions, used, status, made_room, olds_room = self.recording(handle, "again", most, is_wrong=most > ahead)
+        if status is None:
             return
         processors, filled = [], 0
         while len(processors) < min(most, made_room) and olds_room - filled >= MOST_OLDS:
@@ -366,11 +355,9 @@ class Sequence:
         chosen = self.choose.choice(([], [0] * 17, [PLACES], [0, 2 ** 32 - 1], [40960, 40970], [interface.SLOT], [self.choose.randrange(40960) for _ in range(16)]))
         most, room = self.choose.choice((0, 1, 3, 30)), self.choose.choice((0, 1, max(len(chosen) - 1, 0), 3 * len(chosen), 100))
         given, into, turns = Memory(array("I", chosen).tobytes()), *self.outs(8 * room, 8)
-        status = self.native.call("looks", handle, ("u32", most), given, size(len(chosen)), into, size(room), turns)
-        if self.is_closed(handle, status, into, turns):
-            return
-        if not 1 <= len(chosen) <= 16 or max(chosen) >= PLACES:
-            assert status == REFUSED and into.is_same and turns.is_same
+        status = self.made(handle, "looks", ("u32", most), given, size(len(chosen)), into, size(room), turns,
+                           is_wrong=not 1 <= len(chosen) <= 16 or max(chosen) >= PLACES)
+        if status is None:
             return
         model, rows, is_watched = self.models[handle], [], False
         while len(rows) < most and (len(rows) + 1) * len(chosen) <= room and not is_watched:
@@ -405,15 +392,13 @@ class Sequence:
     def search(self, handle, name, *most):
         forms, is_one = self.forms(handle)
         given, (out,) = Memory(b"".join(struct.pack("<IIQQ", *form) for form in forms)), self.outs(4)
-        status = self.native.call(name, handle, given, size(len(forms)), *(("u32", one) for one in most), out)
-        if self.is_closed(handle, status, out):
+        status = self.made(handle, name, given, size(len(forms)), *(("u32", one) for one in most), out, is_wrong=not is_one)
+        if not self.models[handle]:
             return
-        if not is_one:
-            assert status == REFUSED and out.is_same
-        elif most:
+        if status is not None and most:
             made, found = self.models[handle].until(forms, *most)
             assert status == (DONE if found else NOT_FOUND) and out.number() == made
-        else:
+        elif status is not None:
             undone = self.models[handle].back_until(forms)
             assert status == (DONE if undone else NOT_FOUND) and (out.number() == undone if undone else out.is_same)
         self.check_machine(handle)
@@ -425,8 +410,8 @@ class Sequence:
         count = choose.choice((0, 1, 1, 5, interface.A, 2 ** 32 - 1)) if first < interface.CARD else choose.choice((0, 1, 2, 2 ** 32 - 1))
         room = choose.choice((0, 43, 44, 45))
         newer, turn, links = outs = self.outs(4, 16, 24 * room)
-        status = self.native.call("last_write", handle, ("u32", first), ("u32", count), newer, turn, links, size(room))
-        if self.is_closed(handle, status, *outs):
+        status = self.made(handle, "last_write", ("u32", first), ("u32", count), newer, turn, links, size(room))
+        if status is None:
             return
         wanted = last_write(self.models[handle], first, count) if first + count <= PLACES and room >= MOST_TURN_LINKS else None
         assert status == (DONE if wanted else REFUSED if first + count > PLACES else ROOM if room < MOST_TURN_LINKS else NOT_FOUND)
@@ -447,21 +432,17 @@ class Sequence:
         enough = model.counts()[which] if model else 0
         count = self.choose.choice((*BOUNDS, enough, enough, enough + 1, enough // 2))
         before = self.machine(handle)
-        status = self.native.call(name, handle, ("u32", count))
-        if self.is_closed(handle, status):
-            return
-        assert status == (DONE if count <= enough else REFUSED)
-        if status == DONE:
+        status = self.made(handle, name, ("u32", count), is_wrong=count > enough)
+        if status is None:
+            assert self.machine(handle) == before
+        else:
+            assert status == DONE
             getattr(model, name)(count)
             self.check_machine(handle)
-        else:
-            assert self.machine(handle) == before
 
     def close(self, handle):
-        status = self.native.call("close", handle)
-        if not self.is_closed(handle, status):
-            assert status == DONE
-            self.models[handle] = None
+        assert self.made(handle, "close") in (None, DONE)
+        self.models[handle] = None
 
     def about(self, _):
         wanted = read("VERSION").split(".")

@@ -76,10 +76,19 @@ def tool(name, *words, script="", **how):
     return run(*PYTHON, os.path.join(TOP, "tools", name), *words, script=script, **how) if how else tool_here(name, *words, script=script)
 
 
+@functools.lru_cache(maxsize=None)
+def pack_once():
+    """Lets the parts that all films have be packed once, which takes longest of making one."""
+    from pp6600.front.film import page
+    page.packed, page.joined = (functools.lru_cache(maxsize=32)(one) for one in (page.packed, page.joined))
+
+
 def tool_here(name, *words, **how):
     """Runs a tool in this process."""
     from pp6600 import __main__ as tools
     from pp6600.shell import ending
+    if name == "film":
+        pack_once()
     return called(lambda: ending.run(lambda: tools.main_of(name)()), name, *words, **how)
 
 

@@ -62,13 +62,13 @@ class Terminal:
         """Waits until something is so of the terminal, or the program has ended. Returns whether it is so."""
         end, pause = time.monotonic() + seconds, 0.02
         while time.monotonic() < end:
-            has_ended = self.ended_with() is not None
+            has_ended = pause > 0.1 and self.ended_with() is not None  # each look starts a program
             if is_so(self):
                 return True
             if has_ended:
                 return False
             time.sleep(pause)
-            pause = min(2 * pause, 0.5)  # a look starts two programs
+            pause = min(2 * pause, 0.5)
         return False
 
     def shows(self, text):

@@ -7,8 +7,7 @@ import os
 import random
 import re
 
-from .assembler_sources import program, sections, sources
-from .library_assembler import listing
+from .assembler_sources import listing, program, sections, sources
 from .support import TOP, Case, add_tests, blocks, names_of_codes, needs_library, read, run, tool
 
 from pp6600.language.assembling import deck, panel

@@ -1,21 +1,18 @@
 """The assembler of the library: its answers to 3,000 (decimal) sources, which are those that an assembler in Python had; its forms,
-which are all of one program; and tools where there is no library. Sources are those of the repository, and others made at random.
+which are all of one program; and tools where there is no library. Sources are those of the repository, and others made at random. What
+has no room, and wrong numbers, tests/library_calls.py tries.
 
     PP6600_SOURCES=N   makes N at random (decimal)
 """
 
-import ctypes
 import os
 import unittest
-from ctypes import byref, c_size_t, c_uint16, c_uint32
 from unittest import mock
 
-from .assembler_sources import sources
-from .library_assembler import differences
-from .support import LIBRARY, PROVED, Case, tool
+from .assembler_sources import differences, sources
+from .support import PROVED, Case, tool
 
-from pp6600.engine.assembler import DONE, LINES, NAMES, ROOM, WORDS, Cell, assembler_here
-from pp6600.engine.library import REFUSED
+from pp6600.engine.assembler import LINES, NAMES, WORDS, assembler_here
 from pp6600.language.notation import LITERAL
 from pp6600.language.program import LOCAL, assembled, source_of, written
 from pp6600.language.sources import names_of, set_lines
@@ -58,29 +55,6 @@ class Library(Case):
         self.assertEqual(set_lines(program, 5), assembler_here().load_lines(source_of(lines), 5).decode().splitlines())
         self.assertEqual(rows_with_words(program), written(lines, LINES))
         self.assertEqual(names_in(program), sorted(name for name in written(lines, NAMES) if not LOCAL.match(name)))
-
-    def test_rooms(self):
-        """What has no room for all of a text gets nothing of it, and how much room it needs; another status leaves it as it was too."""
-        library, source, cells = ctypes.CDLL(LIBRARY), b"          LDN    5\n", Cell(0o100, 0o1405)
-        of_source = lambda source, *more: (source, c_size_t(len(source)), *more)
-        of_cells = lambda cell: (byref(cell), c_size_t(1), (c_uint16 * 1)(), c_size_t(0))
-        for name, given, bad in (("assemble", of_source(source, c_uint32(1)), of_source(source, c_uint32(7))),
-                                 ("load_lines", of_source(source, c_uint32(9)), of_source(source, c_uint32(10))),
-                                 ("load_lines", of_source(source, c_uint32(0)), of_source(b" LDN A\n", c_uint32(0))),
-                                 ("disassemble", of_cells(cells), of_cells(Cell(0, 0o10000)))):
-            after = (byref(c_size_t()),) if name != "disassemble" else ()
-            ask = lambda words, room: self.ask(getattr(library, f"pp6600_{name}"), words, room, after)
-            _, size, _ = ask(given, 0)
-            with self.subTest(name):
-                self.assertEqual([(ROOM, size, True)] * 3, [ask(given, room) for room in (0, 1, size - 1)])
-                self.assertEqual((DONE, size, False), ask(given, size))
-                self.assertEqual((REFUSED, True), ask(bad, size)[::2])
-
-    @staticmethod
-    def ask(call, given, room, after):
-        """Returns the status of a call, the count of bytes, and whether the room is as it was."""
-        into, count = ctypes.create_string_buffer(b"\xff" * 256), c_size_t()
-        return call(*given, into, c_size_t(room), byref(count), *after), count.value, into.raw == b"\xff" * 256 + b"\0"
 
 
 class Tools(Case):

@@ -1,14 +1,16 @@
-"""Tests how the tools' package is built: its types, its launchers, and who imports whom."""
+"""Tests how the tools' package is built: its types, its launchers, and that each room of tools/pp6600 imports the rooms below it alone,
+as docs/ARCHITECTURE.md says."""
 
 import ast
 import glob
 import os
 import re
+import runpy
 import shutil
 import subprocess
 import unittest
 
-from tests.support import TOP, Case, read
+from tests.support import TOP, Case, read, run
 
 from pp6600.__main__ import MODULES
 from pp6600.shell import completions
@@ -18,14 +20,30 @@ TOOLS = os.path.join(TOP, "tools")
 FOR_PYTHON_2 = ("tools/until", "tools/pp6600/__init__.py", "exercises/check-exercise", "exercises/grade", "exercises/hand-out", "exercises/new",
                 "share/install", "share/deb", "pp6600-python", "tests/__init__.py")
 COMMANDS = [os.path.basename(path)[:-len(".py")] for path in glob.glob(os.path.join(TOOLS, "pp6600", "front", "commands", "[!_]*.py"))]
+USES = runpy.run_path(os.path.join(TOP, "docs", "drawings", "uses.py"))
+imported_by, room_of, IMPORTS = USES["imported_by"], USES["room_of"], USES["imports"]()
 
 
 class Package(Case):
     @unittest.skipUnless(shutil.which("mypy"), "mypy is not installed")
     def test_types(self):
-        """mypy --strict accepts the tools, as pyproject.toml configures it."""
-        done = subprocess.run(["mypy", "--cache-dir", self.room()], cwd=TOP, capture_output=True, text=True, check=False)
-        self.assertEqual(0, done.returncode, done.stdout)
+        """mypy --strict accepts the tools, as pyproject.toml has it; and of a user's script but one line, by docs/PYTHON.md."""
+        done = run("mypy", "--cache-dir", self.path("cache"))
+        self.assertEqual(0, done.status, done.out)
+        script = """from typing import Dict, List
+from pp6600 import Attached, Console, Device, Failure, Place, full
+with Console(options=["--history", "5"]) as console:
+    answer: List[str] = console.ask("STEP")
+    registers: Dict[str, str] = console.registers(0)
+    digits: str = console.number(Place("A", (0,)))
+    status: int = console.end()
+session: Attached = Attached(devices=[Device()])
+reply = full(5)
+console.registers("0")
+"""
+        done = run("mypy", "--cache-dir", self.path("cache"), self.file(script.encode(), "own.py"))
+        found = [line.partition("own.py:")[2] for line in done.out.splitlines() if "own.py:" in line]
+        self.assertEqual(['10: error: Argument 1 to "registers" of "Console" has incompatible type "str"; expected "int"  [arg-type]'], found)
 
     @unittest.skipUnless(shutil.which("ruff"), "ruff is not installed")
     def test_style(self):
@@ -63,10 +81,42 @@ class Package(Case):
             self.assertNotIn("the values of options", text)
 
     def test_imports(self):
-        """No command is imported by another module. tests/test_rooms.py has which rooms import which."""
+        """No command is imported by another module."""
         for path in glob.glob(os.path.join(TOOLS, "pp6600", "**", "*.py"), recursive=True):
             text, below = read(path), os.path.relpath(path, os.path.join(TOOLS, "pp6600"))
             with self.subTest(below):
                 self.assertEqual([], re.findall(r"^from \.*commands\S* import .*", text, re.M))
                 if below.startswith("front/commands"):
                     self.assertEqual([], [name for name in re.findall(r"^from \.(\w+) import", text, re.M) if name in COMMANDS])
+
+
+def upward(found, order):
+    """Returns the imports that go from a room to one above it, or to one that is not in the table."""
+    return sorted((user, used) for user, used in found
+                  if not {room_of(user), room_of(used)} <= set(order) or order.index(room_of(used)) < order.index(room_of(user)))
+
+
+class Rooms(Case):
+    def test_imports_go_down(self):
+        """If an import goes up, move what it needs down."""
+        self.assertEqual([], upward(IMPORTS, USES["order_of_rooms"]()))
+
+    def test_every_room_is_in_the_table(self):
+        folders = [entry.name for entry in os.scandir(USES["PACKAGE"]) if entry.is_dir() and entry.name[0] != "_"]
+        self.assertEqual(sorted(folders), sorted(USES["order_of_rooms"]()))
+
+    def test_engine_needs_no_room(self):
+        self.assertEqual([], [pair for pair in IMPORTS if room_of(pair[0]) == "engine"])
+
+    def test_second_simulator_stands_alone(self):
+        """What checks the tools, engine/plain, imports nothing of them."""
+        modules = {USES["module_at"](path): path for path in glob.glob(os.path.join(USES["PACKAGE"], "engine", "plain", "*.py"))}
+        found = {used for module, path in modules.items() for used in imported_by(module, read(path), modules)}
+        self.assertEqual([], [used for used in found if used not in modules])
+
+    def test_every_way_to_import_is_seen(self):
+        text = ("from ..a.b import c\nfrom ..a import d\nfrom .. import a\nfrom pp6600.a.b import c\ndef f():\n    from ..a import e\n"
+                "import os\nimport pp6600.a.f\n")
+        modules = {"a.__init__", "a.b", "a.d", "a.e"}
+        self.assertEqual(["a.__init__", "a.b", "a.b", "a.d", "a.e", "a.f"], sorted(imported_by("x.y", text, modules)))
+        self.assertEqual([("a.b", "x.y")], upward({("a.b", "x.y"), ("x.y", "a.b")}, ["x", "a"]))

@@ -6,8 +6,9 @@ import signal
 import stat
 import unittest
 
-from tests.debug_client import HAS_GO, DebugCase, Refusal
+from tests.debug_client import HAS_GO, LOADER, DebugCase, Refusal
 from tests.debug_dialogue import FOLDER, cases, files, performed, text_of
+from tests.fixtures import DECK
 from tests.support import PATIENCE, add_tests, read
 
 LOOPS = read(FOLDER, "loops").splitlines()
@@ -93,7 +94,8 @@ class BadHands(DebugCase):
                            (b"Content-Length: 1\r\n\r\n{", "is not JSON"),
                            (b'Content-Length: 13\r\n\r\n{"command":1}', "is not a request")):
             with self.subTest(data):
-                client = self.loader()
+                client = self.own_client()
+                client.launch(script=self.script(LOADER), deck=DECK)
                 folder = os.path.dirname(client.listing())
                 client.process.stdin.write(data)
                 client.process.stdin.close()

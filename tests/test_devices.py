@@ -7,9 +7,9 @@ import re
 from tests.cases import stored_blocks
 from tests.support import EXAMPLES, PYTHON, Case, add_tests, program, read, run, write
 
-from pp6600 import Attached, Console, Failure
+from pp6600 import Attached, Failure
 from pp6600.run.device import Event
-from pp6600.devices.options import NAMES, device_of, script_with
+from pp6600.devices.options import NAMES, device_of
 from pp6600.devices.card_reader import CardReader
 from pp6600.devices.console_display import ConsoleDisplay
 from pp6600.devices.controller import Controller, ControllerState
@@ -19,7 +19,7 @@ from pp6600.devices.magnetic_tape import MagneticTape
 from pp6600.devices.paper_tape import PaperTape
 from pp6600.devices.pictures import Mark, Picture, braille, svg
 from pp6600.devices.tape_file import read_tape, write_tape
-from pp6600.front.film.device_pictures import moments_of, pictures_of
+from pp6600.front.film.device_pictures import pictures_of
 
 MARK = ()
 STATUSES, LEFTS, BUFFER = 0o1000, 0o1100, 0o2000  # cells
@@ -276,50 +276,6 @@ class Pictures(Case):
     def test_devices_that_show_nothing(self):
         for device in (PaperTape(), MagneticTape()):
             self.assertIsNone(device.picture(device.start))
-
-
-class Films(Case):
-    """The pictures of a film are those of the session."""
-
-    # FNC 7001, ACN, LDN 7, OAM 0112, FJM *, DCN, UJN 0100, and seven words
-    SCRIPT = ("SET M 0 100 7710 7001 7410 1407 7310 112 6610 106\nSET M 0 110 7510 366 6100 7200 1411 2425 102 304\n"
-              "SET M 0 120 506\nSET P 0 100\nSTEP 300\nBACK 60\nSTEP 20\nSET M 0 114 555\nSTEP 400\nBACK 150\nFORWARD 30\n")
-
-    def filmed(self):
-        """Returns the pictures of a film of the script with a console display, and the answer of each moment."""
-        words, display = [program()], ConsoleDisplay()
-        lines = script_with(words, [display], self.SCRIPT.encode())[0].decode().splitlines()
-        with Console(words) as console:
-            answers = [answer for answer, _ in moments_of(console, lines)]
-        return pictures_of(words, [display], lines)["pictures"], answers
-
-    def shown(self, film, moment):
-        """Returns the picture that a film shows at a moment."""
-        shown = film["devices"][0]["shown"]
-        return "".join(f"{film['lines'][number]}\n" for number in next(one for first, one in reversed(shown) if first <= moment))
-
-    def pictures(self):
-        """Returns the picture of the session after each of its lines, turn by turn."""
-        session = Attached([program()], [ConsoleDisplay()])
-        self.addCleanup(session.close)
-        found = []
-        for line in self.SCRIPT.splitlines():
-            is_step = line.startswith("STEP")
-            for one in ["STEP"] * int(line.split()[1], 8) if is_step else [line]:
-                session.act(one)
-                picture = svg(session.devices[0].picture(session.state()))
-                found += [picture] if is_step or line.startswith(("BACK", "FORWARD")) else []
-        return found
-
-    def test_pictures(self):
-        """Each turn and each step back is a moment, and so is each reply, which changes no picture."""
-        (film, answers), wanted = self.filmed(), self.pictures()
-        moments = [moment for moment, answer in enumerate(answers, 1) if answer.startswith(("TURNS", "BACK", "FORWARD"))]
-        self.assertEqual(wanted, [self.shown(film, moment) for moment in moments])
-        self.assertGreater(len(set(wanted)), 5)
-        self.assertEqual(len(answers) + 1, film["moments"])
-
-    def test_without_a_picture(self):
         self.assertEqual({}, pictures_of([program()], [PaperTape()], []))
 
 

@@ -4,9 +4,10 @@ import json
 import os
 import re
 
+from tests.cases import part
 from tests.film_blocks import BLOCKS, BlockCase
 from tests.films import DEVICES, PageCase, about, class_page, random_session, shown_film
-from tests.support import add_tests, read
+from tests.support import TOP, add_tests, read
 
 from pp6600.front.keys import ROWS
 
@@ -48,6 +49,18 @@ class Tables(PageCase):
         self.assertEqual(set(), {text for name, one in meanings.items() if name[1:] != "x" for text in one.split("\n")} - said)
 
 
+class Card(PageCase):
+    def test_printed(self):
+        """docs/card.html is one sheet of A4 on a printer."""
+        self.browser.ask("Page.navigate", url=f"file://{os.path.join(TOP, 'docs', 'card.html')}")
+        self.browser.wait_for("document.readyState === 'complete' && document.title")
+        self.browser.paper(self.path("card.pdf"))
+        data = part(self.folder, "card.pdf")
+        self.assertEqual(1, len(re.findall(rb"/Type /Page\b(?!s)", data)))
+        sizes = {tuple(round(float(size)) for size in found) for found in re.findall(rb"/MediaBox \[0 0 ([\d.]+) ([\d.]+)\]", data)}
+        self.assertEqual({(595, 842)}, sizes)
+
+
 class Lanes(BlockCase):
     def test_as_they_grow(self):
         """What is added at the end is in the lanes: they are as they are if all is drawn anew."""
@@ -59,7 +72,7 @@ class Lanes(BlockCase):
 
 class Screens(PageCase):
     """Each look in each size of windows, light and dark: nothing is wider or higher than the window, and the header is low. The variable
-    SCREENS names a folder in which the pictures stay."""
+    SCREENS names a folder in which pictures of all stay; without it there are those of the first size."""
 
     SIZES = ((1280, 800), (1920, 1080), (1024, 768), (800, 600), (390, 844))
     FITS = """(() => { const { scrollWidth, scrollHeight } = document.documentElement, header = document.querySelector("header").getBoundingClientRect();
@@ -78,12 +91,13 @@ class Screens(PageCase):
                     self.browser.wait_for("!page.session.client.isBusy")
                     self.value("new Promise((done) => requestAnimationFrame(() => setTimeout(done, 50)))")
                     picture = os.path.join(folder, f"{name}-{look}-{width}{'-dark' if dark else ''}.png")
-                    self.browser.picture(picture)
                     with self.subTest(picture=os.path.basename(picture)):
                         fits, header = self.value(self.FITS)
                         self.assertTrue(fits)
                         self.assertLessEqual(header, 0.15 if width >= 1280 else 0.25)
-                        self.assertGreater(os.path.getsize(picture), 10000)
+                        if width == self.SIZES[0][0] or "SCREENS" in os.environ:
+                            self.browser.picture(picture)
+                            self.assertGreater(os.path.getsize(picture), 10000)
 
     def test_film(self):
         self.pictures("film", shown_film("overwritten-loader"), "#turn=405&place=M+0+106", ("debug", "projector"))

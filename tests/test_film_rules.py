@@ -1,5 +1,6 @@
-"""The rules of a film's page, in Chromium, and where it is there in Firefox: each number is the simulator's, a look changes nothing, an action in
-the past begins a branch, nothing is lost. Expected values are those of docs/FILM.md and of the runs' notes."""
+"""The rules of a film's page where Firefox is there: each number is the simulator's, a look changes nothing, an action in the past begins
+a branch, nothing is lost. In Chromium these are in tests/film.txt and tests/test_film_walk.py; here is what needs its protocol, and the
+page of a class. Expected values are those of docs/FILM.md and of the runs' notes."""
 
 import json
 import os
@@ -24,8 +25,8 @@ CHANNELS = """[...document.querySelectorAll(".channels tr:not(:last-child)")].ma
   row.querySelector("[data-place^=STATE]").textContent, row.querySelector(".n[data-place^=H]").textContent])"""
 
 
-class Rules:
-    """What both browsers are asked. A case has the browser."""
+class Asked:
+    """Asks the page of a browser, which a case has."""
 
     def js(self, text):
         """Runs statements in the page. Returns what they return."""
@@ -37,6 +38,19 @@ class Rules:
 
     def open_counter(self, address=""):
         self.browser.open(self.film(script=COUNTER), address)
+
+    def test_a_key_is_one_drawing(self):
+        """But a machine that is busy shows that it is, and a turn that takes long comes before its answer."""
+        self.open_counter()
+        self.js("session.client.hears.busy = () => {}")
+        found = self.js("""moves.moveTo(20); await idle(); let before = store.drawings; hands.do("on"); await idle();
+          const inFilm = store.drawings - before; moves.moveTo(store.state.film.last); await idle(); before = store.drawings;
+          await hands.do("on"); await idle(); return [inFilm, store.drawings - before]""")
+        self.assertIn(found, ([1, 1], [1, 2]))
+
+
+class Rules(Asked):
+    """What Firefox is asked."""
 
     # ---- truth
 
@@ -104,17 +118,8 @@ class Rules:
         self.assertEqual([["the run", "SET A 0 3"], 3, None], self.js("""
           await session.restore(store.state.offer.record); return [names(), store.state.film.number("A", 0), store.state.offer]"""))
 
-    def test_a_key_is_one_drawing(self):
-        """But a machine that is busy shows that it is, and a turn that takes long comes before its answer."""
-        self.open_counter()
-        self.js("session.client.hears.busy = () => {}")
-        found = self.js("""moves.moveTo(20); await idle(); let before = store.drawings; hands.do("on"); await idle();
-          const inFilm = store.drawings - before; moves.moveTo(store.state.film.last); await idle(); before = store.drawings;
-          await hands.do("on"); await idle(); return [inFilm, store.drawings - before]""")
-        self.assertIn(found, ([1, 1], [1, 2]))
 
-
-class InChromium(Rules, PageCase):
+class InChromium(Asked, PageCase):
     """In Chromium, with what needs its protocol."""
 
     def test_two_tabs(self):
@@ -142,14 +147,6 @@ class InChromium(Rules, PageCase):
             self.browser.session = None
             self.browser.ask("Target.closeTarget", targetId=target)
             self.browser.session = first
-
-    def test_saved_page(self):
-        """The saved file has the tree, the drafts, and what is solved."""
-        self.open_counter()
-        self.browser.save_into(self.folder)
-        self.js("moves.moveTo(20); await session.type(['SET A 0 3']); editor.edit('          LDN    1\\n'); await sharing.savePage()")
-        self.browser.open(self.saved("session.html"))
-        self.assertEqual([["the run", "SET A 0 3"], 3, "          LDN    1\n"], self.js("return [names(), store.state.film.number('A', 0), store.state.editor.text]"))
 
 
 @unittest.skipUnless(firefox.found(), "there is no Firefox")
@@ -247,8 +244,7 @@ add_tests(BadSurroundings, BadSurroundings.check, {
 class Solve(PageCase):
     """The page of a class, beside its blocks in tests/film.txt."""
 
-    def js(self, text):
-        return self.value(f"(async () => {{ {BEGIN} {text} }})()")
+    js = Asked.js
 
     def test_sizes(self):
         """docs/EXERCISES.md says how many million bytes are handed out."""

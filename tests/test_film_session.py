@@ -2,17 +2,17 @@
 docs/FILM.md, and of the program and the tools for the same lines."""
 
 import json
-import os
 import random
 
 from tests.film_blocks import BLOCKS, BlockCase
 from tests.films import DEVICES, PageCase, about, random_session, shown_film
 from tests.support import add_tests, program, read, tool
 
+from pp6600 import Attached, Console
+from pp6600.devices.console_display import ConsoleDisplay
+from pp6600.devices.options import script_with
 from pp6600.devices.pictures import svg
-from pp6600.run.attached import Attached
-from pp6600.run.device import drawn
-from pp6600.devices.options import device_of
+from pp6600.front.film.device_pictures import moments_of
 
 # In the page: of each line of the origin of a place at the end of the film the place and number, and the turn.
 PAGE_LINES = """(([name]) => { const { film } = page.store.state, rows = m_machine_origins.originLines(film, film.placeNamed(name));
@@ -63,27 +63,43 @@ class Devices(SessionCase):
     PICTURE = "document.querySelector('.pictures .picture').innerHTML"
     SAID = "(document.querySelector('.pictures p')?.textContent ?? '')"
 
+    # FNC 7001, ACN, LDN 7, OAM 0112, FJM *, DCN, UJN 0100, and seven words
+    SCRIPT = ("SET M 0 100 7710 7001 7410 1407 7310 112 6610 106\nSET M 0 110 7510 366 6100 7200 1411 2425 102 304\n"
+              "SET M 0 120 506\nSET P 0 100\nSTEP 300\nBACK 60\nSTEP 20\nSET M 0 114 555\nSTEP 400\nBACK 150\nFORWARD 30\n")
+
+    def pictures(self):
+        """Returns the picture of the session after each of its lines, turn by turn."""
+        session = Attached([program()], [ConsoleDisplay()])
+        self.addCleanup(session.close)
+        found = []
+        for line in self.SCRIPT.splitlines():
+            is_step = line.startswith("STEP")
+            for one in ["STEP"] * int(line.split()[1], 8) if is_step else [line]:
+                session.act(one)
+                picture = svg(session.devices[0].picture(session.state()))
+                found += [picture] if is_step or line.startswith(("BACK", "FORWARD")) else []
+        return found
+
     def test_console_display(self):
-        """docs/FILM.md: the picture at each moment is the device's; beyond the script the page says that it has none."""
-        device = device_of("console_display@10")
-        script = [line if line[:4] != "STEP" else "STEP 1400" for line in read("examples", "console-display", "script").splitlines()]
-        shown, moment = {}, 0
-        with Attached([program()], [device]) as run:
-            for line in script:
-                for part in ["STEP 1"] * int(line.split()[1], 8) if line.startswith("STEP") else [line]:
-                    before = len(run.sent)
-                    answer = run.act(part)
-                    moment += sum(line.split()[0] in ("SET", "STEP", "WATCH") for line in run.sent[before:]) if answer else 0
-                    shown[moment] = drawn(device, run.state(), svg)
-        self.browser.open(self.film("--device", "console_display@10", script="".join(f"{line}\n" for line in script)))
-        self.assertEqual(moment, self.value("page.store.state.film.count - 1"))
-        for at in random.Random(1).sample(sorted(shown), 12) + [moment]:
+        """docs/FILM.md: each turn and each step back is a moment with the picture of the session, and so is each reply, which changes
+        none; beyond the script the page says that it has none."""
+        words, wanted = [program()], self.pictures()
+        lines = script_with(words, [ConsoleDisplay()], self.SCRIPT.encode())[0].decode().splitlines()
+        with Console(words) as console:
+            answers = [answer for answer, _ in moments_of(console, lines)]
+        moments = [moment for moment, answer in enumerate(answers, 1) if answer.startswith(("TURNS", "BACK", "FORWARD"))]
+        self.assertEqual((len(moments), True), (len(wanted), len(set(wanted)) > 5))
+        self.browser.open(self.film("--device", "console_display@10", script=self.SCRIPT))
+        self.assertEqual(len(answers), self.value("page.store.state.film.count - 1"))
+        shown = list(zip(moments, wanted))
+        for at, picture in [*random.Random(1).sample(shown, 20), *shown[-5:]]:
             with self.subTest(moment=at):
                 self.value(f"page.moves.moveTo({at})")
-                wanted = json.dumps("".join((shown[at] or "").splitlines()))
-                self.assertTrue(self.value(f"((one) => {{ one.innerHTML = {wanted}; return one.innerHTML === {self.PICTURE}; }})"
+                text = json.dumps("".join(picture.splitlines()))
+                self.assertTrue(self.value(f"((one) => {{ one.innerHTML = {text}; return one.innerHTML === {self.PICTURE}; }})"
                                            "(document.createElement('div'))"))
                 self.assertEqual("", self.value(self.SAID))
+        self.value(f"page.moves.moveTo({len(answers)})")
         self.act("STEP 1")
         self.assertEqual("this page has no ConsoleDisplay: this is what it showed at the end of the script", self.value(self.SAID))
         self.value("page.exercises.show('begun', { script: 'STEP 5\\n', deck: '', panel: '' })")

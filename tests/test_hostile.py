@@ -6,15 +6,17 @@ import shutil
 import sys
 import sysconfig
 
-from tests.fixtures import GIVEN, WITH_SIMULATOR, WITHOUT
+from tests.fixtures import GIVEN, WITH_SIMULATOR
 from tests.support import TOP, Case, add_tests, lasting_room, program, run, write
 
 SCRIPT = write(os.path.join(lasting_room(), "script"), "STEP\n")
 SOLUTION = os.path.join(TOP, "exercises", "exchange", "solution")
-# The programs of a checkout by their folder, each with words for which it has something to do, or shows its help.
+# The programs of a checkout by their folder, each with words for which it has something to do, or shows its help. The tools are copies
+# of one launcher, as tests/test_core.py says: here are those that import most.
 IN_FOLDERS = {
     "": {"pp6600-python": [SCRIPT]},
-    "tools": {**{name: [*words, SCRIPT] for name, words in WITH_SIMULATOR.items()}, **WITHOUT, "debug-adapter": [], "panel": ["--help"]},
+    "tools": {**{name: [*WITH_SIMULATOR[name], SCRIPT] for name in ("film", "origin", "talk")},
+              "assemble": [], "debug-adapter": [], "panel": ["--help"]},
     "tools/pp6600/engine/plain": {"__main__.py": [SCRIPT]},
     "exercises": {"check-exercise": ["exchange", SOLUTION], "grade": [os.path.dirname(SOLUTION)], "hand-out": ["--help"], "new": ["--help"]},
     "share": {"colours": ["--check"], "deb": ["--help"], "install": ["--help"], "manual": ["--print"], "npm": ["--help"], "release": ["--help"],

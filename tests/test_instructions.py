@@ -109,6 +109,7 @@ class Instructions(Case):
         self.assertEqual(set(range(64)) - set(range(0o30, 0o60)), set(cases) & set(range(64)))
 
     def test_origins(self):
-        """A session asks for the origin of what each of them wrote, but a state of a channel."""
-        named = set(re.findall(r"\b[A-Z]{3}\b", read("tests", "sessions", "origin-of-each-code.txt")))
-        self.assertEqual({"PSN", "ACN", "DCN"}, set(NAMES) - named)
+        """A session has a turn of each code, and asks for the origin of what each of them wrote, but a state of a channel."""
+        transcript = read("tests", "sessions", "origin-of-each-code.txt")
+        self.assertEqual({f"{code:02o}" for code in range(64)}, set(re.findall(r"^\$ turn [IEF] '(\d\d)", transcript, re.M)))
+        self.assertEqual({"PSN", "ACN", "DCN"}, set(NAMES) - set(re.findall(r"\b[A-Z]{3}\b", transcript)))

@@ -1,5 +1,5 @@
-"""The library libpp6600.so: the examples in C, what turns overwrote put back, and wrong options, rooms, counts and places. That it answers as
-the program does, tests/test_artefacts.py tries."""
+"""The library libpp6600.so: the examples in C, random calls, and wrong rooms, counts and places. That it answers as the program
+does, tests/test_artefacts.py tries; wrong options are in tests/test_engine.py."""
 
 import concurrent.futures
 import functools
@@ -13,13 +13,13 @@ import unittest
 
 from tests import library_calls
 from tests.built import artefact
-from tests.generator import BUSY, WATCHED as WATCHING, Maker
+from tests.generator import BUSY, Maker
 from tests.support import PATIENCE, PROVED, TOP, Case, blocks, program, read
 
 from pp6600.engine import library
 from pp6600.engine.assembler import Assembler
 from pp6600.engine.interface import Form
-from pp6600.engine.library import LibrarySession, Refused
+from pp6600.engine.library import LibrarySession
 from pp6600.failure import Failure
 
 CRATE = os.path.join(TOP, "crates", "pp_library")
@@ -58,35 +58,6 @@ class LibraryCase(Case):
 
 
 class Machines(LibraryCase):
-    """Random machines."""
-
-    def test_what_actions_overwrote(self):
-        """Put back, that of the last one first, it gives the machine as it was, and so does undoing; performed again they do the same."""
-        for seed in range(40):
-            session = self.open(history=500, central=32768)
-            session.answer("\n".join(Maker(seed, (BUSY, WATCHING)[seed % 2]).script()).encode())
-            session.answer(b"DEADSTART\n" * (seed % 3 == 0))
-            before, slot = session.numbers(0, PLACES), session.numbers(106583, 1)[0]
-            moments, _ = session.turns(200)
-            olds = [(place, session.numbers(place, 1)[0]) for place in (8192 + 4095, 8192)]
-            self.assertEqual(session.answer(b"SET M 2 7777 1 2\n").refused, 0)
-            actions = [*moments, library.Moment(10, olds)]
-            now, half = session.numbers(0, PLACES), len(actions) // 2
-            after = list(now), session.counts()
-            for moment in reversed(actions):
-                for place, number in reversed(moment.olds):
-                    now[place] = number
-            with self.subTest(seed=seed):
-                self.assertEqual(now, before)
-                self.assertEqual([moment.processor for moment in moments], [(slot + turn) % 10 for turn in range(len(moments))])
-                self.assertLessEqual(max(len(moment.olds) for moment in moments), 44)
-                self.assertTrue(session.back(len(actions)))
-                self.assertEqual(session.numbers(0, PLACES), before)
-                self.assertIsNone(session.again(len(actions) + 1))
-                self.assertEqual(session.again(half) + session.again(0) + session.again(len(actions) - half), actions)
-                self.assertEqual((session.numbers(0, PLACES), session.counts()), after)
-            session.close()
-
     def test_threads(self):
         """Sessions in threads of their own come to what they come to one after another."""
         def numbers_after(seed):
@@ -111,16 +82,6 @@ class Machines(LibraryCase):
 
 class WrongHands(LibraryCase):
     """Wrong options, rooms, counts and places get a status, and change nothing."""
-
-    def test_options_that_the_program_refuses(self):
-        for options, line in (
-                ({"history": 0}, "BAD ARGUMENTS"), ({"history": 10001}, "BAD ARGUMENTS"), ({"central": 4096}, "BAD ARGUMENTS"),
-                ({"reader": 12}, "BAD CHANNEL"), ({"printer": 255}, "BAD CHANNEL"), ({"reader": 3, "printer": 3}, "SAME CHANNEL"),
-                ({"history": 0, "reader": 12}, "BAD ARGUMENTS"), ({"deck": b"1\n8\n", "reader": 11}, "DECK LINE 2 NOT OCTAL"),
-                ({"panel": b"1 2 3"}, "PANEL PANEL COUNT"), ({"deck": b"1\n" * 2001}, "DECK TOO LONG"), ({"history": -1}, "BAD ARGUMENTS")):
-            with self.subTest(options=options), self.assertRaisesRegex(Refused, f"^pp6600: {line}$") as caught:
-                self.open(**options)
-            self.assertEqual(caught.exception.status, 2)
 
     def test_a_line_without_room_is_not_performed(self):
         session = self.open()

@@ -10,7 +10,7 @@ import os
 import random
 import re
 
-from .library_assembler import listing
+from .assembler_sources import listing
 from .support import TOP, Case, needs_library, read
 
 from pp6600.failure import Failure

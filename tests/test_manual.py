@@ -6,7 +6,6 @@ import re
 import shutil
 import unittest
 
-from tests.browser import found
 from tests.installing import alone
 from tests.support import TOOLS, TOP, Case, lasting_room, names_of_codes, program, read, tool
 
@@ -91,7 +90,7 @@ class Version(Case):
 
 
 class Card(Case):
-    """The card says what the other pages say, and its forms are apart."""
+    """The card says what the other pages say, and its forms are apart. tests/test_film_page.py prints it."""
 
     def test_errors(self):
         own = set()
@@ -117,17 +116,3 @@ class Card(Case):
         grid = re.findall(r"^([0-3])  ((?:[0-7]{2} ){8})", read("docs", "CARD.md"), flags=re.M)
         found = {8 * int(row) + column: int(d, 8) for row, back in grid for column, d in enumerate(back.split())}
         self.assertEqual({distance: 0o77 - distance if distance else 0 for distance in range(0o40)}, found)
-
-    def test_printed(self):
-        """It is one sheet of A4 on a printer."""
-        browser = found()
-        if not browser:
-            self.skipTest("there is no browser here")
-        paper = self.path("card.pdf")
-        alone(browser, "--headless", "--no-sandbox", "--disable-gpu", f"--user-data-dir={self.path('profile')}", "--no-pdf-header-footer",
-              f"--print-to-pdf={paper}", f"file://{os.path.join(TOP, 'docs', 'card.html')}")
-        with open(paper, "rb") as file:
-            data = file.read()
-        self.assertEqual(1, len(re.findall(rb"/Type /Page\b(?!s)", data)))
-        sizes = {tuple(round(float(size)) for size in found) for found in re.findall(rb"/MediaBox \[0 0 ([\d.]+) ([\d.]+)\]", data)}
-        self.assertEqual({(595, 842)}, sizes)

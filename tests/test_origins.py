@@ -1,23 +1,30 @@
-"""Where numbers come from, as the engines answer it: each number is the one that its origin makes, the answer of the simulator in Python is
-that of the library, and what is read is needed.
+"""Where numbers come from, as the engines answer it: each number is the one that its origin makes, the answer of the simulator in
+Python is that of the library, and what is read is needed; and as tools/origin follows it, beside the last writes of places turn by turn.
+Whole answers of the tool are in tests/sessions.
 
-    PP6600_ORIGINS=SEED:COUNT   compares COUNT random sessions from seed SEED on; the default is 0:150
+    PP6600_ORIGINS=SEED:COUNT   compares COUNT random sessions from seed SEED on, the tool by one in ten; the default is 0:150
 """
 
 import collections
 import os
 import random
+import re
+from typing import NamedTuple, Optional, Tuple
 
 from tests.generator import Maker
-from tests.support import Case, program, write
+from tests.support import Case, names_of_codes, program, tool, write
 
 from pp6600.engine import origins as of
 from pp6600.engine.choose import engine_of, library_named
+from pp6600.engine import interface as flat
 from pp6600.engine.interface import Rejection
 from pp6600.engine.plain import places
 from pp6600.engine.plain_origins import next_turn
-from pp6600.engine.plain_engine import PlainEngine
+from pp6600.engine.plain_engine import PlainEngine, flat_place
+from pp6600.run.forms import Place
+from pp6600.run.written import writes_of
 
+SEED, COUNT = map(int, os.environ.get("PP6600_ORIGINS", "0:150").split(":"))
 TURNS = 60  # of a session, after its lines
 NO_NUMBER = None
 
@@ -70,9 +77,7 @@ def number_of(origin, number_at, deck=()):
     return deck[card][column] if column < len(deck[card]) else 0
 
 
-class Explained(Case):
-    """Sessions on both engines."""
-
+class SessionCase(Case):
     def session(self, seed):
         """Returns the words of a session, and its lines."""
         session = Maker(seed).session()
@@ -80,6 +85,10 @@ class Explained(Case):
             write(self.path(name), data)
         words = [self.path(word) if word in session.files else word for word in session.words if word != "script"]
         return words, [line.removesuffix(b"\r").decode("latin-1") for line in session.lines]
+
+
+class Explained(SessionCase):
+    """Sessions on both engines."""
 
     def engines(self, words):
         """Returns both engines with these options, or that in Python alone if there is no library for this machine; none if they are refused."""
@@ -106,8 +115,7 @@ class Explained(Case):
                 self.assertEqual(number_of(origin, None), plain.numbers(origin.place, 1)[0], (seed, origin))
 
     def test_random_sessions(self):
-        first, count = map(int, os.environ.get("PP6600_ORIGINS", "0:150").split(":"))
-        for seed in range(first, first + count):
+        for seed in range(SEED, SEED + COUNT):
             words, lines = self.session(seed)
             engines = self.engines(words)
             for engine in engines:
@@ -122,6 +130,156 @@ class Explained(Case):
 def alike(turn):
     """Returns a turn with the origins of each part in the order of their places, and the control places in order."""
     return turn._replace(own=sorted(turn.own), others=sorted(turn.others), control=sorted(turn.control))
+
+
+# ---- the tool
+
+LINE = re.compile(r' *(M [0-7]+ [0-7]+|\w+ [0-7]+) (?:([0-7]+)|"."|LINE END|\.\.)(?: TURN ([0-7]+))? (.*?)(?:, NOW [0-7]+)?$')
+TIMES = re.compile(r" ([0-7]+) TIMES SINCE TURN ([0-7]+)")
+CODE_NAMES = names_of_codes()
+
+
+class LastWrite(NamedTuple):
+    """The last write of a place: in which turn (None at the start), how the tool's line goes on after that, and the writes that it has
+    its number from, each with the parts of the word that it read, or None for all."""
+
+    place: Place
+    turn: Optional[str] = None
+    cause: str = "START"
+    number: Optional[int] = 0  # None if another one came there in the same turn
+    sources: Tuple = ()
+    is_joined: bool = False  # of parts
+    is_word: bool = False  # a word that was moved
+
+    def wanted(self, parts):
+        """Yields its sources, each with the parts that are wanted of it, if these parts of its own word are."""
+        for at, (source, own) in enumerate(self.sources):
+            if self.is_joined or parts is None or not self.is_word:
+                of_source = () if self.is_joined and parts is not None and at not in parts else own
+            else:
+                of_source = tuple(part for part in parts if own is None or part in own)
+            if of_source != ():
+                yield source, of_source
+
+    def all(self):
+        """Returns it and all writes behind it."""
+        found, todo, seen = [], [(self, None)], set()
+        while todo:
+            one, parts = todo.pop()
+            if (id(one), parts) not in seen:
+                seen.add((id(one), parts))
+                found.append(one)
+                todo += one.wanted(parts)
+        return found
+
+
+class Noted:
+    """A session in Python, with the last write of each place."""
+
+    def __init__(self, words):
+        self.engine, self.ahead_of_it = PlainEngine(words), PlainEngine(words)
+        self.writes, self.kept, self.ahead = {}, [], []  # of each action whether it is a turn, and the writes before it and by it
+
+    def perform(self, number, line):
+        """Performs the line with a number."""
+        kind, *rest = (self.ahead_of_it.answers(f"{line}\n") or ["NOTE"])[0].split()
+        for _ in range(int(rest[0], 8) if kind in ("TURNS", "BACK", "FORWARD") else kind == "OK"):
+            if kind in ("BACK", "FORWARD"):
+                source, target, which = (self.kept, self.ahead, 1) if kind == "BACK" else (self.ahead, self.kept, 2)
+                target.append(source.pop())
+                self.writes.update(target[-1][which])
+                getattr(self.engine, kind.lower())(1)
+            else:
+                made = self.turn() if kind == "TURNS" else self.setting(number, line)
+                self.kept.append((kind == "TURNS", {place: self.last(place) for place in made}, made))
+                self.writes.update(made)
+                self.ahead.clear()
+
+    def last(self, place):
+        return self.writes.setdefault(place, LastWrite(Place.at(place)))
+
+    def number(self, place):
+        return self.engine.numbers(place, 1)[0]
+
+    def now(self, is_turn=True):
+        return f"{sum(one for one, *_ in self.kept) + is_turn:o}"
+
+    def setting(self, number, line):
+        """Performs a line that is an action. Returns what it wrote."""
+        self.engine.answers(f"{line}\n")
+        word = line.upper().split()[0]
+        cause = "DEADSTART" if word == "DEADSTART" else f"SET LINE {number} WORD"
+        made = map(flat_place, self.engine.machine.history[-1] if "WATCH" not in word else ())
+        return {place: LastWrite(Place.at(place), self.now(False), cause, self.number(place)) for place in made}
+
+    def turn(self):
+        """Makes a turn. Returns what it wrote. That P goes on is no write."""
+        card, column, machine = self.number(flat.CARD), self.number(flat.CARD + 1), self.engine.machine
+        (turn,), _ = self.engine.origins(1)
+        (code, d), made, now = divmod(turn.word, 0o100), {}, self.now()
+        where = "" if turn.kind == of.IN_BLOCK else f"AT {turn.address:04o} {CODE_NAMES[code]} {d:02o}"
+        later = {origin.place for origin in turn.others}
+        for one in writes_of(turn, self.number(flat.P + turn.processor)):
+            place, sources = one.origin.place, tuple((self.last(source.number), parts) for source, parts in one.sources)
+            number = None if place in later else self.number(place)
+            made[place] = LastWrite(one.place, now, f"PP {turn.processor:02o} {where}", number, sources, one.is_joined,
+                                    one.is_moved and one.place.kind in ("C", "XP"))
+        devices = {flat.REGISTERS + machine.reader: "CR STATUS", flat.REGISTERS + machine.printer: "LP", flat.CLOCK: "CLOCK"}
+        paper = {**self.writes, **made}.get(flat.REGISTERS + machine.printer)
+        for place, operation, _ in turn.others:
+            is_paper = flat.PAPER <= place < flat.SLOT
+            cause = "LP" if is_paper else devices.get(place, "")
+            cause = f"CR CARD {card:04o} COLUMN {column:03o}" if operation == of.PUNCHED else cause
+            made[place] = LastWrite(Place.at(place), now, cause, self.number(place), ((paper, None),) if is_paper else ())
+        return made
+
+
+class Followed(SessionCase):
+    """All that tools/origin finds behind a number is what was written, and all that is behind it is found."""
+
+    def check(self, seed):
+        words, lines = self.session(seed)
+        try:
+            noted = Noted(words)
+        except Rejection:
+            return
+        for number, line in enumerate(lines, 1):
+            noted.perform(number, line)
+        for place in self.chosen(noted, random.Random(seed)):
+            with self.subTest(seed=seed, place=place.text):
+                got = tool("origin", "--all", *words, *place.text.split(), self.path("script"))
+                self.compare(got.out.splitlines(), noted.last(place.number))
+
+    @staticmethod
+    def chosen(noted, choose):
+        """Returns places, mostly some that were written in turns, and of each kind alike."""
+        of_turns, others = {}, [Place("M", (3, 0o7000)), Place("Q", (5,))]
+        for one in noted.writes.values():
+            kind, length = one.place.kind, noted.number(flat.PAPER_LENGTH)
+            if kind in ("M", "A", "P", "Q", "C", "H", "XP") or kind == "LP" and one.place.numbers[0] < length:
+                (others if one.cause.startswith("SET") else of_turns.setdefault(kind, [])).append(one.place)
+        some = [choose.choice(of_turns[choose.choice(list(of_turns))]) for _ in range(5 if of_turns else 0)]
+        return some + choose.sample(others, 1)
+
+    def compare(self, lines, last):
+        """Checks that each line is a write behind the last one, and that each of these has a line, or that a line sums it up."""
+        writes, told, summed = {}, set(), []
+        for one in last.all():
+            writes.setdefault((one.place.text, one.turn), []).append(one)
+        for line in lines:
+            place, number, turn, rest = LINE.fullmatch(line).groups()
+            self.assertIn((place, turn), writes, line)
+            some = [one for one in writes[place, turn] if number is None or one.number in (None, int(number, 8))]
+            self.assertTrue(any(rest == "AS ABOVE" or rest.startswith(one.cause) for one in some), line)
+            told.add((place, turn))
+            if times := TIMES.search(rest):
+                summed.append((place, range(int(times[2], 8), int(turn, 8))))
+        self.assertEqual([], [(place, turn) for place, turn in writes.keys() - told if turn is None or not any(
+            place == one and int(turn, 8) in turns for one, turns in summed)])
+
+    def test_random_sessions(self):
+        for seed in range(SEED, SEED + max(COUNT // 9, 1)):
+            self.check(seed)
 
 
 # ---- what is read is needed

@@ -27,7 +27,7 @@ OTHERS = set("""ci crate doc lemma logic plant version specs proofs ghost prove 
     End Home WORD FILE FILE.html FUNCTION word /usr/local ~/.local ~/.pp6600_history PREFIX/bin PREFIX/libexec/pp6600/tools
     share/pp6600/exercises pp6600-VERSION-linux.tar.gz work.html
     libpp6600.so.1 PKG_CONFIG_PATH wasm-opt BigInt memory.grow grow XNAME SNAME OP redo crates/.checked /Q/NAME
-    WHO Who slot_text kept_text mutants/who_shows_p.edit pp_console/who_shows_p pp6600_watched BLANK""".split())
+    WHO Who slot_text kept_text mutants/who_shows_p.edit pp_console/who_shows_p pp6600_watched BLANK ABC""".split())
 COMMENT_OR_TEXT = re.compile(r'//[^\n]*|--[^\n]*|b?("(?:\\.|[^"\\])*")')
 OF_A_PROGRAM = re.compile(r"--?[a-z][a-z-]*|\b[A-Z][A-Z\d_]*\b|(?<=[\"'])\w+(?=[\"'])|(?<=def )\w+|(?<=class )\w+")
 PATH = re.compile(r"(?=.*\w)[~\w.*-]*/[\w./*-]*|[\w*-]+\.(?:antt|edit|html|md|py|rt|txt)")

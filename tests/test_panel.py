@@ -4,9 +4,9 @@ of README.md, docs/TUTORIAL.md, docs/TOOLS.md, docs/PYTHON.md and docs/PANEL.md.
 import os
 import re
 
-from tests.fixtures import BLOCKS_GO_ON, COMPLETES, DECK, LOADER
+from tests.fixtures import DECK, LOADER
 from tests.panels import BLOCKS, FIRST_PROGRAM, OVERWRITTEN, BlockCase, PanelCase, bottom, press
-from tests.support import EXAMPLES, TOP, Case, add_tests, blocks, read, run, tool
+from tests.support import EXAMPLES, TOP, Case, add_tests, blocks, read, tool
 
 from pp6600 import Console, Failure
 from pp6600.engine.plain import places
@@ -19,6 +19,11 @@ from pp6600.run.state import state_of
 
 LOADED = "--deck", DECK
 PROGRAMS = os.path.join(TOP, "tests", "programs")
+# By the tables of docs/MACHINE.md: in which states of its channel each instruction completes, and each block goes on or ends, and
+# what it waits for.
+COMPLETES = {0o70: ("F", "full"), 0o72: ("E", "empty"), 0o74: ("I", "inactive"), 0o75: ("EFX", "active"), 0o76: ("I", "inactive"),
+             0o77: ("I", "inactive")}
+BLOCKS_GO_ON = {0o71: ("IF", "full"), 0o73: ("IE", "empty")}
 
 
 class Blocks(BlockCase):

@@ -35,10 +35,10 @@ class TerminalCase(PanelCase):
         self.assertTrue(terminal.shows(text), f"{text!r} is not shown:\n" + "\n".join(terminal.text()))
 
     def assert_same_screen(self, terminal, lines):
-        """Waits until the terminal shows these lines."""
-        wanted = [line.rstrip() for line in lines]
-        terminal.wait_until(lambda one: one.text() == wanted)
-        self.assertEqual(wanted, terminal.text())
+        """Waits until the terminal shows these lines. It is not looked at again: after a suspension all is drawn twice."""
+        wanted, seen = [line.rstrip() for line in lines], []
+        terminal.wait_until(lambda one: seen.append(one.text()) or seen[-1] == wanted)
+        self.assertEqual(wanted, seen[-1])
 
 
 class Screens(TerminalCase):

@@ -1,9 +1,5 @@
-"""pp6600-python is the proved program's double: the cases of tests/cases.txt and of examples/, the sessions of the pages, and random ones.
-
-    PP6600_PYTHON=SEED:COUNT   compares COUNT random sessions from seed SEED on; the default is 0:15
-
-Here it is a program of its own, with the system's files, streams and statuses. tests/test_random.py compares more sessions in one
-process.
+"""pp6600-python is the proved program's double: the cases of tests/cases.txt and of examples/, and the sessions of the pages, in this
+process; and as a program of its own, with odd files and streams of the system. tests/test_random.py compares random sessions.
 """
 
 import contextlib
@@ -15,9 +11,11 @@ import subprocess
 
 from tests.cases import named
 from tests.fixtures import sessions
-from tests.generator import Maker
-from tests.support import EXAMPLES, PATIENCE, TOP, Case, add_tests, program, read, run, write, writer
+from tests.support import EXAMPLES, PATIENCE, TOP, Case, add_tests, program, read, write, writer
 from tests.ways import CaseTests
+
+from pp6600.engine.plain import program as plain
+from pp6600.engine.plain.machine import Machine
 
 PYTHON_PROGRAM = os.path.join(TOP, "pp6600-python")
 
@@ -26,10 +24,33 @@ class Cases(CaseTests):
     """What the pages demand of the program."""
 
     def check_python(self, case):
-        self.check(case, PYTHON_PROGRAM)
+        """A case; one that does not run in the plain way is run as a program."""
+        if case.how:
+            self.check(case, PYTHON_PROGRAM)
+        else:
+            self.compare(case.words, case.script, case.files, (case.out, case.err, case.status))
+
+    def check_session(self, session):
+        """A session of a page; the files that it names are those of examples/."""
+        words, script, answers = session
+        shutil.copytree(EXAMPLES, self.folder, dirs_exist_ok=True)
+        status = int(any(line.startswith("ERR ") for line in answers))
+        self.compare(words, "".join(script).encode(), {}, ("".join(answers).encode(), b"", status))
+
+    def compare(self, words, script, files, wanted):
+        """Runs it in this process, in the folder of the test."""
+        self.addCleanup(os.chdir, os.getcwd())
+        os.chdir(self.folder)
+        for name, data in files.items():
+            write(self.path(name), data)
+        answers = []
+        status, fault = plain.run(words, write(self.path("its input"), script), answers.append)
+        self.assertEqual(wanted, ("".join(answers).encode("latin-1"), fault.encode("latin-1"), status))
 
 
-add_tests(Cases, Cases.check_python, named())
+# tests/test_random.py has the limit of lines.
+add_tests(Cases, Cases.check_python, [(name, case) for name, case in named() if len(case.script) < 1000000])
+add_tests(Cases, Cases.check_session, sessions())
 
 
 @contextlib.contextmanager
@@ -98,17 +119,6 @@ class Compared(Case):
         self.addCleanup(os.chdir, os.getcwd())
         os.chdir(self.room())
 
-    def test_random(self):
-        seed, count = map(int, os.environ.get("PP6600_PYTHON", "0:15").split(":"))
-        for number in range(seed, seed + count):
-            session = Maker(number).session()
-            for name, data in session.all_files().items():
-                write(os.path.join(os.getcwd(), name), data)
-            if session.standard_input != ".":
-                with open("/dev/full", "wb") as full:
-                    self.compare(f"PP6600_PYTHON={number}:1", session.words, session.standard_input,
-                                 full if session.output_fails else subprocess.PIPE)
-
     def test_words(self):
         """Words of the command line that random sessions have seldom."""
         with open("script", "wb") as file:
@@ -153,9 +163,16 @@ class Compared(Case):
 
     def test_byte_limit(self):
         """A long line leaves three bytes of the 268,435,456: a line that they end is performed, and one that they do not end is not."""
+        size = (1 << 28) - 4
+        path = self.file(b"*" * size + b"\n")
         for rest, answers, status in ((b"XYZ", b"ERR 01 NOT A COMMAND\n", 1), (b"X\nYZ", b"ERR 01 NOT A COMMAND\n", 3), (b"WXYZ", b"", 3)):
-            with self.subTest(rest):
-                done = subprocess.run([program()], input=b"*" * ((1 << 28) - 4) + b"\n" + rest, capture_output=True, timeout=PATIENCE, check=False)
+            with self.subTest(rest), open(path, "r+b") as file:
+                file.seek(size + 1)
+                file.write(rest)
+                file.flush()
+                file.seek(0)
+                done = subprocess.run([program()], stdin=file, capture_output=True, timeout=PATIENCE, check=False)
+                file.truncate(size + 1)
                 wanted = b"ERR 05 LINE TOO LONG\n" + answers, b"pp6600: LINE LIMIT\n" * (status == 3), status
                 self.assertEqual(wanted, (done.stdout, done.stderr, done.returncode))
 
@@ -166,16 +183,6 @@ class Compared(Case):
                 file.write(b"*" * size + b"\r\nSTEP\n" + b"*" * size + b"\r")
             with self.subTest(size):
                 self.compare(size, [], "script")
-
-    def check(self, session):
-        """A session of a page; the files that it names are those of examples/."""
-        words, script, answers = session
-        shutil.copytree(EXAMPLES, self.folder, dirs_exist_ok=True)
-        done = run(PYTHON_PROGRAM, *words, script="".join(script), cwd=self.folder)
-        self.assertEqual(("".join(answers), "", int(any(line.startswith("ERR ") for line in answers))), done)
-
-
-add_tests(Compared, Compared.check, sessions())
 
 
 class Said(Case):
@@ -193,17 +200,14 @@ class Said(Case):
 
     def test_no_memory(self):
         """For the machine, or later."""
-        from pp6600.engine.plain.program import run as run_program
-
         def without_memory(*_):
             raise MemoryError
         with open("/dev/null") as script:
-            self.assertEqual((2, "pp6600: NO MEMORY\n"), run_program([], script.fileno(), print, without_memory))
-        self.assertEqual((2, "pp6600: NO MEMORY\n"), run_program([self.file(b"STEP\n")], 0, without_memory))
+            self.assertEqual((2, "pp6600: NO MEMORY\n"), plain.run([], script.fileno(), print, without_memory))
+        self.assertEqual((2, "pp6600: NO MEMORY\n"), plain.run([self.file(b"STEP\n")], 0, without_memory))
 
     def test_undo_records_are_small(self):
         """A turn's record has the numbers that it overwrote and no others: of a pass the P of its processor and the slot."""
-        from pp6600.engine.plain.machine import Machine
         machine = Machine()
         machine.turn()
         self.assertEqual(2, len(machine.history[-1]))

@@ -25,13 +25,14 @@ COMMAND = re.compile(r"^\$ (.*<<END.*\n(?:.*\n)*?END|.*)\n", re.M)  # with its o
 MARK = "====\n"
 OUTPUT = "bin/output"  # of a tool, for what reads it
 # A tool with words that need no shell, on what some commands write, a file, the lines that follow or nothing; where its output goes, or what
-# reads it; and whether its status is shown. Such a tool runs in the tests' own process.
+# reads it, and with it what it says; and whether its status is shown. Such a tool runs in the tests' own process.
 ALONE = re.compile(r"""(?:(printf\ '[^']*'(?:\ "[^"$`]*")*|echo\ [^|&;<>`$]*|\([^|&<>()]*\))\ \|\ )?
-                       tools/(?!talk|panel|debug)([\w-]+)((?:\ (?:[\w./:=,+@%-]+|'[^']*'))*)(?:\ <([\w./-]+)|\ <<END\n((?:.*\n)*)END)?
-                       (?:\ >([\w.-]+)|\ \|\ ((?!.*tools/|.*PIPESTATUS).*))?(;\ echo\ \$\?)?""", re.X)
+                       tools/(?!panel|debug|talk\ .*--save)([\w-]+)((?:\ (?:[\w./:=,+@%-]+|'[^']*'))*)(?:\ <([\w./-]+)|\ <<END\n((?:.*\n)*)END)?
+                       (?:\ >([\w.-]+)|(\ 2>&1)?\ \|\ ((?!.*tools/|.*PIPESTATUS).*))?(;\ echo\ \$\?)?""", re.X)
+ONE_BY_ONE = re.compile(r"; (?!echo \$\?)")  # between tools
 DEFINED = re.compile(r"([a-z]+)\(\) \{ (.*); \}")  # a function of the shell
 GIVEN = re.compile(r"\$(\d)|\$\{(\d):-(\w+)\}")  # what it is given, or what it takes in its place
-OUTSIDE = re.compile(r"\.py|/dev/std")  # code or files of the tests' own process
+OUTSIDE = re.compile(r"\.py|/dev/(?!null)")  # code or files of the tests' own process, and files without end
 LEAVES = re.compile(r"(?<!\()\b(?:cd|export) ")  # changes what a tool of this process would not see
 
 
@@ -47,9 +48,11 @@ class Shell:
         """Performs a command. Returns what it writes, standard error too."""
         self.functions.update(DEFINED.findall(command))
         self.is_here &= not LEAVES.search(command)
-        found = ALONE.fullmatch(self.as_called(command))
-        if found and self.is_here and not OUTSIDE.search(command):
-            return self.performed_here(*found.groups())
+        called = self.as_called(command)
+        found = [ALONE.fullmatch(called)]
+        found = found if found[0] else list(map(ALONE.fullmatch, ONE_BY_ONE.split(called)))
+        if all(found) and self.is_here and not OUTSIDE.search(command):
+            return "".join(self.performed_here(*one.groups()) for one in found)
         return self.written(command).decode("utf-8", "replace")
 
     def as_called(self, command):
@@ -60,14 +63,15 @@ class Shell:
         given = ["", *shlex.split(words), *[""] * 9]
         return GIVEN.sub(lambda mark: given[int(mark[1] or mark[2])] or mark[3] or "", self.functions[name])
 
-    def performed_here(self, source, name, words, path, typed, into, reader, shows_status):
+    def performed_here(self, source, name, words, path, typed, into, all_is_read, reader, shows_status):
         """Returns what a tool writes that runs in this process."""
         script = typed.encode() if typed else part(self.folder, path) if path else self.written(source) if source else b""
-        done = tool_here(name, *shlex.split(words), script=script.decode("latin-1"), folder=self.folder, is_one=not (into or reader))
+        done = tool_here(name, *shlex.split(words), script=script.decode("latin-1"), folder=self.folder,
+                         is_one=bool(all_is_read) or not (into or reader))
         shown = done.out
         if into or reader:
             write(os.path.join(self.folder, into or OUTPUT), done.out)
-            shown = done.err + (self.written(f"{{ {reader}\n}} <{OUTPUT}").decode() if reader else "")
+            shown = done.err * (not all_is_read) + (self.written(f"{{ {reader}\n}} <{OUTPUT}").decode() if reader else "")
         return shown + (f"{done.status}\n" if shows_status else "")
 
     def written(self, command):
