@@ -1,10 +1,11 @@
 #!/usr/bin/env python3
 """Tries mutants, many in one check of their crate: tests/mutants.py [CRATE ..]
 
-A mutant, crates/CRATE/must-fail/NAME.edit or mutants/NAME.edit, is code that is wrong on purpose. Those of a crate are applied at
-once, each in a function of its own, to a copy of the repository, and rt checks the crate there. A mutant is refused if a goal of the
-function that it changes is not proved, or a goal of one that names this function and no other that is changed. A goal may wait for
-the proof of what its function calls: so what is not refused is tried again, without what has been, and in the end alone.
+A mutant, crates/CRATE/must-fail/NAME.edit or mutants/NAME.edit, is code that is wrong on purpose. First a copy of the repository is
+checked as it is. Then the mutants of a crate are applied at once, each in a function of its own, to another copy, and rt checks the
+crate there, which begins with what it kept of the first. A mutant is refused if a goal of the function that it changes is not proved,
+or a goal of one that names this function and no other that is changed. A goal may wait for the proof of what its function calls: so
+what is not refused is tried again, without what has been, and in the end alone.
 
 These fail: a mutant that the prover accepts, or can't read; one that only met a limit of the prover; one for which a proof only
 names what is gone; and one that only renames. They say nothing of a contract. The last line is 'N passed, M failed'.
@@ -37,6 +38,14 @@ DECLARED = r"\b(?:let|mut|for|fn|const|ensures|requires|invariant) {0}\b|\b{0}\s
 def read(path):
     with open(path, encoding="utf-8", errors="replace") as file:
         return file.read()
+
+
+def copy_of_sources(top):
+    """Copies the crates into a folder, which it returns."""
+    shutil.copytree(f"{TOP}/crates", f"{top}/crates", ignore=shutil.ignore_patterns("must-fail", "mutants", "out"))
+    for file in ("crates.txt", "HANDLES"):
+        shutil.copy(f"{TOP}/{file}", top)
+    return top
 
 
 def first_of(lines, at):
@@ -99,10 +108,7 @@ class Crate:
     """A crate whose mutants are tried, in a copy of its own: the crates above it must not see them."""
 
     def __init__(self, room, name):
-        self.name, self.top, self.folder, self.checks = name, f"{room}/{name}", f"{room}/{name}/crates/{name}", 0
-        shutil.copytree(f"{TOP}/crates", f"{self.top}/crates", ignore=shutil.ignore_patterns("must-fail", "mutants", "out"))
-        for file in ("crates.txt", "HANDLES"):
-            shutil.copy(f"{TOP}/{file}", self.top)
+        self.name, self.folder, self.checks = name, f"{copy_of_sources(f'{room}/{name}')}/crates/{name}", 0
         paths = glob.glob(f"{TOP}/crates/{name}/must-fail/*.edit") + glob.glob(f"{TOP}/crates/{name}/mutants/*.edit")
         self.mutants, self.sources = [Mutant(path) for path in sorted(paths)], Sources(self.folder)
 
@@ -160,6 +166,13 @@ def tried(crate):
     return len(crate.mutants), len(accepted)
 
 
+def are_proved(top, crates):
+    """Whether these crates of a copy are proved as they are, or all if none is named."""
+    calls = [(["check"], f"{top}/crates/{name}") for name in crates] or [(["all", "check", "--jobs", str(workers())], top)]
+    return not any(subprocess.run(["rt", *words], cwd=folder, stdout=subprocess.DEVNULL, stderr=subprocess.DEVNULL).returncode
+                   for words, folder in calls)
+
+
 def workers():
     memory = int(re.search(r"^MemAvailable: *(\d+)", read("/proc/meminfo"), re.M)[1]) << 10
     return max(1, min(os.cpu_count(), memory // MEMORY_OF_A_CHECK))
@@ -172,6 +185,9 @@ def main():
             print(f"tests/mutants.py: there is no crate {name}", file=sys.stderr)
             return 2
     with tempfile.TemporaryDirectory() as room:
+        if not are_proved(copy_of_sources(f"{room}/base"), sys.argv[1:]):
+            print("tests/mutants.py: a crate is not proved as it is\n0 passed, 1 failed")
+            return 1
         wanted = [Crate(room, name) for name in sys.argv[1:] or crates if glob.glob(f"{TOP}/crates/{name}/m*/*.edit")]
         wanted.sort(key=lambda crate: -len(crate.mutants))
         with concurrent.futures.ThreadPoolExecutor(workers()) as pool:
