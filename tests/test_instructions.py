@@ -12,7 +12,7 @@ from tests.support import PROVED, TOP, Case, names_of_codes, read
 from pp6600.engine import library
 from pp6600.engine.plain.instructions import CODES as PLAIN
 from pp6600.language.listed_words import ALONE
-from pp6600.language.notation import CONSTANTS, MNEMONICS, size_of
+from pp6600.language.notation import MNEMONICS, size_of
 from pp6600.run import turn
 from pp6600.run.forms import STATES
 from pp6600.run.sentences import TEXT
@@ -86,7 +86,7 @@ class Instructions(Case):
         found = [library.instruction(code, PROVED) for code in range(64)]
         self.assertEqual(list(zip(NAMES, WORDS)), [one[:2] for one in found])
         self.assertEqual(TWO, {code for code, (*_, form) in enumerate(found) if form > 2})
-        for number, codes in ((0, ALONE), (2, turn.RELATIVE_JUMPS), (3, CONSTANTS), (4, turn.INDEXED)):
+        for number, codes in ((0, ALONE), (2, turn.RELATIVE_JUMPS), (3, turn.CONSTANTS), (4, turn.INDEXED)):
             self.assertEqual(list(codes), [code for code, (*_, form) in enumerate(found) if form == number])
 
     def test_sentences(self):
