@@ -10,13 +10,12 @@ use crate::terms::{Names, begins_with_blank, field_of, may_follow, operand_of, t
 use pp_decks::{LAST_COLUMN, Lines, Span, tail};
 use pp_expansion::Pass;
 use pp_meaning::{
-    Block, Item, Literal, Operand, Operation as Meant, Refusal, Statement, Symbol,
-    SystemText, encode, program_of,
+    Block, Item, Literal, Operand, Operation as Meant, Refusal, Statement, Symbol, SystemText,
+    encode, program_of,
 };
 use pp_notation::{Cell, Program};
 use pp_source::{
-    Elsewhere, Fault, Here, Message, Operation, Parts, Statement as Fields, Wording,
-    operation_of,
+    Elsewhere, Fault, Here, Message, Operation, Parts, Statement as Fields, Wording, operation_of,
 };
 use pp_statements::{CELLS, Cut, Named, Row, base_of};
 use std::alloc::{AllocError, Global};
@@ -382,8 +381,7 @@ fn variable_of(
 fn is_comment(name: &[u8], operation: Meant, operands: &[Operand], comment: &[u8]) -> bool {
     match (operation, operands) {
         (Meant::Display, [Operand::Single(Item::Characters(text))]) => {
-            may_follow(text, comment)
-                || !matches!(name, b"DIS") && begins_with_blank(comment)
+            may_follow(text, comment) || !matches!(name, b"DIS") && begins_with_blank(comment)
         }
         _ => begins_with_blank(comment),
     }

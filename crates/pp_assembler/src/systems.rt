@@ -87,9 +87,7 @@ fn statement_of_row(
     match part_of(pass, lines, row) {
         Part::Kept(
             fields,
-            operation @ (
-                Meant::SetBase(..) | Meant::BaseBefore | Meant::Deck | Meant::Synonym(_)
-            ),
+            operation @ (Meant::SetBase(..) | Meant::BaseBefore | Meant::Deck | Meant::Synonym(_)),
         ) => {
             let line = read_line(lines, row.statement);
             statement_of(alloc, names, line, fields, operation, &[])

@@ -335,7 +335,10 @@ pub fn operand_of(
         let index = names.index_of(name);
         return Ok(index.map(|index| Operand::External(linkage, index)));
     }
-    match (item_of(alloc, names, written, true)?, address_at(named, column)) {
+    match (
+        item_of(alloc, names, written, true)?,
+        address_at(named, column),
+    ) {
         (Some(item), Some(address)) => Ok(Some(Operand::Literal(address, item))),
         _ => Ok(None),
     }

@@ -517,7 +517,7 @@ fn may_follow_display(name: &[u8], text: &Text, comment: &[u8]) -> bool
     ensures { IsTrue result → follows_display name.now text.now comment.now ≡ true }
 {
     may_follow(&text.cut, text.codes.len(), comment)
-        || name != b"DIS" && begins_with_blank(comment) && has_no_mark(&text.codes, b' ')
+        || name != b"DIS".as_slice() && begins_with_blank(comment) && has_no_mark(&text.codes, b' ')
 }
 
 /// Returns whether what follows the operands is a comment.

@@ -86,8 +86,10 @@ impl State {
         is_own: bool,
         old: &[u8],
     ) -> Result<(), AllocError>
-        ensures { OnOk result (record (standing self.old) { synonyms = (standing self.old).synonyms
-            ++ (name.now, operation_of (standing self.old) is_own old.now) ∷ [] } ≡ standing self.new) }
+        ensures { OnOk result (record (standing self.old) {
+          synonyms = (standing self.old).synonyms
+              ++ (name.now, operation_of (standing self.old) is_own old.now) ∷ [];
+        } ≡ standing self.new) }
     {
         let operation = self.operation_of(alloc, is_own, old)?;
         let name = Vec::from_slice(alloc, name)?;
