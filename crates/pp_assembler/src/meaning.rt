@@ -279,7 +279,7 @@ fn one_operand(
     }
 }
 
-/// Returns the terms of an operand that is a part of a line. At the end of the line a text may go on in blanks that the line has lost.
+/// Returns the terms of an operand that is a part of a line. At the end of the line a text may go on in blanks that are lost.
 fn operand_in(
     alloc: Global,
     names: &Names,

@@ -29,7 +29,7 @@ pub struct Cut {
     pub name: Field,
     /// It is the call of a macro.
     pub is_call: bool,
-    /// Where the name of the operation is that OPSYN gives another name to, in the text of the vocabulary. There is none of a macro.
+    /// Where the name is of the operation that OPSYN gives another name to, in the text of the vocabulary; none of a macro.
     pub renamed: Option<Span>,
 }
 
