@@ -8,7 +8,8 @@ use Rattle.pp_meaning.specs.declared.expressions.Atom.TheVariants.{Number}
 use Rattle.pp_meaning.specs.declared.expressions.Item.{Item}
 use Rattle.pp_meaning.specs.declared.expressions.Item.TheVariants.{Characters, Nothing, Sum}
 use Rattle.pp_meaning.specs.declared.expressions.Operand.{Operand}
-use Rattle.pp_meaning.specs.declared.expressions.Operand.TheVariants.{Single, External, Literal as Named, Bits, LiteralBits, ExternalBits, Word}
+use Rattle.pp_meaning.specs.declared.expressions.Operand.TheVariants.{Single, External, Literal as Named, Bits}
+use Rattle.pp_meaning.specs.declared.expressions.Operand.TheVariants.{LiteralBits, ExternalBits, Word}
 use Rattle.pp_meaning.specs.declared.expressions.Place.{Place}
 use Rattle.pp_meaning.specs.declared.expressions.Radix.TheVariants.{Plain}
 use Rattle.pp_meaning.specs.declared.expressions.Sign.{Sign}

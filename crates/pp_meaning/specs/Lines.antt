@@ -177,7 +177,8 @@ label_text symbols (Named index) = symbol_name (slice_get symbols index)
 abbrev pub line_text : List Symbol → Statement → List ℕ
 line_text symbols statement =
     statement.margin.items ++ label_text symbols statement.label ++ statement.synonym.items ++ statement.gap.items
-    ++ statement.name.items ++ statement.space.items ++ variable symbols statement.operation statement.operands.items ++ statement.comment.items
+    ++ statement.name.items ++ statement.space.items ++ variable symbols statement.operation statement.operands.items
+    ++ statement.comment.items
 
 -- A blank or a tab.
 abbrev pub is_blank : ℕ → Bool

@@ -4,8 +4,8 @@ ghost use Rattle.std.specs.Prelude.{length, map, take, ◌+◌, true};
 ghost use Rattle.std.specs.List.{AllByRecursion, flat_map, list_all};
 ghost use Rattle.pp_meaning.specs.declared.statements.Operation.TheVariants.{Instruction};
 ghost use Rattle.pp_meaning.specs.Lines.{AreWritten, IsWritten, atom_text, base_name, begins_blank, external_letter};
-ghost use Rattle.pp_meaning.specs.Lines.{external_text, factor_text, follows_display, literal_text, up_to};
-ghost use Rattle.pp_meaning.specs.Lines.{follows_text, is_blank, is_comment, is_cut, is_gap, is_margin, is_synonym, is_wide, item_text};
+ghost use Rattle.pp_meaning.specs.Lines.{external_text, factor_text, follows_display, item_text, literal_text, up_to};
+ghost use Rattle.pp_meaning.specs.Lines.{follows_text, is_blank, is_comment, is_cut, is_gap, is_margin, is_synonym, is_wide};
 ghost use Rattle.pp_meaning.specs.Lines.{kind_letter, label_text, letter, line_text, operand_text, operands_text, operation_name};
 ghost use Rattle.pp_meaning.specs.Lines.{sign_text, sum_text, symbol_name, term_text, variable, width_text};
 ghost use Rattle.pp_notation.specs.DisplayCode.{symbol};
@@ -537,7 +537,8 @@ fn is_cut_so(statement: &Statement, variable: &[u8]) -> bool
     ensures { IsTrue result → (list_all is_blank statement.now.gap.items && list_all is_blank
         statement.now.space.items && is_comment statement.now.name.items statement.now.operation statement.now.operands.items
         statement.now.comment.items &&
-        is_synonym statement.now.operation statement.now.synonym.items && is_gap statement.now.label statement.now.operation statement.now.margin.items statement.now.gap.items &&
+        is_synonym statement.now.operation statement.now.synonym.items &&
+        is_gap statement.now.label statement.now.operation statement.now.margin.items statement.now.gap.items &&
         (not (length statement.now.space.items == 0) || length variable.now == 0)) ≡ true }
 {
     are_blanks(&statement.gap)
