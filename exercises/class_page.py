@@ -132,7 +132,7 @@ def answer_of(own, session, panel, room, limit):
     words = prepared(own, found, room)
     tape = in_effect(words, lines_of(session), limit)
     makes_turns = bool(steps(script_of(room)))
-    lines = [line for line in tape.lines(0, tape.end) if makes_turns or not line.upper().startswith("STEP")]
+    lines = [line for line in tape.lines(0, tape.end, with_watches=False) if makes_turns or not line.upper().startswith("STEP")]
     return {**found, "script": "".join(f"{line}\n" for line in lines).encode("latin-1")}
 
 
@@ -144,4 +144,4 @@ def in_effect(words, lines, limit):
             run.act(line)
             if time.monotonic() > end:
                 raise Failure(f"it takes over {limit} (decimal) seconds")
-        return run.tape.replay(run.position)
+        return run.in_effect()

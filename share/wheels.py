@@ -16,7 +16,7 @@ import time  # noqa: E402
 
 from packaging import NO_LICENCE, TOP, has_programs, moment, of_commit, read, version  # noqa: E402
 
-from pp6600.engine.choice import machine_here  # noqa: E402
+from pp6600.engine.choice import MACHINE_HERE  # noqa: E402
 from pp6600.shell.archives import zipped  # noqa: E402
 from pp6600.shell.installation import part, programs_for, without_lost_links  # noqa: E402
 from pp6600.shell.manifest import File  # noqa: E402
@@ -99,7 +99,7 @@ def wheel(platform, programs, pages):
 
 def build_wheel(wheel_directory, config_settings=None, metadata_directory=None):
     """Makes the package for this machine, as pip asks. Returns its name."""
-    machine = machine_here() if machine_here() in platforms() else ""
+    machine = MACHINE_HERE if MACHINE_HERE in platforms() else ""
     name, data = wheel(platforms()[machine], programs_for(machine), pages())
     with open(os.path.join(wheel_directory, name), "wb") as file:
         file.write(data)

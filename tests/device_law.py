@@ -208,7 +208,7 @@ class Session:
         return answer[0].split()[3] if answer[0].startswith(word) else None
 
     def back_w(self, _):
-        before, oldest = self.units[:self.position], self.session.history.oldest
+        before, oldest = self.units[:self.position], self.session.oldest
         answer = self.session.act("BACK W")
         count = int(answer[0].split()[1], 8) if answer[0].startswith("BACK") else 0
         self.position -= count
@@ -310,9 +310,9 @@ def fault_of_scripts(session, defined):
 
 def fault_of_counts(session):
     """Returns what is wrong in the counts of units."""
-    counts, units, here = session.session.counts, session.units, session.position
-    if (counts.position, counts.to_redo) != (here, len(units) - here):
-        return f"{counts.position} units and {counts.to_redo} ahead, and not {here} and {len(units) - here}"
+    counts, units, here = session.session, session.units, session.position
+    if (counts.unit, counts.to_redo) != (here, len(units) - here):
+        return f"{counts.unit} units and {counts.to_redo} ahead, and not {here} and {len(units) - here}"
     for name, some in (("back_over", units[:here][::-1]), ("forward_over", units[here:])):
         ends = [0, *(number for number, unit in enumerate(some, 1) if unit == STEP)]
         for turns in {0, 1, len(ends) // 2, len(ends) - 1} & set(range(len(ends))):

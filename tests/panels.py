@@ -127,10 +127,10 @@ class BlockCase(PanelCase):
                 keys, turn, run, place, sent = KEYS.fullmatch(text if mark != "$ panel" else "").groups()
                 before = len(panel.session.sent)
                 self.compare(press(panel, keys), panel.is_ended, expected)
-                self.assertIn(turn and int(turn, 8), (None, panel.session.history.turns), "the turn")
+                self.assertIn(turn and int(turn, 8), (None, panel.session.simulator.turn), "the turn")
                 if run:
                     self.assert_same(self.panel("\n".join(lines_up_to(int(turn, 8), part(self.folder, run).decode()))), panel)
-                self.assertIn(place, (None, panel.view.place()))
+                self.assertIn(place, (None, panel.view.cursor.short))
                 self.assertIn(sent and sent.strip(), (None, ", ".join(panel.session.sent[before:])))
 
     def begun(self, words, script):

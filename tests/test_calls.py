@@ -110,7 +110,7 @@ class Calls(Case):
             script = [*source.loading(0), *central]
             turns = turns_of(script)
             own = OwnStack(turns, source.entries())
-            replay = Session.of_tape([program()], performed([program()], [*script, f"STEP {10 * TURNS:o}"]).tape)
+            replay = Session([program()], performed([program()], [*script, f"STEP {10 * TURNS:o}"])[0].tape, is_search=True)
             for count in {*choose.sample(range(1, TURNS), 4)}:
                 position = replay.tape.end - 10 * (TURNS - count)
                 wanted = [(entry - 1, address) for entry, address, *_ in reversed(own.after[count])]

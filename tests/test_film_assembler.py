@@ -44,9 +44,7 @@ class InNode(Case):
                 self.check(without_literals(Source.of_file(path)), one)
 
     def check(self, source, one):
-        symbols = AllSymbols()
-        symbols.of[3] = source
-        wanted = json.loads(json.dumps(page.of_symbols(symbols)))
+        wanted = json.loads(json.dumps(page.of_symbols(AllSymbols({3: source}))))
         self.assertEqual(list(set_lines(source.program, 3)), one["load"])
         self.assertEqual(wanted["sources"]["3"]["rows"], one["source"]["rows"])
         lines = wanted["sources"]["3"]["lines"]

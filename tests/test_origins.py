@@ -12,9 +12,8 @@ from tests.generator import Maker
 from tests.support import Case, program, write
 
 from pp6600.engine import origins as of
-from pp6600.engine.choose import library_named
+from pp6600.engine.choose import engine_of, library_named
 from pp6600.engine.interface import Rejection
-from pp6600.engine.library import session_of
 from pp6600.engine.plain import places
 from pp6600.engine.plain_origins import next_turn
 from pp6600.engine.plain_engine import PlainEngine
@@ -86,7 +85,7 @@ class Explained(Case):
         """Returns both engines with these options, or that in Python alone if there is no library for this machine; none if they are refused."""
         path = library_named(program())
         try:
-            return [PlainEngine(words), *([session_of(path, words)] if path else [])]
+            return [PlainEngine(words), *([engine_of(path, words)] if path else [])]
         except Rejection:
             return []
 

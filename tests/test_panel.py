@@ -222,7 +222,7 @@ def counter():
 class Sessions(PanelCase):
     def of(self, panel):
         """Returns what a search must leave as it is."""
-        return list(panel.session.sent), panel.session.history.kept, panel.session.state
+        return list(panel.session.sent), panel.session.simulator.kept, panel.session.state
 
     def test_no_such_turn(self):
         with self.assertRaisesRegex(Failure, "there is no turn 1301 yet: the last one is 1300"):
@@ -240,14 +240,14 @@ class Sessions(PanelCase):
     def test_stops(self):
         """Ctrl-C ends a long run, a script and each kind of search, and the session is where it was."""
         panel = self.panel("STEP\n" * 9)
-        self.assertEqual((9, True), (panel.session.history.kept, panel.session.is_saved()))
+        self.assertEqual((9, True), (panel.session.simulator.kept, panel.session.is_saved()))
         panel.is_stopped = lambda: True
         press(panel, "30000000s")
         self.assertEqual(["STEP", "STEP 1000000"], panel.session.sent[-2:])
         panel = self.panel()
         panel.is_stopped = lambda: True
         panel.perform_script(["STEP"] * 5)
-        self.assertEqual((0, True), (panel.session.history.kept, "stopped after 0 (decimal) lines" in bottom(panel)))
+        self.assertEqual((0, True), (panel.session.simulator.kept, "stopped after 0 (decimal) lines" in bottom(panel)))
         source = [(0, self.file(counter(), "count.pp"))]
         for begun, pressed, text in ((self.panel(FIRST_PROGRAM), "uH 13 is X<Enter>", r"^searched to turn [0-7]+; Ctrl-C stops$"),
                                      (self.panel("SET M 0 20 5\nSTEP 1000\n"), "gM 0 20<Enter>c", "^searched back to turn "),

@@ -30,7 +30,7 @@ class Recording:
         parts = []
         while run.position < last:
             parts.append(run.engine.records(min(last - run.position, AT_ONCE)))
-            run.history.performed(len(parts[-1].counts))
+            run.performed(len(parts[-1].counts))
         self.slot, self.parts = run.tape.slot(first), parts
         self.olds = b"".join(part.olds for part in parts)
 

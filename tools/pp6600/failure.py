@@ -1,7 +1,7 @@
 """What a tool can't do."""
 
 import contextlib
-from typing import Iterable, Iterator, Type
+from typing import Iterable, Iterator
 
 
 class Failure(Exception):
@@ -17,9 +17,9 @@ class Faults(Failure):
 
 
 @contextlib.contextmanager
-def naming_line(number: int, kind: Type[Failure] = Failure) -> Iterator[None]:
-    """Names a line, counted from 1, in a failure of a kind."""
+def naming_line(number: int) -> Iterator[None]:
+    """Names a line, counted from 1, in a failure."""
     try:
         yield
-    except kind as failure:
+    except Failure as failure:
         raise Failure(f"line {number} (decimal): {failure}") from failure

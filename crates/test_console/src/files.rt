@@ -138,40 +138,12 @@ fn damaged_decks(rt: HostRuntime) {
     }
 }
 
-const MANY_WORDS: [LongFile; 3] = [
-    LongFile("1 ", 80, "\n", None),
-    LongFile("1 ", 81, "\n8\n", Some(LoadFault::TooManyWords(1))),
-    LongFile("1 ", 80, "10000", Some(LoadFault::TooLarge(1))),
-];
-
-#[test]
-fn decks_of_many_words(rt: HostRuntime) -> Result<(), Fail> {
-    for row in MANY_WORDS {
-        assert!(rt; row.is_right(rt)?);
-    }
-    Ok(())
-}
-
 #[test]
 fn a_comment_then_too_many_words(rt: HostRuntime) -> Result<(), Fail> {
     let words = repeated(rt, "1 ", 81, "")?;
     let file = repeated(rt, "* eighty-one words\n", 1, words.as_str())?;
     let fault = Some(LoadFault::TooManyWords(2));
     assert!(rt; deck_has(rt, file.as_bytes(), fault));
-    Ok(())
-}
-
-const LONG_LINES: [LongFile; 3] = [
-    LongFile(" ", 1022, "1\r\n", None),
-    LongFile(" ", 1023, "1", Some(LoadFault::LineTooLong(1))),
-    LongFile("*", 1023, "\r\r\n", Some(LoadFault::LineTooLong(1))),
-];
-
-#[test]
-fn long_lines(rt: HostRuntime) -> Result<(), Fail> {
-    for row in LONG_LINES {
-        assert!(rt; row.is_right(rt)?);
-    }
     Ok(())
 }
 
@@ -182,12 +154,23 @@ fn a_long_panel_line(rt: HostRuntime) -> Result<(), Fail> {
     Ok(())
 }
 
-const TOO_LONG_FILE: LongFile = LongFile("\n", 1_048_577, "", Some(LoadFault::FileTooLong));
+/// Decks of many words, of long lines, and of too many lines.
+const LONG_FILES: [LongFile; 7] = [
+    LongFile("1 ", 80, "\n", None),
+    LongFile("1 ", 81, "\n8\n", Some(LoadFault::TooManyWords(1))),
+    LongFile("1 ", 80, "10000", Some(LoadFault::TooLarge(1))),
+    LongFile(" ", 1022, "1\r\n", None),
+    LongFile(" ", 1023, "1", Some(LoadFault::LineTooLong(1))),
+    LongFile("*", 1023, "\r\r\n", Some(LoadFault::LineTooLong(1))),
+    LongFile("\n", 1_048_577, "", Some(LoadFault::FileTooLong)),
+];
 
 #[test]
 fn long_files(rt: HostRuntime) -> Result<(), Fail> {
+    for i in 0..LONG_FILES.len() {
+        assert!(rt; LONG_FILES[i].is_right(rt)?, "row {i}");
+    }
     assert!(rt; repeated_has_cards(rt, "\n", 1_048_576, 0)?);
-    assert!(rt; TOO_LONG_FILE.is_right(rt)?);
     Ok(())
 }
 

@@ -3,7 +3,6 @@
 use pp_lines::{Feed, Terminal, Tray};
 use pp_program::*;
 use std::alloc::{AllocError, Global};
-use std::process::Abort;
 use std::test::Fail;
 
 /// Returns the words of a line. No word contains a blank.
@@ -133,17 +132,12 @@ fn run_is_right(alloc: Global, run: &Run) -> Result<bool, Fail> {
     }
 }
 
-fn check_each(rt: &impl Abort, alloc: Global, runs: &[Run]) -> Result<(), Fail> {
-    for i in 0..runs.len() {
-        assert!(rt; run_is_right(alloc, &runs[i])?, "row {i}");
-    }
-    Ok(())
-}
-
 const USAGE: &str =
     "usage: pp6600 [--history N] [--central K] [--deck F] [--reader C] [--printer C] [--panel F] [SCRIPT]\n";
 
-const WITHOUT_LINES: [Run; 3] = [
+/// Runs of every kind but those that print only the line of a trouble.
+const RUNS: [Run; 11] = [
+    // Runs without lines.
     Run {
         words: Ok("pp6600 --help"),
         typed: "",
@@ -171,11 +165,92 @@ const WITHOUT_LINES: [Run; 3] = [
         status: 0,
         asked: 0,
     },
+    // A script is performed from a file.
+    Run {
+        words: Ok("pp6600 --deck cards lines"),
+        typed: "NO\n",
+        fails: Fails::Never,
+        output: "OK\n7777 1234\nERR 01 NOT A COMMAND\n",
+        errors: "",
+        status: 1,
+        asked: 2,
+    },
+    // Words that are not available.
+    Run {
+        words: Err(WordsFault::NotText),
+        typed: "STEP\n",
+        fails: Fails::Never,
+        output: "",
+        errors: "pp6600: BAD ARGUMENTS\n",
+        status: 2,
+        asked: 0,
+    },
+    Run {
+        words: Err(WordsFault::NoMemory),
+        typed: "STEP\n",
+        fails: Fails::Never,
+        output: "",
+        errors: "pp6600: NO MEMORY\n",
+        status: 2,
+        asked: 0,
+    },
+    // The first write takes two bytes, and the second fails.
+    Run {
+        words: Ok("pp6600 lines"),
+        typed: "",
+        fails: Fails::Output(2),
+        output: "OK",
+        errors: "pp6600: WRITE FAILED\n",
+        status: 3,
+        asked: 1,
+    },
+    // A read of standard input fails.
+    Run {
+        words: Ok("pp6600"),
+        typed: "STEP\nSTEP\n",
+        fails: Fails::Input(2),
+        output: "TURNS 1 SLOT 01\n",
+        errors: "pp6600: READ FAILED\n",
+        status: 3,
+        asked: 0,
+    },
+    // Help that can't be written is still help: nothing more is printed, and the status is 0.
+    Run {
+        words: Ok("pp6600 --help"),
+        typed: "",
+        fails: Fails::Output(3),
+        output: "usag",
+        errors: "",
+        status: 0,
+        asked: 0,
+    },
+    Run {
+        words: Ok("pp6600 -h"),
+        typed: "",
+        fails: Fails::OutputAndErrors(1),
+        output: "",
+        errors: "",
+        status: 0,
+        asked: 0,
+    },
+    // A trouble that can't be written keeps its status.
+    Run {
+        words: Ok("pp6600 --deck none"),
+        typed: "",
+        fails: Fails::OutputAndErrors(1),
+        output: "",
+        errors: "",
+        status: 2,
+        asked: 1,
+    },
 ];
 
 #[test]
-fn a_run_without_lines(rt: HostRuntime) -> Result<(), Fail> {
-    check_each(&rt, rt.alloc(), &WITHOUT_LINES)
+fn runs(rt: HostRuntime) -> Result<(), Fail> {
+    for i in 0..RUNS.len() {
+        assert!(rt; run_is_right(rt.alloc(), &RUNS[i])?, "row {i}");
+    }
+    Ok(())
 }
 
 /// The words of a run that prints only the line of a trouble, that line, the exit status, and how many files were asked for.
@@ -195,25 +270,12 @@ fn is_rejected(alloc: Global, row: &Rejected) -> Result<bool, Fail> {
     run_is_right(alloc, &run)
 }
 
-fn rejects_each(rt: &impl Abort, alloc: Global, rows: &[Rejected]) -> Result<(), Fail> {
-    for i in 0..rows.len() {
-        assert!(rt; is_rejected(alloc, &rows[i])?, "row {i}");
-    }
-    Ok(())
-}
-
-const REJECTED_WORDS: [Rejected; 3] = [
+const TROUBLES: [Rejected; 10] = [
+    // Words that are rejected.
     ("pp6600 --history 0", "pp6600: BAD ARGUMENTS\n", 2, 0),
     ("pp6600 --reader 14", "pp6600: BAD CHANNEL\n", 2, 0),
     ("pp6600 --reader 13", "pp6600: SAME CHANNEL\n", 2, 0),
-];
-
-#[test]
-fn rejected_words_end_a_run(rt: HostRuntime) -> Result<(), Fail> {
-    rejects_each(&rt, rt.alloc(), &REJECTED_WORDS)
-}
-
-const FILE_FAULTS: [Rejected; 7] = [
+    // The first fault of a file.
     ("pp6600 --deck none", "pp6600: CANNOT OPEN DECK\n", 2, 1),
     (
         "pp6600 --panel bad --deck bad",
@@ -244,120 +306,9 @@ const FILE_FAULTS: [Rejected; 7] = [
 ];
 
 #[test]
-fn the_first_fault_of_a_file_ends_a_run(rt: HostRuntime) -> Result<(), Fail> {
-    rejects_each(&rt, rt.alloc(), &FILE_FAULTS)
-}
-
-const SCRIPT: [Run; 1] = [Run {
-    words: Ok("pp6600 --deck cards lines"),
-    typed: "NO\n",
-    fails: Fails::Never,
-    output: "OK\n7777 1234\nERR 01 NOT A COMMAND\n",
-    errors: "",
-    status: 1,
-    asked: 2,
-}];
-
-#[test]
-fn a_script_is_performed_from_a_file(rt: HostRuntime) -> Result<(), Fail> {
-    check_each(&rt, rt.alloc(), &SCRIPT)
-}
-
-const NO_WORDS: [Run; 2] = [
-    Run {
-        words: Err(WordsFault::NotText),
-        typed: "STEP\n",
-        fails: Fails::Never,
-        output: "",
-        errors: "pp6600: BAD ARGUMENTS\n",
-        status: 2,
-        asked: 0,
-    },
-    Run {
-        words: Err(WordsFault::NoMemory),
-        typed: "STEP\n",
-        fails: Fails::Never,
-        output: "",
-        errors: "pp6600: NO MEMORY\n",
-        status: 2,
-        asked: 0,
-    },
-];
-
-#[test]
-fn words_that_are_not_available_end_a_run(rt: HostRuntime) -> Result<(), Fail> {
-    check_each(&rt, rt.alloc(), &NO_WORDS)
-}
-
-/// The first write takes two bytes, and the second fails.
-const FAILED_WRITE: [Run; 1] = [Run {
-    words: Ok("pp6600 lines"),
-    typed: "",
-    fails: Fails::Output(2),
-    output: "OK",
-    errors: "pp6600: WRITE FAILED\n",
-    status: 3,
-    asked: 1,
-}];
-
-#[test]
-fn a_failed_write_ends_a_run(rt: HostRuntime) -> Result<(), Fail> {
-    check_each(&rt, rt.alloc(), &FAILED_WRITE)
-}
-
-const FAILED_READ: [Run; 1] = [Run {
-    words: Ok("pp6600"),
-    typed: "STEP\nSTEP\n",
-    fails: Fails::Input(2),
-    output: "TURNS 1 SLOT 01\n",
-    errors: "pp6600: READ FAILED\n",
-    status: 3,
-    asked: 0,
-}];
-
-#[test]
-fn a_failed_read_of_standard_input_ends_a_run(rt: HostRuntime) -> Result<(), Fail> {
-    check_each(&rt, rt.alloc(), &FAILED_READ)
-}
-
-/// Help that can't be written is still help: nothing more is printed, and the status is 0.
-const FAILED_USAGE: [Run; 2] = [
-    Run {
-        words: Ok("pp6600 --help"),
-        typed: "",
-        fails: Fails::Output(3),
-        output: "usag",
-        errors: "",
-        status: 0,
-        asked: 0,
-    },
-    Run {
-        words: Ok("pp6600 -h"),
-        typed: "",
-        fails: Fails::OutputAndErrors(1),
-        output: "",
-        errors: "",
-        status: 0,
-        asked: 0,
-    },
-];
-
-#[test]
-fn help_that_can_not_be_written_has_status_0(rt: HostRuntime) -> Result<(), Fail> {
-    check_each(&rt, rt.alloc(), &FAILED_USAGE)
-}
-
-const FAILED_PRINTS: [Run; 1] = [Run {
-    words: Ok("pp6600 --deck none"),
-    typed: "",
-    fails: Fails::OutputAndErrors(1),
-    output: "",
-    errors: "",
-    status: 2,
-    asked: 1,
-}];
-
-#[test]
-fn a_failed_print_keeps_the_status(rt: HostRuntime) -> Result<(), Fail> {
-    check_each(&rt, rt.alloc(), &FAILED_PRINTS)
+fn troubles_end_a_run(rt: HostRuntime) -> Result<(), Fail> {
+    for i in 0..TROUBLES.len() {
+        assert!(rt; is_rejected(rt.alloc(), &TROUBLES[i])?, "row {i}");
+    }
+    Ok(())
 }

@@ -335,19 +335,31 @@ fn has(m: &Machine, row: &Row) -> bool {
     }
 }
 
-/// Follows the rows of a test. The number of a row that fails is written.
-fn follow(rt: &impl Abort, m: &mut Machine, rows: &[Row]) {
+/// Follows the rows of an example. Its name and the number of a row that fails are written.
+fn follow(rt: &impl Abort, m: &mut Machine, name: &str, rows: &[Row]) {
     for i in 0..rows.len() {
         put(m, &rows[i]);
-        assert!(rt; has(m, &rows[i]), "row {i}");
+        assert!(rt; has(m, &rows[i]), "{name}, row {i}");
     }
 }
 
-/// Follows the rows of a test on a new machine.
-fn follow_anew(rt: &impl Abort, alloc: Global, rows: &[Row]) -> Result<(), Fail> {
+/// Follows the rows of an example on a new machine.
+fn follow_anew(rt: &impl Abort, alloc: Global, name: &str, rows: &[Row]) -> Result<(), Fail> {
     let mut m = make(alloc, CentralSize::K32)?;
-    follow(rt, &mut m, rows);
+    follow(rt, &mut m, name, rows);
     drop(m);
+    Ok(())
+}
+
+/// What an example shows, and its rows.
+type Example = (&'static str, &'static [Row]);
+
+/// Follows each example on a new machine.
+fn follow_each(rt: &impl Abort, alloc: Global, examples: &[Example]) -> Result<(), Fail> {
+    for i in 0..examples.len() {
+        let (name, rows) = examples[i];
+        follow_anew(rt, alloc, name, rows)?;
+    }
     Ok(())
 }
 
@@ -363,24 +375,31 @@ fn has_with_twin(twins: &Twins, row: &Row) -> bool {
     has(&twins.machine, row) && is_same(&twins.machine, &twins.twin)
 }
 
-/// Follows the rows of a test on a machine and its twin. A step that is undone is the machine's alone, and makes it equal
-/// to its twin again.
-fn follow_twins(rt: &impl Abort, twins: &mut Twins, rows: &[Row]) {
+/// Follows the rows of an example on a machine and its twin. A step that is undone is the machine's alone, and makes it
+/// equal to its twin again.
+fn follow_twins(rt: &impl Abort, twins: &mut Twins, name: &str, rows: &[Row]) {
     for i in 0..rows.len() {
         put(&mut twins.machine, &rows[i]);
         put_in_twin(&mut twins.twin, &rows[i]);
-        assert!(rt; has_with_twin(twins, &rows[i]), "row {i}");
+        assert!(rt; has_with_twin(twins, &rows[i]), "{name}, row {i}");
     }
 }
 
-fn follow_twins_anew(
-    rt: &impl Abort,
-    alloc: Global,
-    size: CentralSize,
-    rows: &[Row],
-) -> Result<(), Fail> {
+/// What an example of a machine and its twin shows, the size of its central memory, and its rows.
+type TwinExample = (&'static str, CentralSize, &'static [Row]);
+
+fn follow_twins_anew(rt: &impl Abort, alloc: Global, example: &TwinExample) -> Result<(), Fail> {
+    let (name, size, rows) = *example;
     let mut twins = make_twins(alloc, size)?;
-    follow_twins(rt, &mut twins, rows);
+    follow_twins(rt, &mut twins, name, rows);
     drop(twins);
+    Ok(())
+}
+
+/// Follows each example on a new machine and its twin.
+fn follow_twins_each(rt: &impl Abort, alloc: Global, examples: &[TwinExample]) -> Result<(), Fail> {
+    for i in 0..examples.len() {
+        follow_twins_anew(rt, alloc, &examples[i])?;
+    }
     Ok(())
 }

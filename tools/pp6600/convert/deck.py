@@ -17,15 +17,14 @@ def cards(lines: Sequence[str]) -> List[str]:
     """Returns the line of a deck file for each line of a text."""
     if len(lines) > MOST_CARDS:
         raise Failure(f"a deck has at most {MOST_CARDS} (decimal) cards")
-    return [card(number, line) for number, line in enumerate(lines, 1)]
-
-
-def card(number: int, line: str) -> str:
-    with naming_line(number):
-        words = words_of(line)
-    if len(words) > COLUMNS_OF_CARD:
-        raise Failure(f"line {number} (decimal) has more than 160 (decimal) symbols")
-    return " ".join(words) or "0"
+    found: List[str] = []
+    for number, line in enumerate(lines, 1):
+        with naming_line(number):
+            words = words_of(line)
+        if len(words) > COLUMNS_OF_CARD:
+            raise Failure(f"line {number} (decimal) has more than 160 (decimal) symbols")
+        found.append(" ".join(words) or "0")
+    return found
 
 
 def main() -> None:

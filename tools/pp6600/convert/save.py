@@ -18,11 +18,6 @@ def packed(words: Sequence[str]) -> bytes:
     return bytes.fromhex("".join(f"{int(word, 8):03x}" for word in words) + "0" * (len(words) % 2))
 
 
-def two_bytes(words: Sequence[str]) -> bytes:
-    """Returns bytes that hold each word in two, the upper bits first."""
-    return b"".join(int(word, 8).to_bytes(2, "big") for word in words)
-
-
 def listing(first: int, words: Sequence[str]) -> List[str]:
     """Returns rows that begin with their addresses."""
     return [f"{first + ROW * at:04o} {' '.join(row)}" for at, row in enumerate(in_rows(words))]
@@ -35,7 +30,8 @@ def panel(words: List[str]) -> List[str]:
     return words + ["0000"] * (PANEL_WORDS - len(words))
 
 
-BINARY: Dict[str, Callable[[Sequence[str]], bytes]] = {"packed": packed, "two-bytes": two_bytes}
+BINARY: Dict[str, Callable[[Sequence[str]], bytes]] = {
+    "packed": packed, "two-bytes": lambda words: b"".join(int(word, 8).to_bytes(2, "big") for word in words)}
 # What the words of processor N from a cell on are in each form that is text.
 LINES: Dict[Optional[str], Callable[[int, int, List[str]], Iterable[str]]] = {
     None: lambda number, first, words: map(" ".join, in_rows(words)), "listing": lambda number, first, words: listing(first, words),
@@ -59,7 +55,7 @@ def main() -> int:
     number, first, last = processor(asked.words[0]), cell(asked.words[1]), cell(asked.words[2])
     if last < first:
         raise Failure(f"cell {last:o} is before cell {first:o}")
-    run, script = replayed(asked, symbols_of(asked), path)
+    run, refusals = replayed(asked, symbols_of(asked), path)
     run.goto(run.tape.end)
     words = run.cells(number, first, last)
     run.end()
@@ -67,4 +63,4 @@ def main() -> int:
         write_bytes(BINARY[asked.form](words))
     else:
         write_lines(LINES[asked.form](number, first, words))
-    return script.refusals.status()
+    return refusals.status()

@@ -18,9 +18,9 @@ def main() -> int:
     words = simulator(asked)
     lines, status = symbols_of(asked).loading(script_lines(asked.script)), 0
     if asked.turn is not None:
-        script = performed(words, lines)
-        tape, status = script.tape, script.refusals.status()
-        lines = list(tape.lines(Position(0), tape.after_turn(asked.turn)))
+        done, refusals = performed(words, lines)
+        tape, status = done.in_effect(), refusals.status()
+        lines = list(tape.lines(Position(0), tape.after_turn(asked.turn), with_watches=False))
     run = Session(words)
     status |= show_lines(run, lines, asked.stop)
     return max(run.end(), status)

@@ -14,7 +14,7 @@ from ..run.device import Device
 from ..run.forms import CHANNELS
 from ..run.session import Session
 from ..shell.options import Arguments, simulator, up_to
-from ..shell.script import Refusals, Script, performed
+from ..shell.script import Refusals, performed
 from ..shell.text_files import bytes_of, lines_of, script_lines
 
 FORM = "NAME[:WORD,..]@CHANNEL"
@@ -45,23 +45,24 @@ def timeline(words: Sequence[str], attached: Sequence[Device]) -> Session:
     return Attached(words, attached) if attached else Session(words)
 
 
-def replayed(asked: Namespace, symbols: Any, path: Optional[str], turn: Optional[int] = None) -> Tuple[Session, Script]:
+def replayed(asked: Namespace, symbols: Any, path: Optional[str], turn: Optional[int] = None) -> Tuple[Session, Refusals]:
     """Performs the script of a command line, after the lines that load its sources. Returns a simulator before the actions that are
-    in effect at its end, or after a turn with the settings before the next one; and the script."""
-    words = simulator(asked)
+    in effect at its end, or after a turn with the settings before the next one; and the lines that were refused."""
     devices = devices_of(asked) if getattr(asked, "device", None) else []
-    script = performed(words, symbols.loading(script_lines(path)), devices)
-    tape = script.tape if turn is None else script.tape.replay(script.tape.after_turn(turn))
-    run = Session.of_tape(words, tape)
+    done, refusals = performed(simulator(asked), symbols.loading(script_lines(path)), devices)
+    tape = done.in_effect()
+    if turn is not None:
+        tape.cut(tape.after_turn(turn))
+    run = done.search(tape)
     run.device_channels = frozenset(device.channel for device in devices)
-    return run, script
+    return run, refusals
 
 
 def script_with(words: Sequence[str], attached: Sequence[Device], script: bytes) -> Tuple[bytes, Refusals]:
     """Performs a script, given as bytes, with devices. Returns the script for the simulator alone that gives the same session, as bytes
     too, and the lines that were refused."""
-    done = performed(words, lines_of(script.decode("latin-1")), attached)
-    return "".join(f"{line}\n" for line in done.run.sent).encode("latin-1"), done.refusals
+    done, refusals = performed(words, lines_of(script.decode("latin-1")), attached)
+    return "".join(f"{line}\n" for line in done.sent).encode("latin-1"), refusals
 
 
 def device_of(text: str) -> Device:

@@ -21,6 +21,9 @@ NAMES = {"x86_64": ("pp6600", "pp6600-static"), "aarch64": ("pp6600-aarch64",), 
 LIBRARIES = {"x86_64": ("libpp6600.so", "libpp6600.a"), "aarch64": ("libpp6600-aarch64.so", "libpp6600-aarch64.a"),
              "windows": ("pp6600.dll", "libpp6600.dll.a")}
 MACHINES = {("Linux", "x86_64"): "x86_64", ("Linux", "aarch64"): "aarch64", ("Windows", "AMD64"): "windows", ("Windows", "ARM64"): "windows"}
+MACHINE_HERE = MACHINES.get((platform.system(), platform.machine()), "")  # of another machine it is empty
+NAMES_HERE = NAMES.get(MACHINE_HERE, ())
+LIBRARY_HERE = LIBRARIES[MACHINE_HERE][0] if MACHINE_HERE else ""
 THIS_IS = "this is pp6600-python, which is not proved"
 NOT_PROVED = f"the proved program does not start here; {THIS_IS}"
 
@@ -48,19 +51,9 @@ def words_to_run(program: str) -> Tuple[str, ...]:
     return first_that_starts(handed_out(HOME)) if whole == os.path.realpath(os.path.join(HOME, "pp6600")) else (program,)
 
 
-def machine_here() -> str:
-    """Returns the machine of NAMES that this one is; of another it is empty."""
-    return MACHINES.get((platform.system(), platform.machine()), "")
-
-
-def names_here() -> Tuple[str, ...]:
-    """Returns the names of the proved programs for this machine."""
-    return NAMES.get(machine_here(), ())
-
-
 def of_checkout(top: str) -> List[str]:
     """Returns the programs of a checkout for this machine, the best first."""
-    return verified(top, names_here())
+    return verified(top, NAMES_HERE)
 
 
 def verified(top: str, names: Sequence[str], *options: str) -> List[str]:
@@ -81,7 +74,7 @@ def verified(top: str, names: Sequence[str], *options: str) -> List[str]:
 def handed_out(top: str) -> List[str]:
     """Returns the programs for this machine of a class, whose folder has them in dist; or else of an installation or a package."""
     folder = os.path.join(top, "dist") if os.path.isdir(os.path.join(top, "dist")) else top
-    return [path for path in (os.path.join(folder, name) for name in names_here()) if os.path.isfile(path)]
+    return [path for path in (os.path.join(folder, name) for name in NAMES_HERE) if os.path.isfile(path)]
 
 
 def first_that_starts(programs: List[str]) -> Tuple[str, ...]:

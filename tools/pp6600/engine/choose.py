@@ -2,14 +2,16 @@
 
 from __future__ import annotations
 
+import contextlib
 import functools
 import os
 import sys
 from typing import List, Optional, Sequence
 
 from ..failure import Failure
-from .choice import HOME, LIBRARIES, THIS_IS, machine_here
+from .choice import HOME, LIBRARY_HERE, THIS_IS
 from .interface import Engine
+from .options import options_of
 
 PLAIN = "plain"  # names the simulator in plain Python
 SUFFIXES = (".so", ".dll", ".dylib")
@@ -29,8 +31,11 @@ def engine_of(name: str, words: Sequence[str]) -> Engine:
     if path is None:
         from .plain_engine import PlainEngine
         return PlainEngine(words)
-    from .library import session_of
-    return session_of(path, words)
+    from .library import LibrarySession, Unloadable
+    try:
+        return LibrarySession(**options_of(words), path=path)
+    except Unloadable as failure:
+        raise Failure(f"{path} is not the library of the simulator: {failure.__cause__}") from failure
 
 
 def is_proved(engine: Engine) -> bool:
@@ -46,36 +51,23 @@ def library_named(name: str) -> Optional[str]:
         return name
     if os.path.basename(name).startswith("pp6600-python"):
         return None
+    from .library import loaded
     is_own = os.path.abspath(name) == os.path.join(HOME, "pp6600")
-    found = next(filter(loads, libraries_beside(name)), None) if is_own or os.path.exists(name) else None
-    if found:
-        return found
+    for path in libraries_beside(name) if is_own or os.path.exists(name) else ():
+        with contextlib.suppress(Failure):  # it can't be used on this machine
+            loaded(path)
+            return path
     if not is_own:
-        raise Failure(f"{name} is not the simulator: there is no {library_here() or 'library'} beside it")
+        raise Failure(f"{name} is not the simulator: there is no {LIBRARY_HERE or 'library'} beside it")
     if sys.stderr is not None:
         print(f"pp6600: there is no library of the proved program for this machine; {THIS_IS}", file=sys.stderr, flush=True)
     return None
 
 
-def library_here() -> str:
-    """Returns the name of the library for this machine; of another machine it is empty."""
-    return next(iter(LIBRARIES.get(machine_here(), ())), "")
-
-
 def libraries_beside(name: str) -> List[str]:
     """Returns the paths of the libraries that belong to a program, the best first."""
-    folder, library = os.path.dirname(os.path.abspath(name)), library_here()
+    folder = os.path.dirname(os.path.abspath(name))
     led_to = os.path.dirname(os.path.realpath(name))  # by links
     built = os.path.normpath(os.path.join(led_to, "..", "..", "..", "targets", "out"))  # where ./prove puts what it makes of crates/pp6600/out
     places = (folder, os.path.join(folder, "dist"), os.path.join(folder, "lib"), led_to, built)
-    return [path for path in (os.path.join(place, library) for place in places) if library and os.path.exists(path)]
-
-
-def loads(path: str) -> bool:
-    """Returns whether a library can be used on this machine."""
-    from .library import loaded
-    try:
-        loaded(path)
-    except Failure:
-        return False
-    return True
+    return [path for path in (os.path.join(place, LIBRARY_HERE) for place in places) if LIBRARY_HERE and os.path.exists(path)]

@@ -11,11 +11,10 @@ from ctypes import byref, c_size_t, c_uint16, c_uint32, c_uint64
 from typing import Any, Iterator, List, NamedTuple, Optional, Sequence, Tuple
 
 from ..failure import Failure
-from .choice import HOME
-from .choose import libraries_beside, library_here
+from .choice import HOME, LIBRARY_HERE
+from .choose import libraries_beside
 from .interface import Counts, Form, Records, Rejection
 from .numbers_of_calls import checked, counted
-from .options import options_of
 from .origins import LINK_BYTES, Origins, origins_of
 
 DONE, ROOM, WATCHED, CLOSED, OPEN, NO_MEMORY, REFUSED, LIMIT, NOT_FOUND = range(9)
@@ -88,7 +87,7 @@ LATER_CALLS = ("origins", "next_origins", "until", "back_until", "last_write")  
 def load(path: Optional[str] = None) -> Any:
     """Loads the library from this path, or from $PP6600_LIBRARY, or from where the tools are: a checkout, an installation, a package."""
     path = path or os.environ.get("PP6600_LIBRARY") or next(iter(libraries_beside(os.path.join(HOME, "pp6600"))), None)
-    return loaded(path or os.path.join(HOME, "dist", library_here() or "libpp6600.so"))
+    return loaded(path or os.path.join(HOME, "dist", LIBRARY_HERE or "libpp6600.so"))
 
 
 def call_of(library: Any, name: str) -> Any:
@@ -351,11 +350,3 @@ class LibrarySession:
     def forward(self, count: int) -> bool:
         """Performs undone actions again. Returns whether there were enough; if not, none is performed."""
         return self._call("forward", *checked("forward", count)) == DONE
-
-
-def session_of(path: str, words: Sequence[str]) -> LibrarySession:
-    """Begins a session with the options of the program."""
-    try:
-        return LibrarySession(**options_of(words), path=path)
-    except Unloadable as failure:
-        raise Failure(f"{path} is not the library of the simulator: {failure.__cause__}") from failure

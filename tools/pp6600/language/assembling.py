@@ -46,12 +46,9 @@ def lines_of_form(lines: Sequence[str], texts: Sequence[Text], form: str, proces
     if form == "set":
         return set_lines(unit, processor)
     words = {address: f"{cell.word:04o}" for address, cell in sorted(unit.cells.items())}
-    return {"words": lines_of_words, "panel": panel, "deck": deck}[form](words)
-
-
-def lines_of_words(words: Dict[int, str]) -> List[str]:
-    """Returns a line for each cell: its address and its word."""
-    return [f"{address:04o} {word}" for address, word in words.items()]
+    if form == "words":
+        return [f"{address:04o} {word}" for address, word in words.items()]
+    return {"panel": panel, "deck": deck}[form](words)
 
 
 def panel(words: Dict[int, str]) -> List[str]:

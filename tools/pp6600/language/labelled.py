@@ -4,9 +4,9 @@ import re
 from itertools import takewhile
 from typing import Dict, Iterator, List, Mapping, NamedTuple, Sequence, Set
 
-from ..run.turn import INDEXED, RELATIVE_JUMPS, TWO_WORDS
+from ..run.turn import CONSTANTS, INDEXED, RELATIVE_JUMPS, TWO_WORDS
 from .display_code import text_of
-from .notation import CODES, CONSTANTS, SYMBOL, size_of, statement_of
+from .notation import CODES, SYMBOL, size_of, statement_of
 
 WORDS_OF_LINE = 4  # of a CON
 ZEROS = 4  # that are a BSSZ

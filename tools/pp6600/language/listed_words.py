@@ -4,8 +4,8 @@ says of a literal, or of a name that the listing does not have."""
 import re
 from typing import Dict, List, Mapping, NamedTuple, Optional, Sequence, Tuple
 
-from ..run.turn import INDEXED, RELATIVE_JUMPS, TWO_WORDS
-from .notation import CODES, CONSTANTS, MAKERS, SUBR, WORD_BITS, parts_of, statement_of
+from ..run.turn import CONSTANTS, INDEXED, RELATIVE_JUMPS, TWO_WORDS
+from .notation import CODES, MAKERS, SUBR, WORD_BITS, parts_of, statement_of
 from .performing import Given, Performed, performed
 
 D = 0o77  # what the operand of an instruction says of its first word

@@ -37,14 +37,10 @@ class InDoubt(Failure):
         self.doubts = doubts
 
 
-def shown_messages(path: Optional[str], messages: Sequence[Message]) -> List[str]:
-    """Returns the lines about what is wrong with a text, as FILE:LINE:COLUMN: and a text."""
-    return [shown_text(f"{named(path)}:{line}:{column}: {text}") for line, column, text in messages]
-
-
 def shown_doubts(path: Optional[str], doubts: Sequence[Message]) -> List[str]:
-    more = len(doubts) - MOST_DOUBTS
-    return shown_messages(path, doubts[:MOST_DOUBTS]) + ([f"{named(path)}: {more} (decimal) more"] if more > 0 else [])
+    """Returns the lines about what is wrong with a text, as FILE:LINE:COLUMN: and a text."""
+    shown, more = [f"{named(path)}:{line}:{column}: {text}" for line, column, text in doubts[:MOST_DOUBTS]], len(doubts) - MOST_DOUBTS
+    return [*map(shown_text, shown), *([f"{named(path)}: {more} (decimal) more"] if more > 0 else [])]
 
 
 def complain_of(path: Optional[str], listing: "Listing") -> None:

@@ -5,7 +5,7 @@ from typing import Dict, List, NamedTuple, Optional, Sequence
 
 import re
 
-from ..run.turn import CONSTANTS as CONSTANTS, NAMES, TWO_WORDS
+from ..run.turn import NAMES, TWO_WORDS
 
 MNEMONICS: Sequence[str] = NAMES
 CODES: Dict[str, int] = {name: code for code, name in reversed(list(enumerate(NAMES)))}  # of PSN, which is three, the first

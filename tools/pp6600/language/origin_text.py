@@ -166,19 +166,14 @@ class Writer:
 
     def why(self, step: Step) -> str:
         """Returns what decided in the turn of a step."""
-        reasons = [f"{reason_name(place)} WAS {reason_number(place, number)}" for place, number in step.reasons] if self.with_reasons else []
+        reasons = []
+        for place, number in step.reasons if self.with_reasons else ():
+            is_state = place.kind == "S"  # the name of a channel's state is that of the channel
+            name, said = (Place("H", place.numbers), STATE_WORDS[number]) if is_state else (place, f"{number:0{place.digits}o}")
+            reasons.append(f"{name.text} WAS {said}")
         return f", BECAUSE {' AND '.join(reasons)}" if reasons else ""
 
     @staticmethod
     def name(link: Link) -> str:
         parts = f" PART{'S' * (len(link.parts) > 1)} {' '.join(map(str, link.parts))}" if link.parts else ""
         return f"{link.place.text}{parts} {link.number}".rstrip()
-
-
-def reason_name(place: Place) -> str:
-    """Returns the name of a place that decided; that of a channel's state is its channel's."""
-    return Place("H", place.numbers).text if place.kind == "S" else place.text
-
-
-def reason_number(place: Place, number: int) -> str:
-    return STATE_WORDS[number] if place.kind == "S" else f"{number:0{place.digits}o}"

@@ -6,10 +6,9 @@ from typing import Dict, Iterator, List, Mapping, NamedTuple, Optional, Sequence
 
 from ..engine.assembler import COMPLAINTS, NAMES, ROWS, UNITS, Text, assembler_here
 from ..failure import Failure
-from ..run.forms import CELLS
-from ..run.turn import TWO_WORDS
+from ..run.turn import CONSTANTS, TWO_WORDS
 from ..shell.text_files import lines_of
-from .notation import CODES, CONSTANTS, LITERAL, WORD_BITS, Statement, parts_of, statement_of
+from .notation import CODES, LITERAL, WORD_BITS, Statement, parts_of, statement_of
 from .performing import Given, performed, used_in
 
 LOCAL = re.compile("Z[.][0-7]{4,}")  # a name that a macro has for itself

@@ -3,7 +3,7 @@
 from __future__ import annotations
 
 from argparse import Namespace
-from typing import Any, Iterable, Mapping, NamedTuple, Optional, Sequence
+from typing import Any, Dict, Iterable, Mapping, NamedTuple, Optional, Sequence
 
 from ..failure import Failure
 from ..run.names import AllSymbols
@@ -34,15 +34,15 @@ def symbols_of(asked: Namespace) -> AllSymbols:
 
 def symbols_from(listings: Iterable[Sequence[str]], sources: Iterable[Sequence[str]], given: Given = Given()) -> AllSymbols:
     """Returns the symbols of pairs of a processor and a listing, and of a processor and a source, which has the given texts."""
-    symbols = AllSymbols()
+    of: Dict[int, Any] = {}
     for number, path in [(processor(text), path) for text, path in listings]:
         from .listing import ListingSymbols
-        if number in symbols.of:
+        if number in of:
             raise Failure(f"processor {number:o} is given symbols twice")
-        symbols.of[number] = ListingSymbols.of_file(path)
+        of[number] = ListingSymbols.of_file(path)
     for number, path in [(processor(text), path) for text, path in sources]:
         from .sources import Source
-        if number in symbols.of:
+        if number in of:
             raise Failure(f"processor {number:o} is given a source, and symbols or a source again")
-        symbols.of[number] = Source.of_file(path, given)
-    return symbols
+        of[number] = Source.of_file(path, given)
+    return AllSymbols(of)

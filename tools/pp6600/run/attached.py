@@ -13,12 +13,12 @@ from ..engine import interface as flat
 from ..failure import Failure
 from .console import COUNTED, LONGEST_LINE
 from .device import Channel, Device, DeviceFailure, Value, is_value, looked
-from .forms import CHANNELS, MOST_TURNS, Place, is_refusal
+from .forms import CHANNELS, MOST_TURNS, Place, refused
 from .new_turns import NewTurns, value_told
 from .past import Past, name_of
 from .plain_script import PlainScript
 from .session import Session
-from .tape import STEP, Position, UnitCounts, Units
+from .tape import STEP, Position, Units
 
 BACK_W = re.compile(r"[ \t]*BACK[ \t]+W[ \t\r]*", re.I)
 
@@ -43,8 +43,7 @@ class Attached(Session):
         except Failure:
             self.close()
             raise
-        self.plain = PlainScript(self.history.room, self.tape)
-        self.counts = UnitCounts(self.history, self.plain.history)
+        self.plain = PlainScript(self.room, self.tape)
         self.papers = [""] * len(self.devices)  # as they were shown last
         self.told: Dict[Position, Tuple[int, Any]] = {}  # the number of a device and what it was told, by the position after it
 
@@ -81,9 +80,8 @@ class Attached(Session):
         return found
 
     @property
-    def unit(self) -> Units:
-        """How many units are in effect."""
-        return self.tape.units(self.position)
+    def ahead(self) -> int:
+        return self.plain.ahead
 
     @property
     def sent(self) -> List[str]:
@@ -113,7 +111,7 @@ class Attached(Session):
             raise
         if self.position != before:
             self.plain.go(self.position)
-        elif not is_refusal(answer):
+        elif not refused(answer):
             self.plain.lines.append(line)
         return answer
 
@@ -130,8 +128,7 @@ class Attached(Session):
         if BACK_W.fullmatch(line):
             return self._back_to_unit(answer)
         if answer == ["OK"]:
-            self.cut(self.position)
-            self.history.added(line)
+            self.added(line)
         return answer
 
     def tell(self, number: int, what: Any) -> None:
@@ -188,10 +185,10 @@ class Attached(Session):
         if not answer[0].startswith("BACK "):
             return answer
         here = self.unit
-        self.history.moved(-int(answer[0].split()[1], 8))
+        self.moved(-int(answer[0].split()[1], 8))
         units = self.tape.whole_units(self.position)
         self.goto(self.tape.after_units(units))
-        return [f"BACK {here - units:o} SLOT {self.next_slot:02o}"]
+        return [f"BACK {here - units:o} SLOT {self.slot():02o}"]
 
     # ---- new actions
 
@@ -202,15 +199,15 @@ class Attached(Session):
         try:
             hit = new.make(most, watched)
         except DeviceFailure:
-            self.history.went(new.position, self.engine.counts().kept)
+            self.performed(new.position - begin, self.engine.counts().kept)
             self.goto(begin)
-            self.history.ahead = 0
+            self.newest = begin
             raise
         self._commit(new)
-        return [f"TURNS {new.turn - turn:o} SLOT {self.next_slot:02o}", *([hit] if hit else [])]
+        return [f"TURNS {new.turn - turn:o} SLOT {self.slot():02o}", *([hit] if hit else [])]
 
     def _new_turns(self) -> NewTurns:
-        return NewTurns(self.engine, self.pasts, self.history.room, self.tape, self.position)
+        return NewTurns(self.engine, self.pasts, self.room, self.tape, self.position)
 
     def _commit(self, new: NewTurns, line: str = "") -> None:
         """Takes a line and what was made after it into the tape, in place of what is ahead."""
@@ -219,7 +216,7 @@ class Attached(Session):
         for replies in new.replies:
             self.tape.append_replies(*replies)
         self.tape.append(STEP, new.turn - self.tape.turns)
-        self.history.went(new.position, self.engine.counts().kept)
+        self.performed(new.position - self.position, self.engine.counts().kept)
         self.plain.stops += new.stops
         for past, (at, values) in zip(self.pasts, new.new):
             if values:

@@ -21,9 +21,9 @@ FORM = ("a condition is PLACE = 105 (also != < > <= >=), PLACE outside 100 117, 
         "M 0 100 117 changes or is written, H 12 is F, H 12 changes state, PP 3 performs 105, PP 3 waits, PP 3 in a block, "
         "PP 3 not in a block or PP 3 returns wrongly; conditions are joined by and, and these by or")
 GREATEST = (1 << 64) - 1
-# Of each comparison the kind of its form, and the ends of the range for a number: None is the number.
+# Of each comparison the kind of its form, and the ends of the range for a number, or for two: None is the number.
 COMPARISONS = {"=": (INSIDE, None, None), "!=": (OUTSIDE, None, None), "<=": (INSIDE, 0, None), ">=": (INSIDE, None, GREATEST),
-               "<": (OUTSIDE, None, GREATEST), ">": (OUTSIDE, 0, None)}
+               "<": (OUTSIDE, None, GREATEST), ">": (OUTSIDE, 0, None), "inside": (INSIDE, None, None), "outside": (OUTSIDE, None, None)}
 OF_A_PROCESSOR = ("M", "A", "P", "Q")
 STATE_OF_CLOCK = "F"
 Numbers = List[Tuple[str, str]]  # names, with digits
@@ -35,16 +35,11 @@ class Column(NamedTuple):
     place: Place
     size: int = 1
 
-    @property
-    def places(self) -> range:
-        """Their places in the flat order of the engines."""
-        first = self.place.number
-        return range(first, first + self.size)
-
     def shown(self, run: Session) -> Numbers:
         """Returns what is shown of them as they are: names and digits, and of a channel the state too."""
+        first = self.place.number
         found = [(Place.at(place).text, f"{number:0{self.place.digits}o}")
-                 for place, number in zip(self.places, run.engine.numbers(self.places[0], self.size))]
+                 for place, number in enumerate(run.engine.numbers(first, self.size), first)]
         if self.place.kind == "H" and self.place.numbers[0] < CLOCK:
             (state,) = run.engine.numbers(flat.STATES + self.place.numbers[0], 1)
             found = [(name, f"{STATES[state]} {digits}") for name, digits in found]
@@ -78,32 +73,22 @@ class Returns(NamedTuple):
 AnyTest = Union[Test, Waits, Returns]
 
 
-class Alternative(NamedTuple):
+class Alternative:
     """Tests that must hold together."""
 
-    tests: Tuple[AnyTest, ...]
-
-    @property
-    def waits(self) -> List[int]:
-        """The processors that must wait."""
-        return [test.number for test in self.tests if isinstance(test, Waits)]
-
-    @property
-    def returns(self) -> List[Returns]:
-        return [test for test in self.tests if isinstance(test, Returns)]
-
-    @property
-    def forms(self) -> List[List[Form]]:
-        """The alternatives of its other tests, as the engines have them; none if there are no others."""
-        others = [test.forms for test in self.tests if isinstance(test, Test)]
-        return [list(forms) for forms in product(*others)] if others else []
+    def __init__(self, tests: Sequence[AnyTest]) -> None:
+        self.tests = tests
+        self.waits = [test.number for test in tests if isinstance(test, Waits)]  # the processors that must wait
+        self.returns = [test for test in tests if isinstance(test, Returns)]
+        others = [test.forms for test in tests if isinstance(test, Test)]
+        self.forms = [list(forms) for forms in product(*others)] if others else []  # the alternatives of the others, for the engines
 
 
 class Condition:
     """Alternatives, of which one must come to hold."""
 
     def __init__(self, alternatives: Iterable[Sequence[AnyTest]]) -> None:
-        self.alternatives = [Alternative(tuple(tests)) for tests in alternatives]
+        self.alternatives = list(map(Alternative, alternatives))
         columns = [test.column for one in self.alternatives for test in one.tests if not isinstance(test, Waits) and test.column]
         self.columns = list(dict.fromkeys(columns))  # those that are shown
 
@@ -125,13 +110,13 @@ def joined(alternatives: Iterable[Sequence[Form]]) -> Tuple[Form, ...]:
 
 def is_number(column: Column, first: int, last: int, kind: int = INSIDE, place: Optional[int] = None) -> Test:
     """Returns the test of a number, the first one of a column, or that at another place."""
-    return Test((Form(kind, column.places[0] if place is None else place, first, last),), column)
+    return Test((Form(kind, column.place.number if place is None else place, first, last),), column)
 
 
 def changes(column: Column, with_state: bool = False, with_number: bool = True) -> Test:
     """Returns the test whether numbers have changed. Of a channel it is its state, its number, or both."""
     state = [Form(CHANGES, flat.STATES + column.place.numbers[0], 1)] if with_state else []
-    return Test((*state, *([Form(CHANGES, column.places[0], column.size)] if with_number else [])), column)
+    return Test((*state, *([Form(CHANGES, column.place.number, column.size)] if with_number else [])), column)
 
 
 def is_written(place: int, count: int = 1) -> Form:
@@ -140,17 +125,7 @@ def is_written(place: int, count: int = 1) -> Form:
 
 def written(column: Column) -> Test:
     """Returns the test whether one of some places is written."""
-    return Test((is_written(column.places[0], column.size),), column)
-
-
-def are_written(words: Sequence[str]) -> bool:
-    """Returns whether words begin with "is written"."""
-    return [word.lower() for word in words[:2]] == ["is", "written"]
-
-
-def performs(number: int, address: int) -> Form:
-    """Returns the test whether a processor is about to perform the instruction at an address."""
-    return Form(PERFORMS, number, address)
+    return Test((is_written(column.place.number, column.size),), column)
 
 
 # ---- what is typed
@@ -208,38 +183,29 @@ def first_test(words: List[str], symbols: Any) -> Tuple[AnyTest, List[str]]:
     if not words:
         raise Failure(FORM)
     place, rest = first_place(words, symbols)
-    if place.kind == "M" and ([word.lower() for word in rest[1:2]] == ["changes"] or are_written(rest[1:])):
+    kind, *more = [word.lower() for word in rest[:3]] or [""]
+    if place.kind == "M" and (more[:1] == ["changes"] or more == ["is", "written"]):
         last = number_of(rest[0], place, symbols)
         if last < place.numbers[1]:
             raise Failure(f"{rest[0]} is before the first cell of {place.short}")
         column = Column(place, last - place.numbers[1] + 1)
-        return (written(column), rest[3:]) if are_written(rest[1:]) else (changes(column), rest[2:])
-    kind = rest[0].lower() if rest else ""
-    if are_written(rest):
+        return (changes(column), rest[2:]) if more[:1] == ["changes"] else (written(column), rest[3:])
+    if kind == "is" and more[:1] == ["written"]:
         return written(column_of(place)), rest[2:]
-    if kind == "changes" and place.kind == "H" and rest[1:2] and rest[1].lower() == "state":
+    if kind == "changes" and place.kind == "H" and more[:1] == ["state"]:
         return never(place) if place.numbers[0] == CLOCK else changes(column_of(place), True, False), rest[2:]
     if kind == "changes":
         return changes(column_of(place)), rest[1:]
     if kind == "is" and place.kind == "H":
         return state_test(place, rest)
-    count = 1 if kind in COMPARISONS else 2 if kind in ("outside", "inside") else None
-    if count is None or len(rest) <= count:
+    count = 2 if kind in ("inside", "outside") else 1
+    if kind not in COMPARISONS or len(rest) <= count:
         raise Failure(FORM)
-    numbers = [number_up_to(text, place, symbols) for text in rest[1:count + 1]]
-    return number_test(column_of(place), kind, numbers), rest[count + 1:]
-
-
-def number_test(column: Column, kind: str, numbers: Sequence[int]) -> Test:
-    """Returns the test of a number by a comparison, or by a range."""
-    if kind in COMPARISONS:
-        of, *ends = COMPARISONS[kind]
-        first, last = (numbers[0] if end is None else end for end in ends)
-        return is_number(column, first, last, of)
-    first, last = numbers
+    numbers, (of, *ends) = [number_up_to(text, place, symbols) for text in rest[1:count + 1]], COMPARISONS[kind]
+    column, (first, last) = column_of(place), (number if end is None else end for number, end in zip((numbers[0], numbers[-1]), ends))
     if first > last:
         raise Failure(f"{first:o} is over {last:o}")
-    return is_number(column, first, last, INSIDE if kind == "inside" else OUTSIDE)
+    return Test((Form(of, place.number, first, last),), column), rest[count + 1:]
 
 
 def processor_test(words: List[str], symbols: Any) -> Tuple[AnyTest, List[str]]:
@@ -256,7 +222,7 @@ def processor_test(words: List[str], symbols: Any) -> Tuple[AnyTest, List[str]]:
         return Waits(number), words[3:]
     if is_in and kind[:1] == ["performs"] and len(words) > 3:
         place = Place("P", (number,))
-        return Test((performs(number, number_up_to(words[3], place, symbols)),), Column(place)), words[4:]
+        return Test((Form(PERFORMS, number, number_up_to(words[3], place, symbols)),), Column(place)), words[4:]
     if is_in and kind[:2] == ["returns", "wrongly"]:
         entries = symbols.of[number].entries() if number in symbols.of else {}
         if not entries:

@@ -10,7 +10,7 @@ from ..engine import interface as flat
 from ..engine.choose import default_engine, engine_of
 from ..engine.interface import Rejection
 from ..failure import Failure
-from .forms import CELLS, CLOCK, PROCESSORS, Place, Registers, fields, is_refusal
+from .forms import CELLS, CLOCK, PROCESSORS, Place, Registers, fields, refused
 from .turn import Cell, Processor
 
 LONGEST_LINE = 255
@@ -64,7 +64,7 @@ class Console:
         if self.is_ended:
             raise Failure("the simulator has ended")
         answer = self.engine.answers(f"{line}\n")
-        self.has_refused = self.has_refused or is_refusal(answer)
+        self.has_refused = self.has_refused or refused(answer) is not None
         return answer
 
     def ask_each(self, lines: Iterable[str]) -> Iterator[List[str]]:
@@ -74,7 +74,7 @@ class Console:
     def demand(self, line: str) -> List[str]:
         """Returns the answer to a line that must not be refused."""
         answer = self.ask(line)
-        if is_refusal(answer):
+        if refused(answer):
             raise Failure(f"the simulator answers {answer[0]} to {line}")
         return answer
 
@@ -95,9 +95,6 @@ class Console:
         del registers["PP"]
         return registers
 
-    def slot(self) -> int:
-        return int(self.registers(0)["SLOT"], 8)
-
     def cells(self, processor: int, first: int, last: int) -> List[str]:
         """Returns the words of the cells from first to last, at most 0o7777, each as its four octal digits."""
         checked_number("a processor", processor)
@@ -107,6 +104,10 @@ class Console:
     def number_of(self, place: int) -> int:
         """Returns the number at a place of the flat order."""
         return self.engine.numbers(place, 1)[0]
+
+    def slot(self) -> int:
+        """Returns the processor whose turn comes next."""
+        return self.number_of(flat.SLOT)
 
     def cell_of(self, processor: int) -> Cell:
         """Returns the function that reads the cells of a processor; after cell 7777 comes cell 0000."""

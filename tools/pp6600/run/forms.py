@@ -141,11 +141,6 @@ def fields(line: str) -> Dict[str, str]:
     return dict(zip(words[len(words) % 2::2], words[len(words) % 2 + 1::2]))
 
 
-def is_refusal(answer: Sequence[str]) -> bool:
-    """Returns whether an answer refuses its line."""
-    return bool(answer) and answer[0].startswith("ERR ")
-
-
 def hit_of(answer: Sequence[str]) -> Optional[str]:
     """Returns the line of an answer that says that a watched number changed, or None."""
     return next((line for line in answer[1:2] if line.startswith("HIT ")), None)

@@ -4,7 +4,7 @@ from __future__ import annotations
 
 import bisect
 import re
-from typing import Any, Dict, Iterable, List, Optional, Sequence, Tuple
+from typing import Any, Dict, Iterable, List, Mapping, NamedTuple, Optional, Sequence, Tuple
 
 from ..failure import Failure
 from .forms import CELLS
@@ -101,11 +101,10 @@ class AddressNames:
         return []
 
 
-class AllSymbols:
+class AllSymbols(NamedTuple):
     """The symbols of some processors."""
 
-    def __init__(self) -> None:
-        self.of: Dict[int, Any] = {}  # by processor its symbols, or its source
+    of: Mapping[int, Any] = {}  # by processor its symbols, or its source
 
     def name(self, processor: int, address: int) -> str:
         """Returns an address of a processor as START+3; nothing if no label is near."""
@@ -121,9 +120,11 @@ class AllSymbols:
     def address(self, processor: int, text: str) -> Optional[int]:
         """Returns the address of a label of a processor, as START or START+3; None if there is no such label. A name of another
         number serves too."""
+        if processor not in self.of:
+            return None
         label, _, more = text.partition("+")
-        symbols, distance = self.of.get(processor), octal_number(more or "0")
-        number: Optional[int] = symbols.address(label) if symbols else None
+        number: Optional[int] = self.of[processor].address(label)
+        distance = octal_number(more or "0")
         if distance is None or number is None:
             return None
         return (number + distance) % CELLS if number < CELLS else number + distance
@@ -172,16 +173,12 @@ class AllSymbols:
         symbols = self.of.get(processor)
         return str(symbols.text(address, word)) if symbols else ""
 
-    def line(self, processor: int, address: int, words: Sequence[int]) -> str:
-        """Returns the line of a source whose instruction is in a cell, with these words, or was there, after two blanks; nothing without
-        one."""
-        symbols = self.of.get(processor)
-        line = symbols.beside(address, words) if symbols else ""
-        return f"  {line}" if line else ""
-
     def line_at_p(self, number: int, processor: Processor) -> str:
-        """Returns what `line` does at P of a processor; nothing in a block transfer."""
-        return "" if processor.phase else self.line(number, processor.p, processor.words)
+        """Returns the line of a source whose instruction is at P of a processor, or was there, after two blanks; nothing without one, and
+        in a block transfer."""
+        symbols = self.of.get(number)
+        line = symbols.beside(processor.p, processor.words) if symbols and not processor.phase else ""
+        return f"  {line}" if line else ""
 
     def beside(self, processor: int, address: int) -> str:
         """Returns the digits of an address, with its name after them if there is one."""

@@ -9,7 +9,7 @@ from ..engine.origins import PUNCHED, Origins
 from ..failure import Failure
 from .conditions import is_written
 from .forms import CELLS, CLOCK, Place, ranges_of
-from .search import conditions_of, last_turn
+from .search import TurnFinder, last_turn
 from .session import Session
 from .tape import STEP, Position
 from .turn import Processor, places_of_setting
@@ -145,7 +145,7 @@ class OriginSearch:
     def _last_write(self, first: Position, last: Position) -> Position:
         """Returns the position after the last turn between two positions that wrote a place that is asked for; the first if there is none."""
         ranges = ranges_of(place.number for place in self.asked)
-        for condition in conditions_of([[is_written(place, size)] for place, size in ranges]):
+        for condition in TurnFinder([[is_written(place, size)] for place, size in ranges]).conditions:
             self.run.goto(last)
             if last_turn(self.run, condition, first, self.progress):
                 first = self.run.position
@@ -161,7 +161,7 @@ class OriginSearch:
         """Looks at the turn before a position: of all that it wrote and is asked for, the sources were read before."""
         run, number = self.run, self.run.number_of
         run.goto(Position(position - 1))
-        processor, control = run.processor(run.next_slot), run.engine.next_origins().control
+        processor, control = run.processor(run.slot()), run.engine.next_origins().control
         reasons = [(place, number(place.number)) for place in reasons_of(control)]
         card, column, length = map(number, (CARD, CARD_COLUMN, PAPER_LENGTH))
         turn = made_turn(run)

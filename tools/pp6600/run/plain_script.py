@@ -9,13 +9,13 @@ from typing import Iterator, List
 from .tape import History, Position, Tape, with_notes
 
 
-class PlainScript:
+class PlainScript(History):
     """The lines that give a session again to the simulator alone: each reply is a SET H after a note that names its device. What the
     simulator would no longer keep is performed anew, and the script begins anew with it."""
 
     def __init__(self, room: int, tape: Tape) -> None:
         """The simulator keeps so many actions."""
-        self.history = History(room, tape)
+        super().__init__(room, tape)
         self.stops: List[int] = []  # the positions after turns with a HIT, where a STEP of the script ends
         self.times_anew = 0
         self.written: List[str] = []
@@ -24,33 +24,32 @@ class PlainScript:
     @property
     def lines(self) -> List[str]:
         """The lines so far. Those of new actions are written when they are asked for."""
-        if self.end < self.history.position:
-            self.written += self.part(self.end, self.history.position)
-            self.end = self.history.position
+        if self.end < self.position:
+            self.written += self.part(self.end, self.position)
+            self.end = self.position
         return self.written
 
     def part(self, first: Position, last: Position) -> Iterator[str]:
         """Yields the lines for the actions between two positions."""
         inside = self.stops[bisect.bisect_right(self.stops, first):bisect.bisect_left(self.stops, last)]
         ends = [first, *map(Position, inside), last]
-        return with_notes(itertools.chain.from_iterable(itertools.starmap(self.history.tape.lines, zip(ends, ends[1:]))))
+        return with_notes(itertools.chain.from_iterable(itertools.starmap(self.tape.lines, zip(ends, ends[1:]))))
 
     def cut(self, position: Position) -> None:
         """Forgets what is after a position."""
-        self.history.ahead = min(self.history.ahead, position - self.history.position)
+        super().cut(position)
         del self.stops[bisect.bisect_right(self.stops, position):]
 
     def go(self, position: Position) -> None:
         """Leads to a position."""
-        history = self.history
-        if position < history.oldest:
+        if position < self.oldest:
             self.times_anew += 1
             self.written, self.end = [], Position(0)
-            history.restarted()
-        count = min(position - history.position, history.ahead)
+            self.restarted()
+        count = min(position, self.newest) - self.position
         if count:
             self.lines.append(f"{'BACK' if count < 0 else 'FORWARD'} {abs(count):o}")
-            history.moved(count)
-            self.end = history.position
-        if position > history.position:
-            history.performed(position - history.position)
+            self.moved(count)
+            self.end = self.position
+        if position > self.position:
+            self.performed(position - self.position)

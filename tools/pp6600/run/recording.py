@@ -2,7 +2,6 @@
 
 from __future__ import annotations
 
-from array import array
 from typing import Dict, Tuple
 
 from ..engine.interface import Records
@@ -23,14 +22,13 @@ class Numbers(Dict[int, int]):
 
 def overwritten(records: Records) -> Dict[int, int]:
     """Returns the numbers that actions overwrote, by their places: of a place that is there twice the first one."""
-    olds = array("Q", records.olds)
-    return dict(zip(reversed(olds[::2]), reversed(olds[1::2])))
+    return dict(zip(reversed(records.places), reversed(records.numbers)))
 
 
 def next_turn(run: Session) -> Tuple[Dict[int, int], Numbers]:
     """Makes the next turn of the tape. Returns what it overwrote, and the numbers after it."""
     was = overwritten(run.engine.records(1))
-    run.history.performed(1)
+    run.performed(1)
     return was, Numbers(run)
 
 

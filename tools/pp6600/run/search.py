@@ -15,7 +15,7 @@ from typing import Any, Callable, Dict, Iterable, Iterator, List, NamedTuple, Op
 from ..engine import interface as flat
 from ..engine import plain_conditions
 from ..engine.interface import CHANGES, INSIDE, MOST_ALTERNATIVES, PERFORMS, WAITS, Form
-from .conditions import Alternative, Column, Numbers, is_written, joined
+from .conditions import Alternative, Column, is_written, joined
 from .forms import PROCESSORS, ranges_of
 from .session import Session
 from .tape import STEP, Position
@@ -34,7 +34,7 @@ Forms = Sequence[Form]
 def first_turn(run: Session, condition: Forms, most: int) -> bool:
     """Makes turns of a run, at most so many, up to the first in which a condition comes to hold. Returns whether it does."""
     made, is_found = run.engine.until(condition, min(most, MOST_AT_ONCE))
-    run.history.performed(made)
+    run.performed(made)
     return is_found
 
 
@@ -69,25 +69,21 @@ class Finder(Protocol):
         """Makes turns of a run, at least one and at most so many, up to the first that is found. Returns whether one is."""
 
 
-def conditions_of(alternatives: Sequence[Forms]) -> List[Forms]:
-    """Returns some alternatives as conditions. An engine takes only so many at once."""
-    return [joined(alternatives[at:at + MOST_ALTERNATIVES]) for at in range(0, len(alternatives), MOST_ALTERNATIVES)]
-
-
 class TurnFinder:
-    """Finds the turns in which alternatives come to hold that an engine can judge."""
+    """Finds the turns in which alternatives come to hold that an engine can judge. It takes only so many at once."""
 
     remembers = False
 
     def __init__(self, alternatives: Sequence[Forms]) -> None:
-        self.conditions = conditions_of(alternatives)
+        parts = (alternatives[at:at + MOST_ALTERNATIVES] for at in range(0, len(alternatives), MOST_ALTERNATIVES))
+        self.conditions = list(map(joined, parts))
 
     def begin(self, run: Session) -> None:
         """Whether a condition holds already depends on the machine alone."""
 
     def next(self, run: Session, most: int) -> bool:
         first, is_found = run.position, False
-        most = most if len(self.conditions) == 1 else min(most, run.history.room)  # as many as it goes back
+        most = most if len(self.conditions) == 1 else min(most, run.room)  # as many as it goes back
         for condition in self.conditions:
             run.goto(first)
             if first_turn(run, condition, most):
@@ -138,12 +134,12 @@ def holds_in_latest(run: Session, condition: Forms) -> bool:
 def last_turn(run: Session, condition: Forms, first: Position, progress: Callable[[Position], object]) -> bool:
     """Goes back to the end of the last turn after a position in which a condition comes to hold, or else to that position. Turns alone are
     in between. Returns whether there is one. What the engine no longer keeps is made anew by parts, up to the last of them that has one."""
-    begin, end = max(first, run.history.oldest), run.position
+    begin, end = max(first, run.oldest), run.position
     if last_kept(run, condition, begin):
         return True
     begin, end = first, begin
-    while end - begin > run.history.room:
-        size = max(run.history.room, (end - begin) // PARTS)
+    while end - begin > run.room:
+        size = max(run.room, (end - begin) // PARTS)
         parts = ((Position(at), min(Position(at + size), end)) for at in range(begin, end, size))
         begin, end = ([part for part in parts if is_between(run, condition, *part, progress)] or [(first, first)])[-1]
     run.goto(begin)
@@ -164,7 +160,7 @@ def last_kept(run: Session, condition: Forms, first: Position) -> bool:
     if undone >= most:
         run.engine.forward(undone)
         return False
-    run.history.moved(-undone)
+    run.moved(-undone)
     return undone > 0
 
 
@@ -189,20 +185,14 @@ def waits(run: Session, number: int) -> bool:
     return is_wait
 
 
-class Made(NamedTuple):
-    """A turn that was made: the position before it, its processor as it was then, and after it."""
+class Turn(NamedTuple):
+    """A turn of a run: its number from 1, the position before it, its processor as it was then and after it, and numbers that were and are."""
 
+    turn: int
     position: Position
     slot: int
     processor: Processor
     after: Processor
-
-
-class FoundTurn(NamedTuple):
-    """A turn at which a condition came to hold: its number from 1, and what was and is."""
-
-    turn: int
-    made: Made
     numbers: List[Tuple[str, str, str]]  # names, with the digits before and after the turn
     is_named: bool  # whether the numbers are shown with their names
 
@@ -210,50 +200,49 @@ class FoundTurn(NamedTuple):
         """Returns its line: its number, the processor with its P and instruction, the numbers before and after it, and the line of its
         source."""
         parts = [f" {f'{name} ' if self.is_named else ''}WAS {was} NOW {now}" for name, was, now in self.numbers]
-        slot, processor = self.made.slot, self.made.processor
-        address, line = symbols.beside(slot, processor.p), symbols.line_at_p(slot, processor)
-        return f"TURN {self.turn:o} PP {slot:02o} P {address} {processor.name}{''.join(parts)}{line}"
+        address, line = symbols.beside(self.slot, self.processor.p), symbols.line_at_p(self.slot, self.processor)
+        return f"TURN {self.turn:o} PP {self.slot:02o} P {address} {self.processor.name}{''.join(parts)}{line}"
 
 
-class Search:
-    """A search over the tape of a session of its own."""
+def turn_at(run: Session, position: Position, columns: Sequence[Column] = ()) -> Turn:
+    """Returns the turn after a position, with the numbers of columns before and after it."""
+    end = Position(position + 1)
+    run.goto(end)
+    turn, slot = run.turn, (run.slot() - 1) % PROCESSORS
+    now, after = [number for column in columns for number in column.shown(run)], run.processor(slot)
+    run.goto(position)
+    was, processor = [number for column in columns for number in column.shown(run)], run.processor(slot)
+    is_range = len(was) > len(columns)  # of which the cells that differ are shown
+    differ = [(name, old, new) for (name, old), (_, new) in zip(was, now) if old != new or not is_range]
+    return Turn(turn, position, slot, processor, after, differ, len(was) > 1)
 
-    def __init__(self, run: Session, finders: Sequence[Finder], columns: Sequence[Column] = (), progress: Optional[Progress] = None) -> None:
-        """It finds the turns of each finder."""
-        self.run, self.finders, self.columns, self.progress = run, finders, columns, progress or (lambda turn: None)
-        self.remembers = any(finder.remembers for finder in finders)
-        for column in columns:
-            run.number_at(column.place)  # which is refused if the machine has no such place
 
-    def moments(self, first: int = 0, last: Optional[int] = None) -> Iterator[FoundTurn]:
-        """Yields each turn after `first`, up to `last`, that is found."""
-        return itertools.starmap(self.moment, self.found(first, last))
+class Search(NamedTuple):
+    """A search for the turns of some finders, over the tape of a session of its own."""
+
+    run: Session
+    finders: Sequence[Finder]
+    progress: Progress = lambda turn: None
 
     def found(self, first: int = 0, last: Optional[int] = None) -> Iterator[Found]:
-        """As `moments`, but yields the position before each turn, and its number."""
-        begin = self.run.tape.after_turn(0 if self.remembers else max(first - PROCESSORS, 0))  # where a processor is, is known after a round
+        """Yields the position before each turn after `first`, up to `last`, that is found, and its number."""
+        seen = 0 if any(finder.remembers for finder in self.finders) else max(first - PROCESSORS, 0)
+        begin = self.run.tape.after_turn(seen)  # where a processor is, is known after a round
         found = heapq.merge(*(self.onward(finder, begin, first, last) for finder in self.finders))
         return (turn for turn, _ in itertools.groupby(found))
 
     def onward(self, finder: Finder, begin: Position, first: int = 0, last: Optional[int] = None) -> Iterator[Found]:
         """As `found`, of one finder, from a position on. In between others may have moved the session."""
         run, tape = self.run, self.run.tape
-        run.goto(begin)
-        last = tape.turns if last is None else last
-        while run.turn < last:
-            run.goto(tape.after_turn(run.turn))
-            yield from self.turns(finder, min(tape.starts[tape.run_after(run.position) + 1], tape.at_turn(last)), first)
-
-    def turns(self, finder: Finder, end: Position, first: int = 0) -> Iterator[Found]:
-        """Makes the turns up to a position, with no other action between, and yields those after `first` that a finder finds."""
-        run = self.run
-        finder.begin(run)
-        while run.position < end:
-            is_found, here, turn = finder.next(run, min(end - run.position, MOST_AT_ONCE)), run.position, run.turn
-            if is_found and turn > first:
-                yield Position(here - 1), turn
-                run.goto(here)
-            self.progress(turn)
+        for row, end in tape.rows_of_turns(begin, None if last is None else tape.at_turn(last)):
+            run.goto(row)
+            finder.begin(run)
+            while run.position < end:
+                is_found, here, turn = finder.next(run, min(end - run.position, MOST_AT_ONCE)), run.position, run.turn
+                if is_found and turn > first:
+                    yield Position(here - 1), turn
+                    run.goto(here)
+                self.progress(turn)
 
     def back(self, condition: Forms, first: int, last: int) -> Iterator[Found]:
         """Yields each turn after `first`, up to `last`, in which a condition comes to hold, the last one first."""
@@ -266,24 +255,6 @@ class Search:
             if tape.runs[part].line == STEP and last_turn(run, condition, here, lambda position: self.progress(tape.turn(position))):
                 here = Position(run.position - 1)
                 yield here, tape.turn(run.position)
-
-    def moment(self, position: Position, turn: int) -> FoundTurn:
-        """Returns the turn after a position."""
-        was, made, now = around(self.run, position, self.columns)
-        is_range = len(was) > len(self.columns)  # of which the cells that differ are shown
-        differ = [(name, old, new) for (name, old), (_, new) in zip(was, now) if old != new or not is_range]
-        return FoundTurn(turn, made, differ, len(was) > 1)
-
-
-def around(run: Session, position: Position, columns: Sequence[Column] = ()) -> Tuple[Numbers, Made, Numbers]:
-    """Goes over the turn after a position. Returns it, with the numbers that are shown of columns before and after it."""
-    slot, end = run.tape.slot(position), Position(position + 1)
-    found: Dict[Position, Tuple[Numbers, Processor]] = {}
-    for at in (end, position) if run.position >= end else (position, end):
-        run.goto(at)
-        found[at] = [number for column in columns for number in column.shown(run)], run.processor(slot)
-    (was, before), (now, after) = found[position], found[end]
-    return was, Made(position, slot, before, after), now
 
 
 def spans(end: int, first: int = 0, span: int = FIRST_SPAN) -> Iterator[Tuple[int, int]]:
@@ -300,7 +271,8 @@ def last_found(search: Search, most: int, first: int = 0, last: Optional[int] = 
     last = search.run.tape.turns if last is None else last
     if isinstance(search.finders[0], TurnFinder) and len(search.finders) == len(search.finders[0].conditions) == 1:
         return list(itertools.islice(search.back(search.finders[0].conditions[0], first, last), most))[::-1]
-    for start, end in spans(last, first, max(last, 1) if search.remembers else FIRST_SPAN):
+    remembers = any(finder.remembers for finder in search.finders)
+    for start, end in spans(last, first, max(last, 1) if remembers else FIRST_SPAN):
         found[:0] = deque(search.found(start, end), most)
         if len(found) >= most:
             break

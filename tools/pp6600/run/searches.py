@@ -8,7 +8,6 @@ all instructions that a macro made of a line, and a block transfer with the inst
 from __future__ import annotations
 
 import itertools
-from contextlib import closing
 from typing import Any, List, Optional
 
 from ..engine import interface as flat
@@ -16,7 +15,7 @@ from ..engine.interface import CHANGES, INSIDE, Form
 from ..failure import Failure
 from .conditions import Condition, joined, parsed
 from .forms import PROCESSORS
-from .search import Finder, FoundTurn, Progress, RowFinder, Search, TurnFinder, first_turn, last_found
+from .search import Finder, Progress, RowFinder, Search, Turn, TurnFinder, first_turn, last_found, turn_at
 from .session import Session
 from .subroutines import ReturnFinder
 from .tape import STEP, Position, Tape
@@ -32,8 +31,10 @@ class Stopped(Failure):
         super().__init__("the search was stopped")
 
 
-def search_for(run: Session, condition: Condition, progress: Optional[Progress] = None) -> Search:
+def search_for(run: Session, condition: Condition, progress: Progress = lambda turn: None) -> Search:
     """Returns the search for the turns in which a condition comes to hold."""
+    for column in condition.columns:
+        run.number_at(column.place)  # which is refused if the machine has no such place
     finders: List[Finder] = []
     by_turn = []
     for one in condition.alternatives:
@@ -43,34 +44,32 @@ def search_for(run: Session, condition: Condition, progress: Optional[Progress] 
             finders.append(RowFinder(one))
         else:
             by_turn += one.forms
-    return Search(run, [*finders, *([TurnFinder(by_turn)] if by_turn else [])], condition.columns, progress)
-
-
-def last_moments(run: Session, condition: Condition, most: int, first: int = 0, last: Optional[int] = None,
-                 progress: Optional[Progress] = None) -> List[FoundTurn]:
-    """Returns the last turns of a run in which a condition comes to hold, as `last_found`, with what was and is."""
-    search = search_for(run, condition, progress)
-    return list(itertools.starmap(search.moment, last_found(search, most, first, last)))
+    return Search(run, [*finders, *([TurnFinder(by_turn)] if by_turn else [])], progress)
 
 
 def going_on(session: Any) -> Session:
     """Returns a session of the actions of the panel's, with new turns after them."""
-    tape = Tape(session.history.tape.runs)
+    tape = Tape(session.simulator.tape.runs)
     tape.append(STEP, session.most_new)
-    return Session.of_tape(session.simulator.words, tape)
+    found: Session = session.simulator.search(tape)
+    return found
 
 
-def next_found(session: Any, text: str, symbols: Any, progress: Progress) -> Optional[FoundTurn]:
+def next_found(session: Any, text: str, symbols: Any, progress: Progress) -> Optional[Turn]:
     """Returns the first turn after the present one at whose end the condition holds, and at whose beginning it did not: one
     that was made, or a new one. Returns None if there is none."""
-    with closing(going_on(session)) as run:
-        return next(search_for(run, parsed(text, symbols), progress).moments(session.history.turns), None)
+    with going_on(session) as run:
+        condition = parsed(text, symbols)
+        found = search_for(run, condition, progress).found(session.simulator.turn)
+        return next((turn_at(run, position, condition.columns) for position, _ in found), None)
 
 
-def last_before(session: Any, text: str, symbols: Any, progress: Progress) -> Optional[FoundTurn]:
+def last_before(session: Any, text: str, symbols: Any, progress: Progress) -> Optional[Turn]:
     """Returns what `next_found` does, of the last turn before the present one."""
-    with closing(Session.of_tape(session.simulator.words, session.history.tape)) as run:
-        return next(iter(last_moments(run, parsed(text, symbols), 1, 0, session.history.turns - 1, progress)), None)
+    with session.simulator.search() as run:
+        condition = parsed(text, symbols)
+        found = last_found(search_for(run, condition, progress), 1, 0, session.simulator.turn - 1)
+        return next((turn_at(run, position, condition.columns) for position, _ in found), None)
 
 
 class LineFinder:
@@ -109,7 +108,7 @@ class LineFinder:
         end, is_found = Position(run.position + most), False
         while run.position < end and not is_found:
             if self.has_moved:
-                before = Position(run.position + (self.number - run.next_slot) % PROCESSORS)  # its next turn
+                before = Position(run.position + (self.number - run.slot()) % PROCESSORS)  # its next turn
                 run.goto(min(before, end))
                 if before < end:
                     is_found = self.begins(run)
@@ -138,12 +137,11 @@ class LineFinder:
 
 def turn_of_next_line(session: Any, number: int, source: Any, count: int, progress: Progress) -> int:
     """Returns after how many turns a processor begins the line that comes so many lines later, by a turn that was made or a new one."""
-    with closing(going_on(session)) as run:
+    with going_on(session) as run:
         begins = LineFinder(number, source)
-        here = session.history.in_effect().replay().end
-        run.goto(here)
+        run.goto(session.simulator.position)
         begins.see(run)
-        found = next(itertools.islice(Search(run, [begins], (), progress).onward(begins, here), count - 1, None), None)
+        found = next(itertools.islice(Search(run, [begins], progress).onward(begins, run.position), count - 1, None), None)
         if found is None:
             raise none_found(count, f"up to turn {run.tape.turns:o}{begins.why_none(run)}")
         return found[1] - 1
@@ -151,8 +149,8 @@ def turn_of_next_line(session: Any, number: int, source: Any, count: int, progre
 
 def turn_of_line_before(session: Any, number: int, source: Any, count: int, progress: Progress) -> int:
     """Returns what `turn_of_next_line` does, of the last lines that were begun before the present position."""
-    with closing(Session.of_tape(session.simulator.words, session.history.in_effect())) as run:
-        found = last_found(Search(run, [LineFinder(number, source)], (), progress), count)
+    with session.simulator.search(session.simulator.in_effect()) as run:
+        found = last_found(Search(run, [LineFinder(number, source)], progress), count)
         if len(found) < count:
             raise none_found(count, f"before turn {run.tape.turns:o}")
         return found[-count][1] - 1

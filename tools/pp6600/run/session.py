@@ -2,13 +2,11 @@
 
 A session performs lines of its user (`act`), and goes to any position of its tape (`goto`): back and forward by the engine's undo history
 and redo list, else by the lines of the tape, from here or from the start in a fresh engine. BACK and FORWARD of its user may go over all
-actions (`act_by_move`). A session of a tape (`of_tape`) searches: it performs the actions of a tape anew, but for its watches, so it stops
-nowhere. One with devices is an `Attached`."""
+actions (`act_by_move`). A session that searches performs the actions of a tape anew, but for its watches, so it stops nowhere. One with
+devices is an `Attached`."""
 
 from __future__ import annotations
 
-import contextlib
-import functools
 import itertools
 import re
 from typing import FrozenSet, Iterator, List, Optional, Sequence
@@ -16,7 +14,7 @@ from typing import FrozenSet, Iterator, List, Optional, Sequence
 from ..failure import Failure
 from .console import Console
 from .forms import MOST_TURNS, refused
-from .tape import STEP, History, Position, Tape, UnitCounts, Units, lines_of, room_of
+from .tape import STEP, History, Position, Tape, Units, room_of
 
 MOVE = re.compile(r"[ \t]*(BACK|FORWARD)(?:[ \t]+([0-7]{1,10}))?[ \t\r]*", re.I)
 TOO_FEW_KEPT, TOO_FEW_AHEAD = "ERR 07 TOO FEW KEPT", "ERR 16 TOO FEW AHEAD"
@@ -35,7 +33,7 @@ def number_in(line: str) -> int:
     return int(line.split()[1], 8)
 
 
-class Session(Console):
+class Session(Console, History):
     """A run, and a position in it."""
 
     device_channels: FrozenSet[int] = frozenset()  # on which devices of one's own replied when its tape was made
@@ -43,36 +41,16 @@ class Session(Console):
     def __init__(self, words: Sequence[str] = (), tape: Optional[Tape] = None, is_search: bool = False) -> None:
         """It begins at the beginning of the tape. A search counts the watches of the tape, and performs none; its history is as long as can
         be."""
-        super().__init__(without_history(words) if is_search else words)
-        self.tape, self.is_search = tape or Tape(), is_search
-        self.history = History(room_of(self.words), self.tape)
+        Console.__init__(self, without_history(words) if is_search else words)
+        History.__init__(self, room_of(self.words), tape or Tape())
+        self.is_search = is_search
         self.watched: List[str] = []  # places, beside those of the tape
         self.written: List[str] = []  # what the engine was sent since it began
         self.times_anew = 0
 
-    @classmethod
-    def of_tape(cls, words: Sequence[str], tape: Tape) -> Session:
-        """Returns a session that performs the actions of a tape anew. The watches are left out."""
-        return cls(words, tape.replay(), True)
-
-    @functools.cached_property
-    def counts(self) -> UnitCounts:
-        """What BACK and FORWARD count."""
-        return UnitCounts(self.history)
-
-    @property
-    def position(self) -> Position:
-        return self.history.position
-
-    @property
-    def turn(self) -> int:
-        """How many turns are in effect."""
-        return self.history.turns
-
-    @property
-    def next_slot(self) -> int:
-        """The processor whose turn comes next."""
-        return self.history.slot
+    def search(self, tape: Optional[Tape] = None) -> Session:
+        """Returns a session that searches its tape, or another one. It is used in a `with` block."""
+        return Session(self.words, tape or self.tape, is_search=True)
 
     # ---- lines of the user
 
@@ -89,7 +67,13 @@ class Session(Console):
     def act(self, line: str) -> List[str]:
         """Performs a line of any kind. Returns the lines of its answer."""
         answer = self.ask(line)
-        self.history.take(line, answer)
+        kind, *rest = answer[0].split() if answer else ["NOTE"]
+        if kind == "OK":
+            self.added(line)
+        elif kind == "TURNS":
+            self.added(STEP, int(rest[0], 8))
+        elif kind in ("BACK", "FORWARD"):
+            self.moved(int(rest[0], 8) * (-1 if kind == "BACK" else 1))
         self.written.append(line)
         return answer
 
@@ -100,63 +84,46 @@ class Session(Console):
     def act_by_move(self, line: str) -> List[str]:
         """As `act`, but BACK goes back over all actions in effect, and FORWARD on over all that are ahead. The answer says also whether
         `sent` has begun anew."""
-        replays, asked, counts = self.replays, MOVE.fullmatch(line), self.counts
+        replays, asked = self.replays, MOVE.fullmatch(line)
         word, count = (asked[1].upper(), int(asked[2] or "1", 8)) if asked else ("", 0)
-        near, far = (counts.kept, counts.position) if word == "BACK" else (counts.ahead, counts.to_redo)
+        near, far = (self.kept, self.unit) if word == "BACK" else (self.ahead, self.to_redo)
         answer = self.go_over(word, count) if near < count <= far else self.act(line)
         return [*answer, REPLAYED] if self.replays > replays else answer
 
     def go_over(self, word: str, count: int) -> List[str]:
         """Goes BACK or FORWARD over so many units. Returns the answer."""
-        unit = self.tape.units(self.position) + (count if word == "FORWARD" else -count)
+        unit = self.unit + (count if word == "FORWARD" else -count)
         if not 0 <= unit <= self.tape.units(self.tape.end):
             return [TOO_FEW_KEPT if unit < 0 else TOO_FEW_AHEAD]
         self.goto(self.tape.after_units(Units(unit)))
-        return [f"{word} {count:o} SLOT {self.next_slot:02o}"]
+        return [f"{word} {count:o} SLOT {self.slot():02o}"]
 
     def lines_to(self, turn: int) -> Iterator[str]:
         """Yields the lines that go back or on to where so many turns are in effect, after the settings that follow the last of them. Each
         must be performed before the next one. New turns do not end where a watched number changes."""
-        counts = self.counts
-        if turn < counts.turns:
-            yield f"BACK {counts.back_over(counts.turns - turn):o}"
-        elif turn >= counts.last_turn and counts.to_redo:
-            yield f"FORWARD {counts.to_redo:o}"
-        elif counts.turns < turn < counts.last_turn:
-            yield f"FORWARD {counts.forward_over(turn - counts.turns + 1) - 1:o}"
-        while turn > counts.turns:
-            yield f"STEP {min(turn - counts.turns, MOST_TURNS):o}"
+        if turn < self.turn:
+            yield f"BACK {self.back_over(self.turn - turn):o}"
+        elif turn >= self.tape.turns and self.to_redo:
+            yield f"FORWARD {self.to_redo:o}"
+        elif self.turn < turn < self.tape.turns:
+            yield f"FORWARD {self.forward_over(turn - self.turn + 1) - 1:o}"
+        while turn > self.turn:
+            yield f"STEP {min(turn - self.turn, MOST_TURNS):o}"
 
     # ---- any position
 
     def goto(self, position: Position) -> None:
         """Goes to a position of the tape."""
-        if position < self.history.oldest:
+        if position < self.oldest:
             self._go_anew(position)
-        else:
-            count = min(position - self.position, self.history.ahead)
-            if count:
-                self.move(count)
-                self.written += [] if self.is_search else [f"{'BACK' if count < 0 else 'FORWARD'} {abs(count):o}"]
-            if self.position < position:
-                self._play(position)
-
-    @contextlib.contextmanager
-    def at(self, position: Position) -> Iterator[Session]:
-        """Goes to a position, and at the end of the block back to where it was."""
-        here = self.position
-        self.goto(position)
-        yield self
-        self.goto(here)
-
-    def move(self, count: int) -> None:
-        """Goes by so many actions that the engine keeps, back if it is negative. That is no line of the session."""
-        passed = self._watches_over(count) if self.is_search and self.tape.watches else 0
-        self.history.moved(count)
-        if count < 0:
-            self.engine.back(-count - passed)
-        else:
-            self.engine.forward(count - passed)
+        count = min(position, self.newest) - self.position
+        if count:
+            passed = self._watches_over(count) if self.is_search and self.tape.watches else 0
+            self.moved(count)
+            (self.engine.back if count < 0 else self.engine.forward)(abs(count) - passed)
+            self.written += [] if self.is_search else [f"{'BACK' if count < 0 else 'FORWARD'} {abs(count):o}"]
+        if self.position < position:
+            self._play(position)
 
     def _watches_over(self, count: int) -> int:
         """Returns how many of the next so many actions are watches."""
@@ -166,23 +133,15 @@ class Session(Console):
     def _play(self, position: Position) -> None:
         """Performs the actions of the tape up to a position by their lines. A STEP may end where a watched number changes, and goes on."""
         stops = self.watched or self.tape.watches and not self.is_search
-        actions = self.tape.actions(self.position, position)
-        lines = (line for action in actions if not (self.is_search and action.is_watch) for line in lines_of(action))
+        lines = self.tape.lines(self.position, position, not self.is_search)
         while some := list(itertools.islice(lines, 1 if stops else AT_ONCE)):
-            answers = self._perform_lines(some)
-            while stops and answers[0] != "OK" and (left := number_in(some[0]) - number_in(answers[0])):
-                some = [f"{STEP} {left:o}"]
-                answers = self._perform_lines(some)
-        self.history.performed(position - self.position)
-
-    def _perform_lines(self, lines: List[str]) -> List[str]:
-        """Performs lines of the tape. Returns the lines of their answers."""
-        answers = self.engine.answers("".join(f"{line}\n" for line in lines))
-        if refusal := refused(answers):
-            raise Failure(f"the simulator answers {refusal} to what it has performed before")
-        if not self.is_search:
-            self.written += lines
-        return answers
+            answers = self.engine.answers("".join(f"{line}\n" for line in some))
+            if refusal := refused(answers):
+                raise Failure(f"the simulator answers {refusal} to what it has performed before")
+            self.written += [] if self.is_search else some
+            if stops and answers[0] != "OK" and (left := number_in(some[0]) - number_in(answers[0])):
+                lines = itertools.chain([f"{STEP} {left:o}"], lines)
+        self.performed(position - self.position)
 
     def _go_anew(self, position: Position) -> None:
         """Goes to a position from the beginning, in a fresh engine."""
@@ -190,7 +149,7 @@ class Session(Console):
         self.times_anew += 1
         self.engine.close()
         self.start()
-        self.history.restarted()
+        self.restarted()
         self._play(position)
         self.watch(watched)
 
@@ -199,9 +158,4 @@ class Session(Console):
         if places != self.watched:
             for line in [*(f"UNWATCH {place}" for place in self.watched), *(f"WATCH {place}" for place in places)]:
                 self.demand(line)
-            self.watched, self.history.kept, self.history.ahead = places, 0, 0
-
-    def cut(self, position: Position) -> None:
-        """Discards what comes after a position, which is not before the present one."""
-        self.tape.cut(position)
-        self.history.ahead = min(self.history.ahead, position - self.position)
+            self.watched, self.oldest, self.newest = places, self.position, self.position

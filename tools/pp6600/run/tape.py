@@ -4,10 +4,10 @@ A tape is a list of actions in the order of a script: each a line, and how often
 action, STEP, however they were asked for. A position is a number of actions: at position n so many are performed. A tape turns
 positions into turns and back by prefix sums and a search by halves, so 20 million turns cost no more than one.
 
-A history is a cursor on a tape. What is before its position is in effect, and what is after it is ahead. Of these the simulator
-itself can undo the nearest `kept` ones by BACK, and perform the next `ahead` ones by FORWARD; all others need a replay. A new action
-cuts what is ahead off the tape, as the console discards its redo list. An action that is replayed does not, so a session goes back
-and forward without a limit."""
+A history is a cursor on a tape. What is before its position is in effect, and what is after it is ahead. The simulator itself can go by
+BACK to the positions from `oldest` on, and by FORWARD to those up to `newest`; all others need a replay. A new action cuts what is ahead
+off the tape, as the console discards its redo list. An action that is replayed does not, so a session goes back and forward without a
+limit."""
 
 from __future__ import annotations
 
@@ -141,7 +141,8 @@ class Tape:
         self._add(Action(line, times), times * is_turn, times * (not is_reply))
         if not (is_turn or is_reply):
             self.watches += WATCH.match(line) is not None
-            self.dead_starts += [self.end] * (DEAD_START.match(line) is not None)
+            if DEAD_START.match(line):
+                self.dead_starts.append(self.end)
 
     def append_replies(self, turns: Sequence[int], replies: Sequence[Action]) -> None:
         """Adds replies, and the turns before each of them: it comes after so many in all. A range of them is added at once."""
@@ -199,7 +200,7 @@ class Tape:
 
     def turn(self, position: Position) -> int:
         """Returns the number of turns before a position."""
-        run = max(self.run_before(position), 0)
+        run = self.run_after(position)
         passed = position - self.starts[run]
         return self.turns_before[run] + (passed if passed and self.runs[run].line == STEP else 0)
 
@@ -271,9 +272,21 @@ class Tape:
             yield Action(self.runs[run].line, count)
             first = Position(first + count)
 
-    def lines(self, first: Position, last: Position) -> Iterator[str]:
+    def rows_of_turns(self, first: Position = Position(0), last: Optional[Position] = None) -> Iterator[Tuple[Position, Position]]:
+        """Yields the positions before and after each row of turns, with no other action in it, from a position to a later one, or to the
+        end."""
+        for action in self.actions(first, last):
+            first, before = Position(first + action.times), first
+            if action.line == STEP:
+                yield before, first
+
+    def lines(self, first: Position, last: Position, with_watches: bool = True) -> Iterator[str]:
         """Yields the lines that perform the actions from a position to a later one, with the STEPs as long as they may be."""
-        return (line for action in self.actions(first, last) for line in lines_of(action))
+        for line, times in self.actions(first, last):
+            if line == STEP:
+                yield from (f"{STEP} {min(times - made, MOST_TURNS):o}" for made in range(0, times, MOST_TURNS))
+            elif with_watches or not WATCH.match(line):
+                yield from repeat(line, times)
 
     def stops(self, first: int = 0, processors: Container[int] = range(PROCESSORS)) -> Iterator[Tuple[Position, str]]:
         """Yields the position before each turn of some processors, with STEP, from turn number `first` on (from 0); and the position
@@ -286,44 +299,20 @@ class Tape:
             elif begin == self.starts[run]:
                 yield end, action.line
 
-    def replay(self, last: Optional[Position] = None) -> Tape:
-        """Returns the tape of a replay up to a position, or to the end: it stops nowhere, so it watches nothing."""
-        return Tape(action for action in self.actions(Position(0), last) if not action.is_watch)
-
-
-def lines_of(action: Action) -> Iterator[str]:
-    """Yields the lines that perform an action so many times."""
-    line, times = action
-    while line == STEP and times:
-        yield f"{STEP} {min(times, MOST_TURNS):o}"
-        times -= min(times, MOST_TURNS)
-    for _ in range(times):
-        yield line
-
 
 class History:
-    """A cursor on a tape, with what the simulator keeps on both sides of it."""
+    """A cursor on a tape, and how far the simulator itself can go from it: by BACK to the oldest position, by FORWARD to the newest."""
 
-    def __init__(self, room: int = MOST_KEPT, tape: Tape | None = None) -> None:
+    position = oldest = newest = Position(0)
+
+    def __init__(self, room: int, tape: Tape) -> None:
         """The simulator keeps so many actions; it is at the beginning of the tape."""
-        self.room, self.tape = room, tape or Tape()
-        self.position, self.kept, self.ahead = Position(0), 0, 0
-
-    # ---- how far
+        self.room, self.tape = room, tape
 
     @property
-    def turns(self) -> int:
+    def turn(self) -> int:
         """How many turns are in effect."""
         return self.tape.turn(self.position)
-
-    @property
-    def slot(self) -> int:
-        return self.tape.slot(self.position)
-
-    @property
-    def oldest(self) -> Position:
-        """The first position to which the simulator can go back."""
-        return Position(self.position - self.kept)
 
     def in_effect(self) -> Tape:
         """Returns the actions that were not taken back, or were performed again."""
@@ -333,102 +322,62 @@ class History:
 
     def restarted(self) -> None:
         """Notes that a fresh simulator is at the beginning of the tape."""
-        self.position, self.kept, self.ahead = Position(0), 0, 0
+        self.position = self.oldest = self.newest = Position(0)
 
-    def performed(self, count: int) -> None:
-        """Notes that the simulator has performed the next so many actions of the tape by their lines."""
-        self.position = Position(self.position + count)
-        self.kept = min(self.kept + count, self.room)
-        self.ahead = 0
-
-    def went(self, position: Position, kept: int) -> None:
-        """Notes that the simulator has performed new actions up to a position, and keeps so many at most."""
-        self.kept = min(self.kept + position - self.position, kept)
-        self.position, self.ahead = position, 0
+    def performed(self, count: int, room: Optional[int] = None) -> None:
+        """Notes that the simulator has performed the next so many actions by their lines, and keeps so many at most."""
+        self.position = self.newest = Position(self.position + count)
+        self.oldest = max(self.oldest, Position(self.position - (self.room if room is None else room)))
 
     def moved(self, count: int) -> None:
         """Notes that the simulator has gone forward by so many actions, or back if it is negative."""
-        if count > self.ahead or -count > self.kept:
+        if not self.oldest <= self.position + count <= self.newest:
             raise Failure(f"what is run is not the simulator: it went by {abs(count):o} actions, and there are fewer")
         self.position = Position(self.position + count)
-        self.kept += count
-        self.ahead -= count
 
     def added(self, line: str, times: int = 1) -> None:
         """Notes that the simulator has performed a new action: what was ahead is gone."""
-        self.tape.cut(self.position)
+        self.cut(self.position)
         self.tape.append(line, times)
         self.performed(times)
 
-    def take(self, line: str, answer: Sequence[str]) -> bool:
-        """Counts a line of the user by the lines of its answer. Returns whether it changed the machine, the history or the list."""
-        kind, *rest = answer[0].split() if answer else ["NOTE"]
-        if kind == "OK":
-            self.added(line)
-        elif kind == "TURNS":
-            self.added(STEP, int(rest[0], 8))
-        elif kind in ("BACK", "FORWARD"):
-            self.moved(int(rest[0], 8) * (-1 if kind == "BACK" else 1))
-        else:
-            return False
-        return True
+    def cut(self, position: Position) -> None:
+        """Discards what comes after a position, which is not before the present one."""
+        self.tape.cut(position)
+        self.newest = min(self.newest, position)
 
-
-class UnitCounts:
-    """A history as BACK and FORWARD of its user count it: in units."""
-
-    def __init__(self, history: History, redo: Optional[History] = None) -> None:
-        """The redo list that counts may be that of another history of the tape."""
-        self.history, self.redo, self.tape = history, redo or history, history.tape
+    # ---- in units, as BACK and FORWARD of its user count
 
     @property
-    def position(self) -> Units:
+    def unit(self) -> Units:
         """How many units are in effect."""
-        return self.tape.units(self.history.position)
-
-    @property
-    def oldest(self) -> Units:
-        """How many units come before what the simulator itself can undo."""
-        return self.tape.units(self.history.oldest)
+        return self.tape.units(self.position)
 
     @property
     def kept(self) -> int:
         """How many units the simulator itself can undo."""
-        return self.position - self.oldest
+        return self.unit - self.tape.units(self.oldest)
 
     @property
     def to_redo(self) -> int:
         """How many units are ahead, with those that the simulator no longer has."""
-        return self.tape.units(self.tape.end) - self.position
+        return self.tape.units(self.tape.end) - self.unit
 
     @property
     def ahead(self) -> int:
         """How many units of the redo list are ahead."""
-        return self.tape.units(Position(self.history.position + self.redo.ahead)) - self.position
-
-    @property
-    def turns(self) -> int:
-        """How many turns are in effect."""
-        return self.history.turns
-
-    @property
-    def last_turn(self) -> int:
-        """How many turns are in effect or ahead."""
-        return self.tape.turns
-
-    def in_effect(self) -> Tape:
-        return self.history.in_effect()
+        return self.tape.units(self.newest) - self.unit
 
     def over(self, actions: int) -> int:
         """Returns how many units the last so many actions of the tape are."""
-        return self.position - self.tape.whole_units(Position(self.history.position - actions))
+        return self.unit - self.tape.whole_units(Position(self.position - actions))
 
     def back_over(self, turns: int) -> int:
         """Returns how many units in effect have the last so many turns; more than there are if these have fewer turns."""
-        if turns > self.turns:
-            return self.position + turns - self.turns
-        return self.position - self.tape.units(self.tape.after_turn(self.turns - turns)) if turns else 0
+        if turns > self.turn:
+            return self.unit + turns - self.turn
+        return self.unit - self.tape.units(self.tape.after_turn(self.turn - turns)) if turns else 0
 
     def forward_over(self, turns: int) -> int:
         """Returns how many units ahead have the first so many turns."""
-        return self.tape.units(self.tape.at_turn(self.turns + turns)) - self.position if turns else 0
+        return self.tape.units(self.tape.at_turn(self.turn + turns)) - self.unit if turns else 0

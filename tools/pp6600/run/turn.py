@@ -9,7 +9,7 @@ from __future__ import annotations
 from typing import Callable, Dict, List, NamedTuple, Optional, Sequence, Tuple
 
 from ..engine import interface as flat
-from .forms import CELLS, CLOCK, PROCESSORS, Place, Registers
+from .forms import CELLS, CLOCK, PROCESSORS, REGISTERS, Place, Registers
 
 Cell = Callable[[int], int]  # the number in a cell of a processor, by its address
 
@@ -155,7 +155,7 @@ def places_of_setting(line: str) -> Dict[Place, Optional[int]]:
     """Returns the places that a SET or a DEADSTART writes, each with the number of its word in the line, or of its word of the panel,
     from 1, or None. Other actions write none."""
     words = line.upper().split()
-    return places_of_set(words) if words[0] == "SET" else places_of_dead_start() if words[0] == "DEADSTART" else {}
+    return places_of_set(words) if words[0] == "SET" else PLACES_OF_DEAD_START if words[0] == "DEADSTART" else {}
 
 
 def places_of_set(words: Sequence[str]) -> Dict[Place, Optional[int]]:
@@ -169,8 +169,7 @@ def places_of_set(words: Sequence[str]) -> Dict[Place, Optional[int]]:
     return {place: 4, Place("PHASE", place.numbers): None} if kind == "P" else {place: 4}
 
 
-def places_of_dead_start() -> Dict[Place, Optional[int]]:
-    places: Dict[Place, Optional[int]] = {Place("M", (0, at)): at if 0 < at < 0o15 else None for at in range(0o16)}
-    places.update((Place("M", (number, 0)), None) for number in range(1, PROCESSORS))
-    places.update((Place(name, (number,)), None) for name in ("A", "P", "Q", "PHASE") for number in range(PROCESSORS))
-    return places
+PLACES_OF_DEAD_START: Dict[Place, Optional[int]] = {
+    **{Place("M", (0, at)): at if 0 < at < 0o15 else None for at in range(0o16)},
+    **{Place("M", (number, 0)): None for number in range(1, PROCESSORS)},
+    **{Place(name, (number,)): None for name in REGISTERS for number in range(PROCESSORS)}}

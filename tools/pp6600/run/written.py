@@ -82,7 +82,7 @@ class Write(NamedTuple):
 def made_turn(run: Session) -> Origins:
     """Makes the next turn of the tape of a run. Returns it with where its numbers come from."""
     (turn,), _ = run.engine.origins(1)
-    run.history.performed(1)
+    run.performed(1)
     return turn
 
 

@@ -104,23 +104,18 @@ def open_streams() -> None:
     stdout.reconfigure(errors=escape.__name__)
 
 
-def status_of(main: Callable[[], Any]) -> Any:
-    """Runs a tool and returns its status; a parser ends it early after --help."""
-    try:
-        open_streams()
-        status = main()
-    except SystemExit as end:
-        status = end.code
-    flush()
-    return status or 0
-
-
 def run(main: Callable[[], Any]) -> NoReturn:
     """Runs a tool, and ends with the status that it returns (None: 0), or with a message and status 2."""
     if signal.getsignal(signal.SIGINT) is signal.default_int_handler:
         signal.signal(signal.SIGINT, signal.SIG_DFL)  # it ends the tool without a word
     try:
-        sys.exit(status_of(main))
+        try:
+            open_streams()
+            status = main()
+        except SystemExit as end:  # a parser ends the tool early after --help
+            status = end.code
+        flush()
+        sys.exit(status or 0)
     except BrokenPipeError:  # the reader of the output has had enough
         sys.exit(0)
     except Failure as failure:

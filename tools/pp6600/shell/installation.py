@@ -17,7 +17,7 @@ import tempfile
 from typing import Dict, Iterator, List, Optional, Tuple
 
 from ..__main__ import MODULES
-from ..engine.choice import HOME, LIBRARIES, NAMES, first_that_starts, handed_out, machine_here, of_checkout, verified
+from ..engine.choice import HOME, LIBRARIES, MACHINE_HERE, NAMES, first_that_starts, handed_out, of_checkout, verified
 from ..failure import Failure
 from .archives import gzipped
 from .completions import filled
@@ -115,23 +115,16 @@ def of_this_checkout(programs: Dict[str, str], separate: bool = False) -> Manife
     return without_lost_links({**found, **completions(), **manual_pages()})
 
 
-def of_this_installation(programs: Dict[str, str]) -> Manifest:
-    """Returns what this installation has, by its list, with these programs in the place of its own."""
-    prefix = os.path.normpath(os.path.join(TOP, os.pardir, os.pardir))
-    return {**{path: entry_at(os.path.join(prefix, path)) for path in listed(prefix) if path != LIST}, **{f"{OWN}/{name}": read(path) for name, path in programs.items()}}
-
-
 def whole(machine: Optional[str] = None, program: Optional[str] = None) -> Manifest:
     """Returns all that is installed, with the programs for a machine, else for this one; or with another build of the program."""
-    if machine and not IS_CHECKOUT:
+    own = {} if program is None else {"pp6600": checked_program(program)[0]}
+    if IS_CHECKOUT:
+        return of_this_checkout(own or programs_for(machine or MACHINE_HERE))
+    if machine:
         raise Failure("the programs of other machines are in a checkout alone")
-    if program is not None:
-        own = {"pp6600": checked_program(program)[0]}
-    elif IS_CHECKOUT:
-        own = programs_for(machine or machine_here())
-    else:
-        own = {}
-    return of_this_checkout(own) if IS_CHECKOUT else of_this_installation(own)
+    prefix = os.path.normpath(os.path.join(TOP, os.pardir, os.pardir))
+    found = {path: entry_at(os.path.join(prefix, path)) for path in listed(prefix) if path != LIST}
+    return {**found, **{f"{OWN}/{name}": read(path) for name, path in own.items()}}
 
 
 def without_solutions(manifest: Manifest) -> Manifest:

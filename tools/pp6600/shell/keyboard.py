@@ -76,10 +76,8 @@ def typed_lines(run: Session) -> Iterator[str]:
 
 def converse(run: Session, transcript: Any) -> int:
     """Performs the lines that are typed, or those of standard input. Returns the exit status."""
-    return converse_at_terminal(run, transcript) if is_terminal() else perform_input(run, transcript)
-
-
-def converse_at_terminal(run: Session, transcript: Any) -> int:
+    if not is_terminal():
+        return perform_input(run, transcript)
     status = 0
     for line in typed_lines(run):
         if line.strip().lower() in FIRST_WORDS:
@@ -92,7 +90,7 @@ def converse_at_terminal(run: Session, transcript: Any) -> int:
 
 def perform_typed(run: Session, line: str, transcript: Any) -> bool:
     """Performs a line that was typed, and shows what came of it. Returns whether it was refused, or a device failed."""
-    ahead, place = run.counts.to_redo, place_of(run)
+    ahead, place = run.to_redo, place_of(run)
     asked = MOVE.fullmatch(line)
     try:
         lines = run.act_by_move(f"{MOVES[asked[1].lower()]} {asked[2] or 1}") if asked else run.act(line)
@@ -116,12 +114,11 @@ def place_of(run: Session) -> Tuple[int, int]:
 
 def note_on(run: Session, answer: str, ahead: int) -> str:
     """Returns what may not be expected after an answer, of which these are the first letters."""
-    history = run.counts
-    if ahead and not history.to_redo and answer[:2] in ("OK", "TU"):
+    if ahead and not run.to_redo and answer[:2] in ("OK", "TU"):
         return f"the {ahead:o} actions ahead are discarded"
     if answer == "ERR 07":
-        return f"undo goes back over the {history.position:o} actions in effect" if history.oldest else ""
-    return f"redo goes over the {history.to_redo:o} actions ahead" if answer == "ERR 16" and history.to_redo else ""
+        return f"undo goes back over the {run.unit:o} actions in effect" if run.oldest else ""
+    return f"redo goes over the {run.to_redo:o} actions ahead" if answer == "ERR 16" and run.to_redo else ""
 
 
 def perform_input(run: Session, transcript: Any) -> int:

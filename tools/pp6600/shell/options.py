@@ -141,15 +141,10 @@ def words_after(words: List[str], most: int, what: str) -> List[Any]:
     return words + [None] * (most - len(words))
 
 
-def simulator(asked: argparse.Namespace) -> List[str]:
-    """Returns the words of the simulator: the program and its options."""
-    return [asked.program, *option_words(asked)]
-
-
-def option_words(asked: argparse.Namespace, others: Optional[Mapping[str, str]] = None) -> List[str]:
-    """Returns the simulator's options that are given, with their values, or with others in their place."""
-    given = {name: value for name in OPTIONS if (value := getattr(asked, name)) is not None}
-    return [word for name, value in given.items() for word in (f"--{name}", (others or {}).get(name, value))]
+def simulator(asked: argparse.Namespace, others: Mapping[str, str] = {}) -> List[str]:
+    """Returns the words of the simulator: the program, and the options that are given, with their values, or with others in their place."""
+    given = [name for name in OPTIONS if getattr(asked, name) is not None]
+    return [asked.program, *(word for name in given for word in (f"--{name}", others.get(name, getattr(asked, name))))]
 
 
 def arguments(description: str, usage: Optional[str] = None) -> Parser:

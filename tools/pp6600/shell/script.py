@@ -1,16 +1,16 @@
-"""A script that is performed: its lines with their answers, those that were refused, and the tape of what is in effect at its end."""
+"""A script that is performed: its lines with their answers, and those that were refused."""
 
 import re
 import sys
-from typing import Iterable, List, NamedTuple, Optional, Sequence
+from typing import Iterable, List, Optional, Sequence, Tuple
 
-from ..failure import naming_line
+from ..failure import Failure, naming_line
 from ..run.console import COUNTED, LONGEST_LINE
 from ..run.device import Device, DeviceFailure
-from ..run.forms import MOST_TURNS, is_refusal
+from ..run.forms import MOST_TURNS, refused
 from ..run.reasons import reason
 from ..run.session import Session
-from ..run.tape import Tape, counted
+from ..run.tape import counted
 from .ending import complain, flush, shown_text, write
 from .text_files import shown
 
@@ -19,18 +19,17 @@ BY_TURNS = re.compile(r"[ \t]*(?:BACK|FORWARD|WATCH)", re.I)  # lines after whic
 
 
 class Refusals:
-    """The lines of a script that were refused."""
+    """The lines of a script that were refused: how many they are, and the first."""
 
-    def __init__(self) -> None:
-        self.count, self.first = 0, ""
+    count, first = 0, ""
 
     def note(self, number: int, line: str, answer: Sequence[str]) -> bool:
         """Counts a line if its answer says that it was refused. Returns whether it was."""
-        refused = is_refusal(answer)
-        if refused and not self.count:
-            self.first = f"line {number} (decimal), {answer[0]}: {shown(line)[:MOST_SHOWN]}"
-        self.count += refused
-        return refused
+        refusal = refused(answer)
+        if refusal and not self.count:
+            self.first = f"line {number} (decimal), {refusal}: {shown(line)[:MOST_SHOWN]}"
+        self.count += refusal is not None
+        return refusal is not None
 
     def status(self) -> int:
         """Says on standard error how many lines were refused, and which was the first. Returns the exit status."""
@@ -64,24 +63,12 @@ def show_lines(run: Session, lines: Iterable[str], stop: bool = False) -> int:
     for number, line in counted(lines):
         write(f"> {shown(line)}".rstrip(), at_once=True)
         with naming_line(number):
-            refused = answer(run, line, number, refusals)
-        if stop and refused:
+            is_refused = answer(run, line, number, refusals)
+        if stop and is_refused:
             flush()
             complain(f"stopped at line {number} (decimal), which was refused")
             return 1
     return refusals.status()
-
-
-class Script(NamedTuple):
-    """A script that was performed: its session, which has ended, and the lines that were refused."""
-
-    run: Session
-    refusals: Refusals
-
-    @property
-    def tape(self) -> Tape:
-        """The actions in effect at its end: neither refused nor taken back. Watches are left out."""
-        return self.run.tape.replay(self.run.position)
 
 
 class WithoutTurns(Session):
@@ -92,16 +79,19 @@ class WithoutTurns(Session):
         return [f"TURNS {asked[2] or '1'}"] if asked and int(asked[2] or "1", 8) <= MOST_TURNS else super().ask(line)
 
 
-def performed(words: Sequence[str], lines: Sequence[str], devices: Sequence[Device] = ()) -> Script:
-    """Performs a script in a simulator of its own, with devices if there are any: then what is in effect has their replies."""
+def performed(words: Sequence[str], lines: Sequence[str], devices: Sequence[Device] = ()) -> Tuple[Session, Refusals]:
+    """Performs a script in a simulator of its own, with devices if there are any: then what is in effect has their replies. Returns its session,
+    which has ended, and the lines that were refused."""
     if devices:
         from ..run.attached import Attached  # few sessions have devices
         run: Session = Attached(words, devices)
     else:
         run = (Session if any(map(BY_TURNS.match, lines)) else WithoutTurns)(words)
-    script = Script(run, Refusals())
-    for number, line in counted(lines):
-        with naming_line(number, DeviceFailure):
-            script.refusals.note(number, line, run.act(line))
+    refusals, number = Refusals(), 0
+    try:
+        for number, line in counted(lines):
+            refusals.note(number, line, run.act(line))
+    except DeviceFailure as failure:
+        raise Failure(f"line {number} (decimal): {failure}") from failure
     run.end()
-    return script
+    return run, refusals

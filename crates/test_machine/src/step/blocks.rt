@@ -43,11 +43,6 @@ const COUNT_IN_CELL_ZERO: [Row; 4] = [
     Row::HasCells(0, &[0o101]),
 ];
 
-#[test]
-fn count_in_cell_zero(rt: HostRuntime) -> Result<(), Fail> {
-    follow_anew(&rt, rt.alloc(), &COUNT_IN_CELL_ZERO)
-}
-
 const BLOCK_OVER_ITS_RETURN_ADDRESS: [Row; 14] = [
     Row::Word(0o1000, 0o00010002000300040005),
     Row::Cells(0o10, &[2]),
@@ -65,14 +60,15 @@ const BLOCK_OVER_ITS_RETURN_ADDRESS: [Row; 14] = [
     Row::HasCells(0o7776, &[1, 2, 3, 4, 5]),
 ];
 
+const BLOCK: TwinExample = (
+    "a block over its return address",
+    CentralSize::K32,
+    &BLOCK_OVER_ITS_RETURN_ADDRESS,
+);
+
 #[test]
 fn block_over_its_return_address(rt: HostRuntime) -> Result<(), Fail> {
-    follow_twins_anew(
-        &rt,
-        rt.alloc(),
-        CentralSize::K32,
-        &BLOCK_OVER_ITS_RETURN_ADDRESS,
-    )
+    follow_twins_anew(&rt, rt.alloc(), &BLOCK)
 }
 
 /// The second word comes from central 0, behind address 777777.
@@ -84,11 +80,6 @@ const PAST_THE_LAST_ADDRESS: [Row; 6] = [
     Row::HasCells(0o1000, &[0, 0, 0, 0, 0, 1, 2, 3, 4, 5]),
     Row::HasRegisters(0o102, 1, 0, 0),
 ];
-
-#[test]
-fn central_addresses_go_on_from_the_last(rt: HostRuntime) -> Result<(), Fail> {
-    follow_anew(&rt, rt.alloc(), &PAST_THE_LAST_ADDRESS)
-}
 
 /// The first word is past the size, and is not written.
 const CELLS_TO_WORDS: [Row; 8] = [
@@ -102,22 +93,12 @@ const CELLS_TO_WORDS: [Row; 8] = [
     Row::HasRegisters(0o102, 1, 0, 0),
 ];
 
-#[test]
-fn cells_go_to_central_words(rt: HostRuntime) -> Result<(), Fail> {
-    follow_anew(&rt, rt.alloc(), &CELLS_TO_WORDS)
-}
-
 const INPUT_FROM_AN_INACTIVE_CHANNEL: [Row; 4] = [
     Row::Cells(0o300, &[0o7777]),
     Row::Run(&[0o7105, 0o300], 5, 2),
     Row::HasCells(0o300, &[0]),
     Row::HasRegisters(0o102, 5, 0, 0),
 ];
-
-#[test]
-fn input_from_an_inactive_channel(rt: HostRuntime) -> Result<(), Fail> {
-    follow_anew(&rt, rt.alloc(), &INPUT_FROM_AN_INACTIVE_CHANNEL)
-}
 
 /// Cell 0000 is cleared first, and then P is read from it.
 const INPUT_TO_CELL_ZERO: [Row; 9] = [
@@ -132,22 +113,12 @@ const INPUT_TO_CELL_ZERO: [Row; 9] = [
     Row::HasRegisters(1, 5, 0, 0),
 ];
 
-#[test]
-fn input_from_an_inactive_channel_to_cell_zero(rt: HostRuntime) -> Result<(), Fail> {
-    follow_anew(&rt, rt.alloc(), &INPUT_TO_CELL_ZERO)
-}
-
 const NO_WORD_TO_MOVE: [Row; 4] = [
     Row::Channel(5, Full, 0o1234),
     Row::Run(&[0o7105, 0o300], 0, 2),
     Row::HasRegisters(0o102, 0, 0, 0),
     Row::HasChannel(5, Full, 0o1234),
 ];
-
-#[test]
-fn no_word_to_move(rt: HostRuntime) -> Result<(), Fail> {
-    follow_anew(&rt, rt.alloc(), &NO_WORD_TO_MOVE)
-}
 
 /// A phase and the state of its channel. Afterwards P, A, the state, the register and a cell.
 #[derive(Clone, Copy)]
@@ -199,22 +170,12 @@ const CLOCK_COMES_IN: [Row; 8] = [
     Row::HasClock(2),
 ];
 
-#[test]
-fn clock_comes_in(rt: HostRuntime) -> Result<(), Fail> {
-    follow_anew(&rt, rt.alloc(), &CLOCK_COMES_IN)
-}
-
 const CLOCK_OVER_THE_RETURN_ADDRESS: [Row; 4] = [
     Row::Clock(0o4000),
     Row::Run(&[0o7114, 0], 1, 3),
     Row::HasCells(0, &[0o4000]),
     Row::HasP(0o4001),
 ];
-
-#[test]
-fn clock_over_the_return_address(rt: HostRuntime) -> Result<(), Fail> {
-    follow_anew(&rt, rt.alloc(), &CLOCK_OVER_THE_RETURN_ADDRESS)
-}
 
 /// The clock accepts no word: the transfer waits, unless there is no word to move.
 const OUTPUT_TO_THE_CLOCK: [Row; 6] = [
@@ -226,7 +187,25 @@ const OUTPUT_TO_THE_CLOCK: [Row; 6] = [
     Row::HasClock(0),
 ];
 
+const EXAMPLES: [Example; 9] = [
+    ("the count is in cell 0000", &COUNT_IN_CELL_ZERO),
+    ("past the last central address", &PAST_THE_LAST_ADDRESS),
+    ("cells to central words", &CELLS_TO_WORDS),
+    (
+        "input from an inactive channel",
+        &INPUT_FROM_AN_INACTIVE_CHANNEL,
+    ),
+    ("the same to cell 0000", &INPUT_TO_CELL_ZERO),
+    ("no word to move", &NO_WORD_TO_MOVE),
+    ("the clock comes in", &CLOCK_COMES_IN),
+    (
+        "the clock over the return address",
+        &CLOCK_OVER_THE_RETURN_ADDRESS,
+    ),
+    ("output to the clock", &OUTPUT_TO_THE_CLOCK),
+];
+
 #[test]
-fn output_to_the_clock(rt: HostRuntime) -> Result<(), Fail> {
-    follow_anew(&rt, rt.alloc(), &OUTPUT_TO_THE_CLOCK)
+fn transfers(rt: HostRuntime) -> Result<(), Fail> {
+    follow_each(&rt, rt.alloc(), &EXAMPLES)
 }

@@ -10,11 +10,6 @@ const PROGRAM_ADDRESS: [Row; 5] = [
     Row::HasRegisters(0o101, 0o1234, 0, 0),
 ];
 
-#[test]
-fn program_address(rt: HostRuntime) -> Result<(), Fail> {
-    follow_anew(&rt, rt.alloc(), &PROGRAM_ADDRESS)
-}
-
 const WORD_TO_CELLS: [Row; 4] = [
     Row::Word(0o1000, 0o01234567012345670123),
     Row::Run(&[0o6076], 0o1000, 1),
@@ -22,22 +17,12 @@ const WORD_TO_CELLS: [Row; 4] = [
     Row::HasRegisters(0o101, 0o1000, 0, 0),
 ];
 
-#[test]
-fn word_to_cells(rt: HostRuntime) -> Result<(), Fail> {
-    follow_anew(&rt, rt.alloc(), &WORD_TO_CELLS)
-}
-
 const CELLS_TO_WORD: [Row; 4] = [
     Row::Cells(0o20, &[0o0123, 0o4567, 0o0123, 0o4567, 0o0123]),
     Row::Run(&[0o6220], 0o77777, 1),
     Row::HasWord(0o77777, 0o01234567012345670123),
     Row::HasRegisters(0o101, 0o77777, 0, 0),
 ];
-
-#[test]
-fn cells_to_word(rt: HostRuntime) -> Result<(), Fail> {
-    follow_anew(&rt, rt.alloc(), &CELLS_TO_WORD)
-}
 
 const MOVES_PAST_THE_SIZE: [Row; 8] = [
     Row::Cells(0o76, &[7, 7, 7, 7, 7]),
@@ -60,8 +45,8 @@ const MOVED_PAST_THE_SIZE: [Row; 3] = [
 #[test]
 fn words_past_the_size(rt: HostRuntime) -> Result<(), Fail> {
     let mut twins = make_twins(rt.alloc(), CentralSize::K128)?;
-    follow(&rt, &mut twins.machine, &MOVES_PAST_THE_SIZE);
-    follow(&rt, &mut twins.twin, &MOVED_PAST_THE_SIZE);
+    follow(&rt, &mut twins.machine, "both moves", &MOVES_PAST_THE_SIZE);
+    follow(&rt, &mut twins.twin, "after them", &MOVED_PAST_THE_SIZE);
     assert!(rt; is_same(&twins.machine, &twins.twin));
     drop(twins);
     Ok(())
@@ -83,11 +68,6 @@ const TWO_EXCHANGES: [Row; 12] = [
     Row::HasP(0o102),
 ];
 
-#[test]
-fn exchange_and_exchange_again(rt: HostRuntime) -> Result<(), Fail> {
-    follow_twins_anew(&rt, rt.alloc(), CentralSize::K32, &TWO_EXCHANGES)
-}
-
 const EXCHANGE_AT_THE_END: [Row; 12] = [
     Row::Word(0o377775, 0o00001234000005000000),
     Row::Word(0o377776, 0o00000100000006000007),
@@ -102,11 +82,6 @@ const EXCHANGE_AT_THE_END: [Row; 12] = [
     Row::HasZeros((3, 16), (0o377775, 0o400000)),
     Row::HasP(0o101),
 ];
-
-#[test]
-fn exchange_at_the_end_of_central_memory(rt: HostRuntime) -> Result<(), Fail> {
-    follow_twins_anew(&rt, rt.alloc(), CentralSize::K128, &EXCHANGE_AT_THE_END)
-}
 
 /// Three words are past the size: they read as zero and are not written. The next word is central word 0.
 const EXCHANGE_OVER_THE_LAST_ADDRESS: [Row; 14] = [
@@ -126,12 +101,6 @@ const EXCHANGE_OVER_THE_LAST_ADDRESS: [Row; 14] = [
     Row::HasCountingWords(0, 0o15, 4),
 ];
 
-#[test]
-fn exchange_over_the_last_address(rt: HostRuntime) -> Result<(), Fail> {
-    let rows = &EXCHANGE_OVER_THE_LAST_ADDRESS;
-    follow_twins_anew(&rt, rt.alloc(), CentralSize::K128, rows)
-}
-
 /// All sixteen (decimal) words are there, and they are the last.
 const EXCHANGE_OF_THE_LAST_WORDS: [Row; 9] = [
     Row::CountingWords(0o377760, 1),
@@ -144,12 +113,6 @@ const EXCHANGE_OF_THE_LAST_WORDS: [Row; 9] = [
     Row::HasCountingWords(0o377760, 16, 0o21),
     Row::HasWord(0o377757, 0),
 ];
-
-#[test]
-fn exchange_of_the_last_words(rt: HostRuntime) -> Result<(), Fail> {
-    let rows = &EXCHANGE_OF_THE_LAST_WORDS;
-    follow_twins_anew(&rt, rt.alloc(), CentralSize::K128, rows)
-}
 
 /// One address further the last word is past the size.
 const EXCHANGE_OF_THE_LAST_FIFTEEN_WORDS: [Row; 10] = [
@@ -165,8 +128,38 @@ const EXCHANGE_OF_THE_LAST_FIFTEEN_WORDS: [Row; 10] = [
     Row::HasWord(0o377760, 1 << 18),
 ];
 
+const EXAMPLES: [Example; 3] = [
+    ("the program address", &PROGRAM_ADDRESS),
+    ("a word to cells", &WORD_TO_CELLS),
+    ("cells to a word", &CELLS_TO_WORD),
+];
+
 #[test]
-fn exchange_of_the_last_fifteen_words(rt: HostRuntime) -> Result<(), Fail> {
-    let rows = &EXCHANGE_OF_THE_LAST_FIFTEEN_WORDS;
-    follow_twins_anew(&rt, rt.alloc(), CentralSize::K128, rows)
+fn moves(rt: HostRuntime) -> Result<(), Fail> {
+    follow_each(&rt, rt.alloc(), &EXAMPLES)
+}
+
+const TWIN_EXAMPLES: [TwinExample; 5] = [
+    ("two exchanges", CentralSize::K32, &TWO_EXCHANGES),
+    ("at the end", CentralSize::K128, &EXCHANGE_AT_THE_END),
+    (
+        "over the last address",
+        CentralSize::K128,
+        &EXCHANGE_OVER_THE_LAST_ADDRESS,
+    ),
+    (
+        "the last words",
+        CentralSize::K128,
+        &EXCHANGE_OF_THE_LAST_WORDS,
+    ),
+    (
+        "the last fifteen words",
+        CentralSize::K128,
+        &EXCHANGE_OF_THE_LAST_FIFTEEN_WORDS,
+    ),
+];
+
+#[test]
+fn exchanges(rt: HostRuntime) -> Result<(), Fail> {
+    follow_twins_each(&rt, rt.alloc(), &TWIN_EXAMPLES)
 }

@@ -33,27 +33,9 @@ fn check_cells(rt: &impl Abort, rig: &Rig) {
     }
 }
 
-#[test]
-fn ranges_of_cells(rt: HostRuntime) -> Result<(), Fail> {
-    let rig = make_rig(rt.alloc())?;
-    check_cells(&rt, &rig);
-    drop(rig);
-    Ok(())
-}
-
-/// Checks that a machine admits the first action of each pair, and rejects the second because of a range.
-fn check_ranges(rt: &impl Abort, alloc: Global, pairs: &[(Action, Action)]) -> Result<(), Fail> {
-    let rig = make_rig(alloc)?;
-    for i in 0..pairs.len() {
-        let (within, beyond) = &pairs[i];
-        check_range(rt, &rig, within, true, i);
-        check_range(rt, &rig, beyond, false, i);
-    }
-    drop(rig);
-    Ok(())
-}
-
-const REGISTERS: [(Action, Action); 4] = [
+/// Actions that a machine admits, and beside each one that it rejects because of a range: of registers, central words, channels and
+/// watched places.
+const PAIRS: [(Action, Action); 11] = [
     (
         Action::SetA { pp: 0, v: 0o777777 },
         Action::SetA {
@@ -73,14 +55,6 @@ const REGISTERS: [(Action, Action); 4] = [
         Action::SetQ { pp: 0, v: 0o7777 },
         Action::SetQ { pp: 0, v: 0o10000 },
     ),
-];
-
-#[test]
-fn ranges_of_registers(rt: HostRuntime) -> Result<(), Fail> {
-    check_ranges(&rt, rt.alloc(), &REGISTERS)
-}
-
-const CENTRAL_WORDS: [(Action, Action); 2] = [
     (
         Action::SetWord { a: 0o77777, v: 0 },
         Action::SetWord { a: 0o100000, v: 0 },
@@ -92,14 +66,6 @@ const CENTRAL_WORDS: [(Action, Action); 2] = [
         },
         Action::SetWord { a: 0, v: 1 << 60 },
     ),
-];
-
-#[test]
-fn ranges_of_central_words(rt: HostRuntime) -> Result<(), Fail> {
-    check_ranges(&rt, rt.alloc(), &CENTRAL_WORDS)
-}
-
-const CHANNELS: [(Action, Action); 3] = [
     (
         Action::SetChannel {
             c: 0o13,
@@ -136,14 +102,6 @@ const CHANNELS: [(Action, Action); 3] = [
             word: Some(0o10000),
         },
     ),
-];
-
-#[test]
-fn ranges_of_channels(rt: HostRuntime) -> Result<(), Fail> {
-    check_ranges(&rt, rt.alloc(), &CHANNELS)
-}
-
-const WATCHED_PLACES: [(Action, Action); 2] = [
     (
         Action::Watch(Watched::Register { c: 0o14 }),
         Action::Watch(Watched::Register { c: 0o15 }),
@@ -154,9 +112,21 @@ const WATCHED_PLACES: [(Action, Action); 2] = [
     ),
 ];
 
+fn check_pairs(rt: &impl Abort, rig: &Rig, pairs: &[(Action, Action)]) {
+    for i in 0..pairs.len() {
+        let (within, beyond) = &pairs[i];
+        check_range(rt, rig, within, true, i);
+        check_range(rt, rig, beyond, false, i);
+    }
+}
+
 #[test]
-fn ranges_of_watched_places(rt: HostRuntime) -> Result<(), Fail> {
-    check_ranges(&rt, rt.alloc(), &WATCHED_PLACES)
+fn ranges(rt: HostRuntime) -> Result<(), Fail> {
+    let rig = make_rig(rt.alloc())?;
+    check_cells(&rt, &rig);
+    check_pairs(&rt, &rig, &PAIRS);
+    drop(rig);
+    Ok(())
 }
 
 const FIRST: Watched = Watched::Register { c: 0 };

@@ -5,6 +5,21 @@ use pp_rig::old_value;
 
 const P_OF_LAST: Place = Place::RegP { pp: 0o11 };
 
+const LOADS_AND_GOES_BACK: [Step; 12] = [
+    Step::Cells(0, 0o100, &[0o1405, 0o3420]),
+    Step::SetP(0, 0o100),
+    Step::Runs(1),
+    Step::Is(A, 5),
+    Step::Is(P, 0o101),
+    Step::Is(SLOT, 1),
+    Step::Back(1, None),
+    Step::Is(A, 0),
+    Step::Is(P, 0o100),
+    Step::Is(SLOT, 0),
+    Step::Is(Place::Cell { pp: 0, a: 0o101 }, 0o3420),
+    Step::Kept(2),
+];
+
 const TAKES_TURNS: [Step; 11] = [
     Step::Cells(0, 0o200, &[0o300]),
     Step::SetP(0, 0o200),
@@ -18,11 +33,6 @@ const TAKES_TURNS: [Step; 11] = [
     Step::Is(P_OF_LAST, 0),
     Step::Is(CLOCK, 0),
 ];
-
-#[test]
-fn ten_processors_take_turns(rt: HostRuntime) -> Result<(), Fail> {
-    follow_anew(&rt, rt.alloc(), &TAKES_TURNS)
-}
 
 /// The first processor calls for the status of the reader, on channel 0o10 with 0o1234 in its register.
 const CALLS_THE_READER: [Step; 3] = [
@@ -67,7 +77,7 @@ fn check_old(
 #[test]
 fn the_oldest_number_of_a_channel_counts(rt: HostRuntime) -> Result<(), Fail> {
     let mut session = new_session(rt.alloc())?;
-    follow(&rt, &mut session, &CALLS_THE_READER);
+    follow(&rt, &mut session, "calls", &CALLS_THE_READER);
     assert!(rt; act(&mut session, Action::Turn));
     check_numbers(&rt, session.machine(), &AFTER);
     check_old(&rt, &session, &OLD)?;
@@ -89,7 +99,13 @@ const GOES_ROUND: [Step; 6] = [
     Step::Is(FIRST, 0),
 ];
 
+const EXAMPLES: [Example; 3] = [
+    ("loads, steps and goes back", &LOADS_AND_GOES_BACK),
+    ("ten processors take turns", &TAKES_TURNS),
+    ("cells go round the end of the memory", &GOES_ROUND),
+];
+
 #[test]
-fn cells_go_round_the_end_of_the_memory(rt: HostRuntime) -> Result<(), Fail> {
-    follow_anew(&rt, rt.alloc(), &GOES_ROUND)
+fn turns(rt: HostRuntime) -> Result<(), Fail> {
+    follow_each(&rt, rt.alloc(), &EXAMPLES)
 }

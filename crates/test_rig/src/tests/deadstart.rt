@@ -14,10 +14,11 @@ fn make_with_panel(alloc: Global) -> Result<Rig, Fail> {
     }
 }
 
-/// Performs the steps of a test on a new machine with the panel.
-fn follow_with_panel(rt: &impl Abort, alloc: Global, steps: &[Step]) -> Result<(), Fail> {
+/// Performs the steps of an example on a new machine with the panel.
+fn follow_with_panel(rt: &impl Abort, alloc: Global, example: &Example) -> Result<(), Fail> {
+    let (name, steps) = *example;
     let mut session = session_of(alloc, make_with_panel(alloc)?)?;
-    follow(rt, &mut session, steps);
+    follow(rt, &mut session, name, steps);
     drop(session);
     Ok(())
 }
@@ -56,11 +57,6 @@ const STARTS_AND_GOES_BACK: [Step; 21] = [
     Step::Is(PHASE_1, 0),
 ];
 
-#[test]
-fn starts_at_the_panel_and_goes_back(rt: HostRuntime) -> Result<(), Fail> {
-    follow_with_panel(&rt, rt.alloc(), &STARTS_AND_GOES_BACK)
-}
-
 const LAST: Place = Place::Cell { pp: 0, a: 0o15 };
 
 const SETS_CHANNELS: [Step; 21] = [
@@ -87,11 +83,6 @@ const SETS_CHANNELS: [Step; 21] = [
     Step::Is(Place::ChannelMode { c: 1 }, 0),
 ];
 
-#[test]
-fn sets_channels_and_the_last_cell(rt: HostRuntime) -> Result<(), Fail> {
-    follow_with_panel(&rt, rt.alloc(), &SETS_CHANNELS)
-}
-
 const GOES_ON_READING: [Step; 11] = [
     Step::Cells(0, 0o100, &[0o7705, 0o0001]),
     Step::SetP(0, 0o100),
@@ -106,7 +97,16 @@ const GOES_ON_READING: [Step; 11] = [
     Step::Is(Place::CardColumn, 1),
 ];
 
+const EXAMPLES: [Example; 3] = [
+    ("starts at the panel and goes back", &STARTS_AND_GOES_BACK),
+    ("sets channels and the last cell", &SETS_CHANNELS),
+    ("a reader that was reading goes on", &GOES_ON_READING),
+];
+
 #[test]
-fn a_reader_that_was_reading_goes_on(rt: HostRuntime) -> Result<(), Fail> {
-    follow_with_panel(&rt, rt.alloc(), &GOES_ON_READING)
+fn dead_starts(rt: HostRuntime) -> Result<(), Fail> {
+    for i in 0..EXAMPLES.len() {
+        follow_with_panel(&rt, rt.alloc(), &EXAMPLES[i])?;
+    }
+    Ok(())
 }

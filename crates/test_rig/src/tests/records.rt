@@ -103,23 +103,26 @@ fn lead_back(
     others: &[Step],
 ) -> Result<(), Fail> {
     for steps in first {
-        follow(rt, session, steps);
+        follow(rt, session, "first", steps);
     }
     let places = places_of(alloc, 0o100000)?;
     act_all(rt, alloc, session, places.as_slice(), others)
 }
 
+/// Lists of actions that are performed first, the actions whose records are checked, and numbers after them.
+type Recorded = (
+    &'static [&'static [Step]],
+    &'static [Step],
+    &'static [(Place, u64)],
+);
+
 /// Does the same on a new machine, and checks numbers after the actions.
-fn lead_back_anew(
-    rt: &impl Abort,
-    alloc: Global,
-    first: &[&[Step]],
-    others: &[Step],
-    after: &[(Place, u64)],
-) -> Result<(), Fail> {
+fn lead_back_anew(rt: &impl Abort, alloc: Global, row: &Recorded) -> Result<(), Fail> {
+    let (first, others, after) = *row;
     let mut session = make(alloc)?;
     lead_back(rt, alloc, &mut session, first, others)?;
     check_numbers(rt, session.machine(), after);
+    drop(session);
     Ok(())
 }
 
@@ -134,33 +137,13 @@ const SETTINGS: [Step; 7] = [
     Step::SetChannel(3, ChannelState::Full, Some(0o17)),
 ];
 
-#[test]
-fn the_record_of_each_setting_leads_back(rt: HostRuntime) -> Result<(), Fail> {
-    lead_back_anew(&rt, rt.alloc(), &[], &SETTINGS, &[])
-}
-
 const WATCHES: [Step; 3] = [
     Step::Watch(Watched::RegA { pp: 0 }),
     Step::Watch(Watched::RegP { pp: 0 }),
     Step::Unwatch(Watched::RegA { pp: 0 }),
 ];
 
-#[test]
-fn the_records_of_watches_lead_back(rt: HostRuntime) -> Result<(), Fail> {
-    lead_back_anew(&rt, rt.alloc(), &[], &WATCHES, &[])
-}
-
-#[test]
-fn the_record_of_a_dead_start_leads_back(rt: HostRuntime) -> Result<(), Fail> {
-    lead_back_anew(&rt, rt.alloc(), &[&SETTINGS], &[Step::Deadstart], &[])
-}
-
 const SETTINGS_AND_DEADSTART: [&[Step]; 2] = [&SETTINGS, &[Step::Deadstart]];
-
-#[test]
-fn the_record_of_a_turn_after_a_dead_start_leads_back(rt: HostRuntime) -> Result<(), Fail> {
-    lead_back_anew(&rt, rt.alloc(), &SETTINGS_AND_DEADSTART, &[Step::Turn], &[])
-}
 
 const BEFORE_THE_EXCHANGE: [Step; 4] = [
     Step::Cells(0, 0o100, &[0o2600]),
@@ -171,11 +154,21 @@ const BEFORE_THE_EXCHANGE: [Step; 4] = [
 
 const AFTER_THE_EXCHANGE: [(Place, u64); 1] = [(Place::FrameWord { i: 7 }, (1 << 60) - 1)];
 
-/// An exchange in slot 0 changes central memory, the frame and P.
+/// Settings, watches, a dead start, a turn after one, and an exchange in slot 0, which changes central memory, the frame and P.
+const ACTIONS: [Recorded; 5] = [
+    (&[], &SETTINGS, &[]),
+    (&[], &WATCHES, &[]),
+    (&[&SETTINGS], &[Step::Deadstart], &[]),
+    (&SETTINGS_AND_DEADSTART, &[Step::Turn], &[]),
+    (&[&BEFORE_THE_EXCHANGE], &[Step::Turn], &AFTER_THE_EXCHANGE),
+];
+
 #[test]
-fn an_exchange_leads_back(rt: HostRuntime) -> Result<(), Fail> {
-    let first: [&[Step]; 1] = [&BEFORE_THE_EXCHANGE];
-    lead_back_anew(&rt, rt.alloc(), &first, &[Step::Turn], &AFTER_THE_EXCHANGE)
+fn the_record_of_each_action_leads_back(rt: HostRuntime) -> Result<(), Fail> {
+    for i in 0..ACTIONS.len() {
+        lead_back_anew(&rt, rt.alloc(), &ACTIONS[i])?;
+    }
+    Ok(())
 }
 
 const CALLS: [Step; 4] = [
@@ -217,7 +210,7 @@ fn all_parts_lead_back(
     session: &mut Session<Rig>,
 ) -> Result<(), Fail> {
     lead_back(rt, alloc, session, &[&CALLS], &[Step::Turn, Step::Turn])?;
-    follow(rt, session, &BEFORE_THE_LAST);
+    follow(rt, session, "before the last", &BEFORE_THE_LAST);
     assert!(rt; session.machine().slot() == 9);
     lead_back(rt, alloc, session, &[], &[Step::Turn])
 }

@@ -27,11 +27,6 @@ const STOPS_AND_GOES_BACK: [Step; 9] = [
     Step::Is(Place::Cell { pp: 0, a: 0o50 }, 0),
 ];
 
-#[test]
-fn stops_at_a_changed_cell_and_goes_back(rt: HostRuntime) -> Result<(), Fail> {
-    follow_anew(&rt, rt.alloc(), &STOPS_AND_GOES_BACK)
-}
-
 /// The same program, with 5 in the cell already.
 const STORES_THE_SAME: [Step; 8] = [
     Step::Cells(0, 0o50, &[5]),
@@ -44,11 +39,6 @@ const STORES_THE_SAME: [Step; 8] = [
     Step::Watches(&[]),
 ];
 
-#[test]
-fn a_store_of_the_same_number_is_no_change(rt: HostRuntime) -> Result<(), Fail> {
-    follow_anew(&rt, rt.alloc(), &STORES_THE_SAME)
-}
-
 const WATCHES_THE_CLOCK: [Step; 6] = [
     Step::Watch(REGISTER_14),
     Step::Stops(0o1000, 0o12, REGISTER_14, 0, 1),
@@ -57,11 +47,6 @@ const WATCHES_THE_CLOCK: [Step; 6] = [
     Step::Is(SLOT, 0o11),
     Step::BackToChange(Err(BackFault::NoChange { kept: 0o12 })),
 ];
-
-#[test]
-fn the_clock_is_watched_as_register_14(rt: HostRuntime) -> Result<(), Fail> {
-    follow_anew(&rt, rt.alloc(), &WATCHES_THE_CLOCK)
-}
 
 // The turn that loads A advances P, too.
 const WATCHES_A_AND_P: [Step; 5] = [
@@ -80,18 +65,7 @@ const WATCHES_P_AND_A: [Step; 5] = [
     Step::Stops(1, 1, WATCHED_P, 0o100, 0o101),
 ];
 
-#[test]
-fn the_hit_is_the_first_in_watch_order(rt: HostRuntime) -> Result<(), Fail> {
-    follow_anew(&rt, rt.alloc(), &WATCHES_A_AND_P)?;
-    follow_anew(&rt, rt.alloc(), &WATCHES_P_AND_A)
-}
-
 const NO_TURNS: [Step; 3] = [Step::Watch(WATCHED_P), Step::Runs(0), Step::Kept(1)];
-
-#[test]
-fn no_turns_are_no_run(rt: HostRuntime) -> Result<(), Fail> {
-    follow_anew(&rt, rt.alloc(), &NO_TURNS)
-}
 
 /// The same program, with a watched cell, in a session that keeps four actions.
 const STOPS_IN_A_SHORT_HISTORY: [Step; 10] = [
@@ -113,7 +87,7 @@ fn a_run_may_be_longer_than_the_history(rt: HostRuntime) -> Result<(), Fail> {
     let Ok(mut session) = Session::new(rt.alloc(), rig, 4) else {
         return Err("no memory".into());
     };
-    follow(&rt, &mut session, &STOPS_IN_A_SHORT_HISTORY);
+    follow(&rt, &mut session, "stops", &STOPS_IN_A_SHORT_HISTORY);
     drop(session);
     Ok(())
 }
@@ -128,17 +102,31 @@ const WAITS: [Step; 7] = [
     Step::Kept(4),
 ];
 
+const EXAMPLES: [Example; 7] = [
+    (
+        "stops at a changed cell and goes back",
+        &STOPS_AND_GOES_BACK,
+    ),
+    ("a store of the same number is no change", &STORES_THE_SAME),
+    ("the clock is watched as register 14", &WATCHES_THE_CLOCK),
+    ("the hit is the first in watch order", &WATCHES_A_AND_P),
+    ("the hit is the first in the other order", &WATCHES_P_AND_A),
+    ("no turns are no run", &NO_TURNS),
+    ("a wait is a turn", &WAITS),
+];
+
 #[test]
-fn a_wait_is_a_turn(rt: HostRuntime) -> Result<(), Fail> {
-    follow_anew(&rt, rt.alloc(), &WAITS)
+fn runs(rt: HostRuntime) -> Result<(), Fail> {
+    follow_each(&rt, rt.alloc(), &EXAMPLES)
 }
 
 /// Performs two turns of processor 0 with the steps before them: it loads 5 into A and then performs the second word.
 /// Channel 3 is active and empty, and central word 5 is 0o77.
-fn load_and_perform(rt: &impl Abort, alloc: Global, steps: &[Step]) -> Result<(), Fail> {
+fn load_and_perform(rt: &impl Abort, alloc: Global, example: &Example) -> Result<(), Fail> {
+    let (name, steps) = *example;
     let mut session = new_session(alloc)?;
-    follow(rt, &mut session, &LOADS);
-    follow(rt, &mut session, steps);
+    follow(rt, &mut session, "before the turns", &LOADS);
+    follow(rt, &mut session, name, steps);
     drop(session);
     Ok(())
 }
@@ -156,21 +144,11 @@ const EXCHANGES: [Step; 3] = [
     Step::Stops(0o13, 0o13, WORD_5, 0o77, 0),
 ];
 
-#[test]
-fn an_exchange_may_change_a_watched_word(rt: HostRuntime) -> Result<(), Fail> {
-    load_and_perform(&rt, rt.alloc(), &EXCHANGES)
-}
-
 const OUTPUTS: [Step; 3] = [
     Step::Cells(0, 0o100, &[0o1405, 0o7203]),
     Step::Watch(CHANNEL_3),
     Step::Stops(0o13, 0o13, CHANNEL_3, 0, 5),
 ];
-
-#[test]
-fn an_output_changes_the_register_of_a_channel(rt: HostRuntime) -> Result<(), Fail> {
-    load_and_perform(&rt, rt.alloc(), &OUTPUTS)
-}
 
 const STORES: [Step; 3] = [
     Step::Cells(0, 0o100, &[0o1405, 0o3450]),
@@ -178,18 +156,26 @@ const STORES: [Step; 3] = [
     Step::Stops(0o13, 1, WATCHED_A, 0, 5),
 ];
 
-#[test]
-fn a_register_is_watched_beside_a_cell(rt: HostRuntime) -> Result<(), Fail> {
-    load_and_perform(&rt, rt.alloc(), &STORES)
-}
-
 const ADDS: [Step; 3] = [
     Step::Cells(0, 0o100, &[0o1405, 0o1601]),
     Step::Watch(WORD_5),
     Step::Runs(0o13),
 ];
 
+const LOADED: [Example; 4] = [
+    ("an exchange may change a watched word", &EXCHANGES),
+    ("an output changes the register of a channel", &OUTPUTS),
+    ("a register is watched beside a cell", &STORES),
+    (
+        "turns that write registers alone change no watched cell",
+        &ADDS,
+    ),
+];
+
 #[test]
-fn turns_that_write_registers_alone_change_no_watched_cell(rt: HostRuntime) -> Result<(), Fail> {
-    load_and_perform(&rt, rt.alloc(), &ADDS)
+fn runs_after_a_load(rt: HostRuntime) -> Result<(), Fail> {
+    for i in 0..LOADED.len() {
+        load_and_perform(&rt, rt.alloc(), &LOADED[i])?;
+    }
+    Ok(())
 }

@@ -26,7 +26,7 @@ const GOES_BACK_AND_FORWARD: [Step; 16] = [
 fn goes_back_and_forward(rt: HostRuntime) -> Result<(), Fail> {
     let mut session = new_session(rt.alloc())?;
     assert!(rt; session.capacity() == 10_000);
-    follow(&rt, &mut session, &GOES_BACK_AND_FORWARD);
+    follow(&rt, &mut session, "goes back", &GOES_BACK_AND_FORWARD);
     drop(session);
     Ok(())
 }
@@ -44,10 +44,12 @@ fn go_back_to_changes(rt: &impl Abort, session: &mut Session<Rig>) {
     assert!(rt; session.ahead() == 2);
 }
 
+const SETS_A_TWICE: [Step; 2] = [Step::SetA(0, 1), Step::SetA(0, 1)];
+
 #[test]
 fn finds_the_latest_change(rt: HostRuntime) -> Result<(), Fail> {
     let mut session = new_session(rt.alloc())?;
-    follow(&rt, &mut session, &[Step::SetA(0, 1), Step::SetA(0, 1)]);
+    follow(&rt, &mut session, "sets", &SETS_A_TWICE);
     look_for_changes(&rt, &session);
     go_back_to_changes(&rt, &mut session);
     drop(session);
@@ -70,11 +72,6 @@ const DROPS_A_WATCH: [Step; 7] = [
     Step::Watches(&[WATCHED_A, WATCHED_P, WATCHED_Q]),
 ];
 
-#[test]
-fn a_dropped_watch_comes_back_where_it_stood(rt: HostRuntime) -> Result<(), Fail> {
-    follow_anew(&rt, rt.alloc(), &DROPS_A_WATCH)
-}
-
 /// A program of processor 0, a number of turns, a place that is watched after them, and what the search for its latest
 /// change returns. The program loads 5 into A in turn 1, and performs its other words in turns 0o13 and 0o25. The watch
 /// counts as an action.
@@ -90,14 +87,14 @@ const BEFORE_THE_SEARCH: [Step; 5] = [
 
 /// Makes the search of a row.
 fn search_in(rt: &impl Abort, session: &mut Session<Rig>, row: &Row, i: usize) {
-    follow(rt, session, &BEFORE_THE_SEARCH);
+    follow(rt, session, "before the search", &BEFORE_THE_SEARCH);
     let Row(program, turns, watched, found) = *row;
     let steps = [
         Step::Cells(0, 0o100, program),
         Step::Runs(turns),
         Step::Watch(watched),
     ];
-    follow(rt, session, &steps);
+    follow(rt, session, "searched", &steps);
     assert!(rt; back_to_change(session) == found, "search {i}");
 }
 
@@ -139,7 +136,8 @@ const READER: Watched = Watched::Register { c: 8 };
 
 const REGISTER_14: Watched = Watched::Register { c: 0o14 };
 
-const STORES: [Row; 3] = [
+/// Stores, outputs, exchanges, blocks, and places without a mark.
+const SEARCHES: [Row; 16] = [
     Row(&[0o1405, 0o3451], 0o15, CELL_51, Ok(4)),
     // Ten turns and an exchange follow.
     Row(&[0o1405, 0o3451, 0o2600], 0o27, CELL_51, Ok(0o16)),
@@ -150,28 +148,12 @@ const STORES: [Row; 3] = [
         CELL_52,
         Err(BackFault::NoChange { kept: 0o24 }),
     ),
-];
-
-#[test]
-fn the_search_finds_a_stored_cell(rt: HostRuntime) -> Result<(), Fail> {
-    search_all(&rt, rt.alloc(), &STORES)
-}
-
-// The last row's register is that of the reader, which puts its status there.
-const OUTPUTS: [Row; 3] = [
+    // The last row's register is that of the reader, which puts its status there.
     Row(&[0o1405, 0o7203], 0o15, CHANNEL_3, Ok(4)),
     Row(&[0o1405, 0o7203, 0o2600], 0o27, CHANNEL_3, Ok(0o16)),
     Row(&[0o1405, 0o7710, 2, 0o7410], 0o27, READER, Ok(4)),
-];
-
-#[test]
-fn the_search_finds_an_output(rt: HostRuntime) -> Result<(), Fail> {
-    search_all(&rt, rt.alloc(), &OUTPUTS)
-}
-
-// An exchange at 5 writes central words 5 to 0o24. In the last two rows nothing writes the word, once in a block that
-// the exchange writes to.
-const EXCHANGES: [Row; 5] = [
+    // An exchange at 5 writes central words 5 to 0o24. In the last two rows nothing writes the word, once in a block that
+    // the exchange writes to.
     Row(&[0o1405, 0o2600], 0o15, WORD_5, Ok(4)),
     Row(&[0o1405, 0o2600], 0o15, WORD_24, Ok(4)),
     Row(&[0o1405, 0o2600, 0o3451], 0o27, WORD_24, Ok(0o16)),
@@ -187,35 +169,19 @@ const EXCHANGES: [Row; 5] = [
         WORD_40,
         Err(BackFault::NoChange { kept: 0o24 }),
     ),
-];
-
-#[test]
-fn the_search_finds_both_ends_of_an_exchange(rt: HostRuntime) -> Result<(), Fail> {
-    search_all(&rt, rt.alloc(), &EXCHANGES)
-}
-
-// The first row writes cells 0o50 to 0o54 to a central word. The move of turn 0o25 writes central word 5 to cells 0o7775
-// to 0o7777, 0 and 1, or to 0o7773 to 0o7777; three turns follow.
-const BLOCKS: [Row; 3] = [
+    // The first row writes cells 0o50 to 0o54 to a central word. The move of turn 0o25 writes central word 5 to cells 0o7775
+    // to 0o7777, 0 and 1, or to 0o7773 to 0o7777; three turns follow.
     Row(&[0o1405, 0o6250], 0o15, WORD_5, Ok(4)),
     Row(&[0o1405, 0o6150, 0o7775], 0o30, CELL_1, Ok(5)),
     Row(&[0o1405, 0o6150, 0o7773], 0o30, CELL_7777, Ok(5)),
-];
-
-#[test]
-fn the_search_finds_both_ends_of_a_block_over_cell_7777(rt: HostRuntime) -> Result<(), Fail> {
-    search_all(&rt, rt.alloc(), &BLOCKS)
-}
-
-// The clock changed in turn 0o12.
-const UNMARKED: [Row; 2] = [
+    // The clock changed in turn 0o12.
     Row(&[0o1405, 0o2600], 0o15, WATCHED_A, Ok(0o16)),
     Row(&[0o1405, 0o2600], 0o15, REGISTER_14, Ok(5)),
 ];
 
 #[test]
-fn the_search_finds_a_place_without_a_mark(rt: HostRuntime) -> Result<(), Fail> {
-    search_all(&rt, rt.alloc(), &UNMARKED)
+fn the_search_finds_the_latest_change(rt: HostRuntime) -> Result<(), Fail> {
+    search_all(&rt, rt.alloc(), &SEARCHES)
 }
 
 /// The store is in turn 0o13, the output in turn 0o25. A search also takes back the watches behind the change.
@@ -231,7 +197,15 @@ const SEARCHES_FOR_TWO: [Step; 9] = [
     Step::BackToChange(Ok(0o13)),
 ];
 
+const EXAMPLES: [Example; 2] = [
+    ("a dropped watch comes back where it stood", &DROPS_A_WATCH),
+    (
+        "the search finds the latest of two changes",
+        &SEARCHES_FOR_TWO,
+    ),
+];
+
 #[test]
-fn the_search_finds_the_latest_of_two_changes(rt: HostRuntime) -> Result<(), Fail> {
-    follow_anew(&rt, rt.alloc(), &SEARCHES_FOR_TWO)
+fn watches_and_searches(rt: HostRuntime) -> Result<(), Fail> {
+    follow_each(&rt, rt.alloc(), &EXAMPLES)
 }

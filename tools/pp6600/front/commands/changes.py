@@ -12,7 +12,7 @@ from ...run.conditions import changes, column_of, first_place
 from ...run.forms import Place
 from ...run.names import AllSymbols
 from ...run.recording import Numbers, next_turn
-from ...run.search import Search, TurnFinder
+from ...run.search import Search, TurnFinder, turn_at
 from ...run.session import Session
 from ...run.state import differences
 from ...run.tape import STEP, Position, SourceLine
@@ -35,12 +35,11 @@ def place_changes(run: Session, place: Place, symbols: Any = AllSymbols()) -> It
     column = column_of(place)
     for word in ("WATCH", "UNWATCH"):
         run.demand(f"{word} {place.short}")  # which is refused if the machine has no such place
-    finder = TurnFinder([[form] for form in changes(column).forms])
-    search = Search(run, [finder], [column])
-    for start, end, action in zip(run.tape.starts, run.tape.starts[1:], run.tape.runs):
+    finder, tape = TurnFinder([[form] for form in changes(column).forms]), run.tape
+    for start, end, last, action in zip(tape.starts, tape.starts[1:], tape.turns_before[1:], tape.runs):
         if action.line == STEP:
-            run.goto(start)
-            yield from (search.moment(*found).text(symbols) for found in search.turns(finder, end))
+            turns = Search(run, [finder]).onward(finder, start, 0, last)
+            yield from (turn_at(run, position, [column]).text(symbols) for position, _ in turns)
         elif place in places_of_setting(action.line):
             run.goto(start)
             (_, was), = column.shown(run)
@@ -63,7 +62,7 @@ def last_turns(run: Session, count: int, symbols: Any = AllSymbols()) -> Iterato
         if action.line == STEP:
             run.goto(position)
             yield from (turn_line(run, symbols) for _ in range(action.times))
-        else:
+        elif not action.is_watch:
             yield action.line
         position = Position(position + action.times)
     run.end()
@@ -71,7 +70,7 @@ def last_turns(run: Session, count: int, symbols: Any = AllSymbols()) -> Iterato
 
 def turn_line(run: Session, symbols: Any) -> str:
     """Makes the next turn. Returns a line with what it changed."""
-    slot = run.next_slot
+    slot = run.slot()
     processor, (was, now) = run.processor(slot), next_turn(run)
     changes = ", ".join(f"{place} {before} -> {after}" for place, before, after in shown(was, now)) or "NOTHING"
     return f"TURN {run.turn:o} PP {slot:02o}: {changes}{symbols.line_at_p(slot, processor)}"
@@ -105,9 +104,9 @@ def main() -> int:
     symbols = symbols_of(asked)
     place, rest = (None, asked.words) if asked.turns else first_place(asked.words, symbols)
     (path,) = words_after(rest, 1, "give --turns, one script" if asked.turns else "give one place, one script")
-    run, script = replayed(asked, symbols, path)
+    run, refusals = replayed(asked, symbols, path)
     if place is None:
         write_lines(last_turns(run, asked.turns, symbols))
     else:
         write_lines(place_changes(run, place, symbols), "NO CHANGE")
-    return script.refusals.status()
+    return refusals.status()

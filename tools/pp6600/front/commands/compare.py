@@ -32,8 +32,8 @@ class Side:
 
     def __init__(self, words: Sequence[str], lines: Sequence[str], symbols: Any = AllSymbols()) -> None:
         self.symbols = symbols
-        script = performed(words, symbols.loading(lines))
-        self.run, self.status = Session.of_tape(words, script.tape), script.refusals.status
+        done, refusals = performed(words, symbols.loading(lines))
+        self.run, self.status = done.search(done.in_effect()), refusals.status
         self.turns = self.run.tape.turns
 
     def at(self, turn: int, has_settings: bool = True) -> Session:
@@ -45,7 +45,7 @@ class Side:
     def maker(self, turn: int) -> str:
         """Returns in words what the run did in a turn."""
         run = self.at(turn - 1)
-        slot, maker = run.next_slot, run.processor(run.next_slot)
+        slot, maker = run.slot(), run.processor(run.slot())
         address = self.symbols.beside(slot, maker.p)
         return f"TURN {turn:o} PP {slot:02o} P {address} {maker.text}{self.symbols.line_at_p(slot, maker)}"
 
@@ -57,9 +57,9 @@ class Side:
                 continue
             run.goto(start)
             while run.position < end:
-                first, own = run.turn + 1, (number - run.next_slot) % PROCESSORS
-                addresses, _ = run.engine.numbers_after(min(end - run.position, run.history.room), [P + number])
-                run.history.performed(len(addresses))
+                first, own = run.turn + 1, (number - run.slot()) % PROCESSORS
+                addresses, _ = run.engine.numbers_after(min(end - run.position, run.room), [P + number])
+                run.performed(len(addresses))
                 for at in range(own, len(addresses), PROCESSORS):
                     yield first + at, names and address_name(names, addresses[at]) or addresses[at]
 

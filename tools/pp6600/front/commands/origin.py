@@ -54,7 +54,7 @@ def origin_lines(words: Sequence[str], tape: Tape, place: Place, turn: Optional[
                  with_addresses: bool = False, symbols: Any = AllSymbols(), with_reasons: bool = False) -> List[str]:
     """Returns the lines of the origin of the number at a place after so many turns of a tape, or at its end. The words are the program
     and its options."""
-    run = Session.of_tape(words, tape)
+    run = Session(words, tape, is_search=True)
     if place.kind == "C" and place.numbers[0] >= run.central_size:
         raise Failure(f"there is no {place.short}: central memory has {run.central_size:o} words (octal)")
     position, progress = tape.end if turn is None else tape.after_turn(turn), Progress(tape)
@@ -78,7 +78,7 @@ def main() -> int:
     words, symbols = simulator(asked), symbols_of(asked)
     place, rest = place_of(asked.words, symbols)
     (script,) = words_after(rest, 1, "give one place, one script")
-    done = performed(words, numbered(symbols.loading(script_lines(script))), devices_of(asked))
+    done, refusals = performed(words, numbered(symbols.loading(script_lines(script))), devices_of(asked))
     most_steps = None if asked.all else asked.depth
-    write_lines(origin_lines(words, done.tape, place, asked.turn, most_steps, asked.addresses, symbols, asked.why))
-    return done.refusals.status()
+    write_lines(origin_lines(words, done.in_effect(), place, asked.turn, most_steps, asked.addresses, symbols, asked.why))
+    return refusals.status()

@@ -49,11 +49,9 @@ def source_line(console: Console, number: int, symbols: Any) -> str:
 
 def call_lines(run: Session, symbols: Any) -> List[str]:
     """Returns a line for each subroutine of a source that its processor is in, the innermost first."""
-    again = Session.of_tape(run.words, run.history.in_effect())
-    lines = [f" PP {number:02o}  {sentence(again, number, call, symbols)}"
-             for number, source in symbols.sources() for call in calls(again, number, source, again.tape.end)]
-    again.close()
-    return lines
+    with run.search(run.in_effect()) as again:
+        return [f" PP {number:02o}  {sentence(again, number, call, symbols)}"
+                for number, source in symbols.sources() for call in calls(again, number, source, again.tape.end)]
 
 
 def screen(run: Session, symbols: Any) -> List[str]:

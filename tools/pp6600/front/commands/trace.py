@@ -14,7 +14,7 @@ from ...language.symbol_options import SYMBOL_OPTIONS, symbols_of
 from ...run.conditions import is_written
 from ...run.forms import CELLS, CLOCK, PROCESSORS, ranges_of
 from ...run.names import AllSymbols
-from ...run.search import TurnFinder, around, spans
+from ...run.search import TurnFinder, spans, turn_at
 from ...run.session import Session
 from ...run.tape import REJECT, STEP, Position, ReplyLine, Tape
 from ...run.turn import BLOCK_GOES_ON, CHANNEL_CODES, CHANNEL_JUMPS, Processor, places_of_setting
@@ -41,10 +41,10 @@ class Tracer:
     def line(self, position: Position) -> Optional[str]:
         """Returns the line of the turn after a position; None if it did not touch the channel, if one is asked for."""
         was = self.shown_at(position)
-        _, made, _ = around(self.run, position)
+        made = turn_at(self.run, position)
         before, after = made.processor, made.after
         waited = before.waited(after)
-        text = f"TURN {self.run.tape.turn(position) + 1:o} PP {made.slot:02o} {self.instruction(made.slot, before)}"
+        text = f"TURN {made.turn:o} PP {made.slot:02o} {self.instruction(made.slot, before)}"
         wait, listed = " WAITS" if waited else "", self.listed(made.slot, before)
         wait += reject_after(self.run.tape, Position(position + 1))
         if self.channel is None:
@@ -136,8 +136,8 @@ class Touches:
         those of them that may have touched the channel."""
         run = self.run
         run.goto(begin)
-        records = run.engine.records(min(end - begin, run.history.room))
-        run.history.performed(len(records.counts))
+        records = run.engine.records(min(end - begin, run.room))
+        run.performed(len(records.counts))
         end = run.position
         places = array("I", records.olds)[::4].tobytes().decode("utf-32-le", "surrogatepass")  # a character each, so that few are looked at
         found = [(match.start(), ord(match[0])) for match in self.pattern.finditer(places)]
@@ -152,7 +152,7 @@ class Touches:
         the clock."""
         run = self.run
         run.goto(begin)
-        slot = run.next_slot
+        slot = run.slot()
         due = [Position(begin + (number - slot) % PROCESSORS) for number in self.at_words()]
         self.finder.begin(run)
         while run.position < end and self.finder.conditions:
@@ -198,7 +198,7 @@ def main() -> int:
     parser.add_argument("--to", metavar="N", type=count, dest="to", help="the turns up to N, octal")
     asked = parser.parse(SYMBOL_OPTIONS, DEVICE_OPTIONS, SCRIPT_WORD)
     symbols = symbols_of(asked)
-    run, script = replayed(asked, symbols, asked.script)
+    run, refusals = replayed(asked, symbols, asked.script)
     last = run.tape.turns if asked.to is None else min(asked.to, run.tape.turns)
     first, tracer = min(asked.first - 1, last), Tracer(run, asked.channel, symbols)
     if asked.last is None:
@@ -206,4 +206,4 @@ def main() -> int:
     else:
         write_lines(last_lines(asked, run, tracer, first, last))
     run.close()
-    return script.refusals.status()
+    return refusals.status()

@@ -1,16 +1,14 @@
 """The turns at which a condition comes to hold."""
 
-from argparse import Namespace
 from itertools import islice
-from typing import Any, Iterable, List, Optional, Tuple
+from typing import Any, List, Optional, Tuple
 
 from ...devices.options import DEVICE_OPTIONS, replayed
 from ...language.symbol_options import SYMBOL_OPTIONS, symbols_of
 from ...run.conditions import Condition, first_of
 from ...run.names import AllSymbols
-from ...run.search import FoundTurn
-from ...run.searches import last_moments, search_for
-from ...run.session import Session
+from ...run.search import last_found, turn_at
+from ...run.searches import search_for
 from ...shell.command_line import Failure, arguments, count, words_after, write
 
 DESCRIPTION = """Shows the first turn at whose end a condition holds and at whose beginning it did not. A condition is PLACE = 105,
@@ -35,14 +33,6 @@ def condition_and_script(words: List[str], symbols: Any = AllSymbols()) -> Tuple
     return condition, words_after(words if rest else [], 1, "give one condition, one script")[0]
 
 
-def turns_found(asked: Namespace, condition: Condition, run: Session) -> Iterable[FoundTurn]:
-    first = asked.first - 1 if asked.first else 0
-    most = run.tape.turns if asked.all else asked.count or 1
-    if asked.last:
-        return last_moments(run, condition, most, first)
-    return islice(search_for(run, condition).moments(first), most)
-
-
 def main() -> int:
     parser = arguments(DESCRIPTION, "[OPTION ..] CONDITION [SCRIPT]")
     parser.add_argument("--from", metavar="N", type=count, dest="first", help="search from turn N on, octal")
@@ -54,12 +44,13 @@ def main() -> int:
     asked = parser.parse(SYMBOL_OPTIONS, DEVICE_OPTIONS)
     symbols = symbols_of(asked)
     condition, path = condition_and_script(asked.words, symbols)
-    run, script = replayed(asked, symbols, path)
-    is_found = False
-    for found in turns_found(asked, condition, run):
-        write(found.text(symbols), at_once=not asked.all)
+    run, refusals = replayed(asked, symbols, path)
+    first, most, is_found = asked.first - 1 if asked.first else 0, run.tape.turns if asked.all else asked.count or 1, False
+    search = search_for(run, condition)
+    for position, _ in last_found(search, most, first) if asked.last else islice(search.found(first), most):
+        write(turn_at(run, position, condition.columns).text(symbols), at_once=not asked.all)
         is_found = True
     run.end()
     if not is_found:
         write("NONE")
-    return script.refusals.status() or int(not is_found)
+    return refusals.status() or int(not is_found)

@@ -1,8 +1,7 @@
 """The processors that wait."""
 
 import sys
-from contextlib import closing
-from typing import Any, Iterator, List, NamedTuple, Optional, Sequence, Set, Tuple
+from typing import Any, Iterator, List, NamedTuple, Sequence, Set, Tuple
 
 from ...devices.options import DEVICE_OPTIONS, replayed
 from ...engine import interface as flat
@@ -12,8 +11,8 @@ from ...language.symbol_options import SYMBOL_OPTIONS, symbols_of
 from ...run.conditions import Column, Condition, changes
 from ...run.forms import CELLS, CLOCK, MOST_TURNS, MOST_WATCHES, PROCESSORS, REGISTERS, Place
 from ...run.names import AllSymbols
-from ...run.search import FoundTurn, Search, TurnFinder, last_found
-from ...run.searches import last_moments
+from ...run.search import Search, Turn, TurnFinder, last_found, turn_at
+from ...run.searches import search_for
 from ...run.session import Session
 from ...run.state import State, central_of, state_of
 from ...run.tape import STEP, Position, Tape
@@ -85,11 +84,11 @@ def drop_moved(run: Session, turns: int, numbers: Set[int]) -> None:
             run.demand(f"UNWATCH P {number:o}")
 
 
-def waiting_for_ever(words: Sequence[str], tape: Tape, numbers: Sequence[int]) -> Set[int]:
+def waiting_for_ever(found: Session, numbers: Sequence[int]) -> Set[int]:
     """Returns those of at most eight waiting processors that will never go on: the machine comes back to a state where it was,
     and meanwhile they have not moved. Then it does so again and again."""
-    with closing(Session.of_tape(words, tape)) as run:
-        run.goto(tape.end)
+    with found.search() as run:
+        run.goto(run.tape.end)
         before, central, staying, passed = state_of(run), central_of(run), set(numbers), 0
         for number in numbers:
             run.demand(f"WATCH P {number:o}")
@@ -105,11 +104,9 @@ def waiting_for_ever(words: Sequence[str], tape: Tape, numbers: Sequence[int]) -
 
 def last_change(run: Session, channel: int, symbols: Any) -> Tuple[int, str]:
     """Returns the turn of the last change of a channel, or the one before a setting, and who made it."""
-    found, setting = last_moments(run, Condition([[changes(Column(Place("H", (channel,))), True)]]), 1), last_setting(run.tape, channel)
-    turn = found[0].turn if found else 0
-    if setting[0] >= turn:
-        return setting
-    return turn, maker(run, channel, found[0], symbols)
+    condition, setting = Condition([[changes(Column(Place("H", (channel,))), True)]]), last_setting(run.tape, channel)
+    position, turn = next(iter(last_found(search_for(run, condition), 1)), (Position(0), 0))
+    return setting if setting[0] >= turn else (turn, maker(run, channel, turn_at(run, position), symbols))
 
 
 def last_setting(tape: Tape, channel: int) -> Tuple[int, str]:
@@ -121,9 +118,8 @@ def last_setting(tape: Tape, channel: int) -> Tuple[int, str]:
     return 0, "NOBODY"
 
 
-def maker(run: Session, channel: int, found: FoundTurn, symbols: Any) -> str:
+def maker(run: Session, channel: int, made: Turn, symbols: Any) -> str:
     """Returns who changed a channel in a turn: its processor, or else a device."""
-    made = found.made
     run.goto(made.position)
     if {flat.STATES + channel, flat.REGISTERS + channel}.isdisjoint(origin.place for origin in made_turn(run).others):
         line = symbols.line_at_p(made.slot, made.processor)
@@ -150,14 +146,10 @@ def at_end(run: Session, symbols: Any) -> Tuple[List[Waiting], State]:
             at, p = ("NONE" if one is None else symbols.beside(number, one) for one in (address, processor.p))
             name = f"{processor.name} GOES ROUND" if goes_round else processor.name
             line = f"PP {number:02o} AT {at} {name} P {p} {channel_line(state, processor.channel)}"
-            found.append(Waiting(number, processor, line, source_line(state, number, address, symbols)))
+            cell = state.memories[number].number
+            begun = None if address is None else Processor(address, 0, 0, 0, (cell(address), cell(address + 1)))  # before its instruction
+            found.append(Waiting(number, processor, line, symbols.line_at_p(number, begun) if begun else ""))
     return found, state
-
-
-def source_line(state: State, number: int, address: Optional[int], symbols: Any) -> str:
-    """Returns the line of the source whose instruction is at an address of a processor, after two blanks; nothing if there is none."""
-    cell = state.memories[number].number
-    return "" if address is None else str(symbols.line(number, address, [cell(address), cell(address + 1)]))
 
 
 def channel_line(state: State, number: int) -> str:
@@ -169,7 +161,7 @@ def waits(run: Session, symbols: Any = AllSymbols()) -> Iterator[str]:
     """Yields a line for each processor that waits, and one for its channel."""
     found, state = at_end(run, symbols)
     numbers = [one.number for one in found if one.processor.channel not in run.device_channels]  # a device may end its wait
-    for_ever = set[int]().union(*(waiting_for_ever(run.words, run.tape, numbers[at:at + MOST_WATCHES])
+    for_ever = set[int]().union(*(waiting_for_ever(run, numbers[at:at + MOST_WATCHES])
                              for at in range(0, len(numbers), MOST_WATCHES)))
     channels = sorted({one.processor.channel for one in found if one.processor.channel < CLOCK})
     changes = {channel: last_change(run, channel, symbols) for channel in channels}
@@ -183,9 +175,9 @@ def waits(run: Session, symbols: Any = AllSymbols()) -> Iterator[str]:
 def main() -> int:
     asked = arguments(DESCRIPTION).parse(TURN_OPTION, SYMBOL_OPTIONS, DEVICE_OPTIONS, SCRIPT_WORD)
     symbols = symbols_of(asked)
-    run, script = replayed(asked, symbols, asked.script, asked.turn)
+    run, refusals = replayed(asked, symbols, asked.script, asked.turn)
     if not is_proved(run.engine) and sys.stderr and sys.stderr.isatty():
         print("waits: searching; this takes minutes with the simulator in Python", file=sys.stderr, flush=True)
     write_lines(waits(run, symbols), "NO PROCESSOR WAITS", at_once=True)
     run.close()
-    return script.refusals.status()
+    return refusals.status()

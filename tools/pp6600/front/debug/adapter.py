@@ -168,7 +168,7 @@ class Adapter(Requests):
         self.listings.begin(symbols.of)
         self.perform_script(symbols.loading(lines))
         self.look()
-        self.shown = self.machine.next_slot if number is None else number
+        self.shown = self.machine.slot() if number is None else number
         self.after = lambda: self.wire.event("initialized")
 
     def perform_script(self, lines: Iterable[str]) -> None:

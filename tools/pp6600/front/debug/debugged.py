@@ -41,7 +41,7 @@ class Debugged(Base):
 
     def scout(self, name: str = "looks") -> Session:
         if name not in self.scouts:
-            self.scouts[name] = Session(self.words, self.tape, is_search=True)
+            self.scouts[name] = self.search()
         return self.scouts[name]
 
     def close(self) -> None:
@@ -73,7 +73,7 @@ class Debugged(Base):
             tally.cut(position)
         for scout in self.scouts.values():
             scout.goto(Position(min(scout.position, position)))
-            scout.history.ahead = min(scout.history.ahead, position - scout.position)
+            scout.newest = min(scout.newest, Position(position))
 
     def next_turn(self, number: int) -> Position:
         """Returns the position before the next turn of a processor. After the tape come turns."""
@@ -112,5 +112,7 @@ class MachineWithDevices(Debugged, Attached):
 
     def add_turns(self, most: int) -> None:
         """Makes new turns at the end of the tape, at most so many."""
-        with self.at(self.tape.end):
-            self.act(f"STEP {min(most, MADE_AT_ONCE):o}")
+        here = self.position
+        self.goto(self.tape.end)
+        self.act(f"STEP {min(most, MADE_AT_ONCE):o}")
+        self.goto(here)

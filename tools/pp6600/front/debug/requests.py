@@ -120,12 +120,11 @@ class Requests(Setting):
 
     def act(self, line: str) -> List[str]:
         """Performs a line, and returns its answer. What was ahead may be lost by it: that is said."""
-        machine, counts = self.machine, self.machine.counts
-        ahead = counts.to_redo
+        machine, ahead = self.machine, self.machine.to_redo
         answer: List[str] = machine.typed(line)
-        here = counts.position
+        here = machine.unit
         if answer == [NO_CHANGE] and Runner(machine, self.points).back(is_typed=True):
-            answer = [f"BACK {here - counts.position:o} SLOT {machine.next_slot:02o}"]
+            answer = [f"BACK {here - machine.unit:o} SLOT {machine.slot():02o}"]
         if ahead and answer and answer[0].split()[0] in ("OK", "TURNS"):
             self.wire.say(f"{ahead:o} actions (octal) that were ahead are so no longer")
         return answer

@@ -45,7 +45,7 @@ def variables(machine: Any, scope: int, number: int, places: Iterable[Place]) ->
         return devices(state)
     if scope == WATCH_SCOPE:
         return [variable(place.short, value_of(machine, place), place.short) for place in places]
-    counts = {"turns": machine.turn, "kept": machine.counts.position, "ahead": machine.counts.to_redo, "slot": state.slot}
+    counts = {"turns": machine.turn, "kept": machine.unit, "ahead": machine.to_redo, "slot": state.slot}
     return [variable(name, f"{count:o}") for name, count in counts.items()]
 
 

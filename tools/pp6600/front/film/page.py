@@ -20,7 +20,7 @@ from ...run import conditions, sentences
 from ...run.forms import MODES, STATES
 from ...run.names import AllSymbols
 from ...run.turn import BLOCK_GOES_ON, COMPLETES, WAITS_FOR
-from ...shell.options import option_words
+from ...shell.options import simulator
 from ..keys import for_page
 from .joining import joined
 
@@ -103,7 +103,7 @@ def run(asked: Any, files: Files) -> Dict[str, Any]:
         if kind == "script" or path is not None:
             names[kind] = f"{kind}-{name}" if name in names.values() else name
             rows.append({"kind": kind, "name": names[kind], "bytes": data.decode("latin-1")})
-    return {"files": rows, "again": " ".join(map(shlex.quote, ["pp6600", *option_words(asked, names), names["script"]]))}
+    return {"files": rows, "again": " ".join(map(shlex.quote, ["pp6600", *simulator(asked, names)[1:], names["script"]]))}
 
 
 def of_symbols(symbols: AllSymbols) -> Dict[str, Any]:

@@ -32,12 +32,12 @@ def main() -> int:
     if silent:
         script, refusals = script_with(words, silent, script)
     lines = lines_of(script.decode("latin-1"))
-    done = performed(words, lines)
-    highest = done.run.tape.turns
+    done, refused = performed(words, lines)
+    highest = done.tape.turns
     if asked.around is not None and asked.around > highest:
         raise Failure(f"there is no turn {asked.around:o}: the highest is {highest:o} (octal)")
     files = Files(script, *(b"" if path is None else bytes_of(path) for path in (asked.deck, asked.panel)))
     about = {**tables(), **options(asked, names_of(devices)), **run(asked, files), **of_symbols(symbols), "opens": asked.around,
              **pictures_of(words, devices, lines)}
     write_whole(asked.output, page(heading(asked.title, asked.script), page_module(), about).encode("utf-8"))
-    return (refusals if silent else done.refusals).status()
+    return (refusals if silent else refused).status()

@@ -8,7 +8,7 @@ from typing import Any, Callable, Dict, List, Optional, Tuple
 from ...failure import Failure
 from ...run.forms import KINDS
 from ...run.names import AllSymbols
-from ...run.search import FoundTurn
+from ...run.search import Turn
 from ...run.searches import last_before, next_found, turn_of_line_before, turn_of_next_line
 from ...run.state import Memory
 from ...shell.keyboard import FIRST_WORDS, card
@@ -24,7 +24,7 @@ LONG_ANSWER = 2  # lines; a longer answer is shown on a page
 MOVES = {*ARROWS.values(), *PAGES}  # actions that move the cursor
 NEW_ACTIONS = (["SET"], ["STEP"], ["WATCH"], ["UNWATCH"], ["DEADSTART"])  # the first words of their lines
 
-Find = Callable[..., Optional[FoundTurn]]
+Find = Callable[..., Optional[Turn]]
 
 
 class Panel(Display):
@@ -97,7 +97,7 @@ class Panel(Display):
 
     def send(self, lines: List[str]) -> None:
         """Sends lines, but asks before the first of them discards what is ahead, unless it will be refused."""
-        ahead = self.session.history.to_redo
+        ahead = self.session.simulator.to_redo
         if ahead and lines[0].upper().split()[:1] in NEW_ACTIONS and not self.session.would_refuse(lines[0]):
             self.asked = lines
             raise Failure(f"{lines[0]} discards the {ahead:o} actions ahead: y sends it, any other key does not")
@@ -141,13 +141,13 @@ class Panel(Display):
 
     def go_to_found(self, text: str, find: Find = next_found) -> None:
         """Goes to the next turn at which a condition comes to hold, or the last one before; without a text, that typed before."""
-        history, text = self.session.history, text or (self.typed["until"] or [""])[-1]
+        run, text = self.session.simulator, text or (self.typed["until"] or [""])[-1]
         if not text:
             raise Failure("give a condition, as P 0 = 105 or M 0 106 changes")
         found = find(self.session, text, self.symbols, self.report_search)
         if found is None:
-            new = f"in turns {history.turns + 1:o} to {history.last_turn + self.session.most_new:o}"
-            raise Failure(f"NONE: {text}, {new if find is next_found else f'before turn {history.turns:o}'}")
+            new = f"in turns {run.turn + 1:o} to {run.tape.turns + self.session.most_new:o}"
+            raise Failure(f"NONE: {text}, {new if find is next_found else f'before turn {run.turn:o}'}")
         self.show_turn(found.turn, found.text(self.symbols))
 
     def go_by_lines(self, find: Callable[..., int], count: int) -> None:
@@ -155,15 +155,15 @@ class Panel(Display):
         in, or the one before."""
         source = self.source()
         turn = find(self.session, self.view.processor, source, count, self.report_search)
-        self.send(to_turn(self.session.history, turn))
+        self.send(to_turn(self.session.simulator, turn))
 
     def press_keys(self, text: str) -> None:
         """Presses keys of the first device that has some."""
         session, devices = self.session, devices_that(self.session, "told")
         if not devices:
             raise Failure("no device has keys; --device console_display@10 is one that has some")
-        if session.history.to_redo:
-            raise Failure(f"a key would discard the {session.history.to_redo:o} actions ahead: > goes to the newest")
+        if session.simulator.to_redo:
+            raise Failure(f"a key would discard the {session.simulator.to_redo:o} actions ahead: > goes to the newest")
         session.tell(devices[0][0], text.replace("\\r", "\r"))
 
     def search(self, text: str) -> None:
@@ -188,7 +188,7 @@ class Panel(Display):
         if not path:
             raise Failure("w FILE saves what was sent: name a file")
         self.session.save(os.fsdecode(path.encode("latin-1")), over)
-        later = self.session.history.to_redo - self.session.history.ahead
+        later = self.session.simulator.to_redo - self.session.simulator.ahead
         without = f", without the last {later:o} actions ahead" if later else ""
         self.message = f"{len(self.session.sent)} (decimal) lines are saved in {path}{without}"
 
@@ -201,8 +201,8 @@ PROMPTS: Dict[str, Tuple[str, Callable[[Panel, str], None]]] = {
 # What the others do, with the count before their key.
 ACTIONS: Dict[str, Callable[[Panel, int], Any]] = {
     "again": lambda panel, count: panel.go_to_found(""), "back-again": lambda panel, count: panel.go_to_found("", last_before),
-    "next-change": lambda panel, count: panel.go_to_found(f"{panel.view.place()} changes"),
-    "change-before": lambda panel, count: panel.go_to_found(f"{panel.view.place()} changes", last_before),
+    "next-change": lambda panel, count: panel.go_to_found(f"{panel.view.cursor.short} changes"),
+    "change-before": lambda panel, count: panel.go_to_found(f"{panel.view.cursor.short} changes", last_before),
     "next-line": lambda panel, count: panel.go_by_lines(turn_of_next_line, count),
     "line-before": lambda panel, count: panel.go_by_lines(turn_of_line_before, count),
     "next-part": lambda panel, count: panel.view.next_pane(1), "part-before": lambda panel, count: panel.view.next_pane(-1),

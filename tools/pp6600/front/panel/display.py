@@ -65,8 +65,8 @@ class Display:
     def screen(self) -> Screen:
         if self.page:
             return self.page.screen(self.columns, self.rows)
-        session, history = self.session, self.session.history
-        content = ScreenContent(session.state, session.before, self.view, history.turns, history.kept, history.to_redo, session.size,
+        session, run = self.session, self.session.simulator
+        content = ScreenContent(session.state, session.before, self.view, run.turn, run.kept, run.to_redo, session.size,
                                 session.log, self.message, self.prompt.shown() if self.prompt else None, self.symbols)
         return screen(content, self.columns, self.rows)
 
@@ -90,19 +90,19 @@ class Display:
 
     def show_origin(self) -> None:
         """Opens the page of where the number at the cursor came from. Enter goes to before the action that wrote the number of a step."""
-        history, place, position = self.session.history, self.view.cursor, self.session.simulator.position
+        simulator, place = self.session.simulator, self.view.cursor
 
         def searched(reached: Position) -> None:
-            self.report_search(history.tape.turn(reached), f" of {history.turns:o}")
+            self.report_search(simulator.tape.turn(reached), f" of {simulator.turn:o}")
 
-        with self.session.search() as run:
-            rows = origin_rows(run, place, position, MOST_STEPS, False, searched, symbols=self.symbols)
+        with self.session.simulator.search() as run:
+            rows = origin_rows(run, place, simulator.position, MOST_STEPS, False, searched, symbols=self.symbols)
 
         def go_before(at: int) -> None:
             self.page, (step, text) = None, rows[at]
             if not (step and step.position):
                 raise Failure(f"nothing wrote it: {text.strip()}")
-            self.send_at_once([f"BACK {history.over(position - step.position + 1):o}"])
+            self.send_at_once([f"BACK {simulator.over(simulator.position - step.position + 1):o}"])
 
         title, lines = f"Where the number at {place.text} came from", [MarkedLine(text) for _, text in rows]
         self.page = TextPage(title, lines, choose=go_before, closes="c")
@@ -110,7 +110,7 @@ class Display:
     def show_calls(self) -> None:
         """Opens the page of the subroutines that the chosen processor is in."""
         number, source = self.view.processor, self.source()
-        with self.session.search() as run:
+        with self.session.simulator.search() as run:
             found = calls(run, number, source, self.session.simulator.position)
             lines = [MarkedLine(sentence(run, number, call, self.symbols)) for call in found]
         none = [MarkedLine("none that was called and has not returned")]
@@ -164,7 +164,7 @@ class Display:
         """Goes to a turn that was made."""
         if not re.fullmatch("[0-7]{1,20}", text):
             raise Failure(f"{text or 'nothing'} is no turn: give an octal number, as 405")
-        turn, last = int(text, 8), self.session.history.last_turn
+        turn, last = int(text, 8), self.session.simulator.tape.turns
         if turn > last:
             raise Failure(f"there is no turn {turn:o} yet: the last one is {last:o}")
         self.show_turn(turn)

@@ -3,7 +3,7 @@
 from typing import Any, Callable, Dict, List
 
 from ...run.forms import MOST_TURNS, PROCESSORS
-from ...run.tape import UnitCounts
+from ...run.session import Session
 from ..keys import help_rows
 from .logged_session import LoggedSession
 from .view import View
@@ -27,42 +27,42 @@ def turns_to(slot: int, processor: int, count: int) -> int:
     return (processor - slot - 1) % PROCESSORS + 1 + ROUND * (count - 1)
 
 
-def on(history: UnitCounts, turns: int) -> List[str]:
+def on(run: Session, turns: int) -> List[str]:
     """Returns the lines that go on by so many turns: over those that are ahead, then over new ones."""
-    again = history.last_turn - history.turns
-    return counted("FORWARD", history.forward_over(turns) if turns <= again else history.to_redo) + step_lines(max(turns - again, 0))
+    again = run.tape.turns - run.turn
+    return counted("FORWARD", run.forward_over(turns) if turns <= again else run.to_redo) + step_lines(max(turns - again, 0))
 
 
-def to_turn(history: UnitCounts, turn: int) -> List[str]:
+def to_turn(run: Session, turn: int) -> List[str]:
     """Returns the lines that go to before the turn that comes after so many: back, or over what is ahead and then over new turns."""
-    if turn < history.turns:
-        return back_over(history, history.turns - turn)
-    ahead = history.forward_over(turn + 1 - history.turns) - 1 if turn < history.last_turn else history.to_redo
-    return counted("FORWARD", ahead) + step_lines(max(turn - history.last_turn, 0))
+    if turn < run.turn:
+        return back_over(run, run.turn - turn)
+    ahead = run.forward_over(turn + 1 - run.turn) - 1 if turn < run.tape.turns else run.to_redo
+    return counted("FORWARD", ahead) + step_lines(max(turn - run.tape.turns, 0))
 
 
-def back_over(history: UnitCounts, turns: int) -> List[str]:
+def back_over(run: Session, turns: int) -> List[str]:
     """Returns the line that goes back over so many turns."""
-    return counted("BACK", history.back_over(turns))
+    return counted("BACK", run.back_over(turns))
 
 
 def toggle_watch(session: LoggedSession, view: View, count: int = 1) -> List[str]:
-    return [f"{'UNWATCH' if view.place() in session.watched() else 'WATCH'} {view.place()}"]
+    return [f"{'UNWATCH' if view.cursor.short in session.watched() else 'WATCH'} {view.cursor.short}"]
 
 
 # The lines of each action that sends some, by the session, what is looked at, and a count.
 LINES: Dict[str, Callable[[Any, Any, int], List[str]]] = {
-    "on": lambda session, view, count: on(session.history, count),
+    "on": lambda session, view, count: on(session.simulator, count),
     "back": lambda session, view, count: counted("BACK", count),
-    "round-on": lambda session, view, count: on(session.history, ROUND * count),
-    "round-back": lambda session, view, count: back_over(session.history, ROUND * count),
-    "next-turn": lambda session, view, count: on(session.history, turns_to(session.state.slot, view.processor, count)),
-    "turn-before": lambda session, view, count: back_over(session.history, turns_to(view.processor, session.state.slot, count)),
-    "beginning": lambda session, view, count: counted("BACK", session.history.position or 1),
-    "newest": lambda session, view, count: counted("FORWARD", session.history.to_redo or 1),
+    "round-on": lambda session, view, count: on(session.simulator, ROUND * count),
+    "round-back": lambda session, view, count: back_over(session.simulator, ROUND * count),
+    "next-turn": lambda session, view, count: on(session.simulator, turns_to(session.state.slot, view.processor, count)),
+    "turn-before": lambda session, view, count: back_over(session.simulator, turns_to(view.processor, session.state.slot, count)),
+    "beginning": lambda session, view, count: counted("BACK", session.simulator.unit or 1),
+    "newest": lambda session, view, count: counted("FORWARD", session.simulator.to_redo or 1),
     # With nothing watched it is the number at the cursor. Each BACK W but a refused one undoes an action.
     "back-to-change": lambda session, view, count: ([] if session.watched() else toggle_watch(session, view))
-    + ["BACK W"] * min(count, session.history.kept + 1),
+    + ["BACK W"] * min(count, session.simulator.kept + 1),
     "watch": toggle_watch,
 }
 

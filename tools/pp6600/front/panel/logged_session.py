@@ -1,7 +1,6 @@
 """The session of the panel: lines sent to the simulator, a log of these and of their answers, and the machine's state after them."""
 
 import os
-from contextlib import closing
 from typing import Any, Callable, List, NamedTuple, Sequence, Tuple
 
 from ...devices.options import timeline
@@ -9,11 +8,10 @@ from ...failure import Failure
 from ...run.attached import Attached
 from ...run.console import Console, has_no_answer
 from ...run.device import Device
-from ...run.forms import hit_of, is_refusal
+from ...run.forms import hit_of, refused
 from ...run.searches import MOST_NEW
-from ...run.session import Session
 from ...run.state import State, state_of
-from ...run.tape import ScriptLine, SourceLine, UnitCounts
+from ...run.tape import ScriptLine, SourceLine
 from ...shell.keyboard import place_of
 
 LOG_LENGTH = 10000  # decimal, lines and answers
@@ -33,10 +31,6 @@ def kind_of(answer: Sequence[str]) -> str:
     return answer[0].split()[0] if answer else ""
 
 
-def never(done: int, total: int) -> bool:
-    return False
-
-
 class LoggedSession:
     """A simulator, all lines that it was sent, and its state. The lines that ask for the state are not among them."""
 
@@ -51,10 +45,6 @@ class LoggedSession:
         self.look_again()
 
     @property
-    def history(self) -> UnitCounts:
-        return self.simulator.counts
-
-    @property
     def sent(self) -> List[str]:
         """The lines that were sent; after a replay those of the replay, and what was sent after it."""
         return self.simulator.sent
@@ -67,18 +57,14 @@ class LoggedSession:
         """Reads the state, in which nothing is marked."""
         self.state = self.before = self.read()
 
-    def search(self) -> Session:
-        """Returns a session on the same tape, whose position is its own. It is used in a `with` block."""
-        return Session(self.simulator.words, self.simulator.tape, is_search=True)
-
     def watched(self) -> List[str]:
         return [place.short for place in self.state.watched]
 
     def would_refuse(self, line: str) -> bool:
         """Returns whether a new action would be refused: whether another simulator, which watches the same places, refuses it."""
-        with closing(Console(self.simulator.words)) as other:
+        with Console(self.simulator.words) as other:
             *_, answer = other.ask_each([*(f"WATCH {place}" for place in self.watched()), line])
-        return is_refusal(answer)
+        return refused(answer) is not None
 
     def send(self, line: str) -> List[str]:
         if not isinstance(line, SourceLine):
@@ -96,20 +82,20 @@ class LoggedSession:
         while self.logged > LOG_LENGTH and len(self.log) > 1:
             self.logged -= 1 + len(self.log.pop(0)[1])
 
-    def perform(self, lines: Sequence[str], stops: Callable[[int, int], bool] = never) -> Outcome:
+    def perform(self, lines: Sequence[str], stops: Callable[[int, int], bool] = lambda done, total: False) -> Outcome:
         """Sends lines up to one that is refused, or that ends with a HIT, or until it `stops`: that is asked before each
         line but the first, with how many are done and how many there are. Then reads the state. Returns the outcome."""
-        state, position, watched = self.state, self.history.position, self.watched()
+        state, position, watched = self.state, self.simulator.position, self.watched()
         answer: List[str] = []
         discarded = 0
         for number, line in enumerate(lines):
             if number and stops(number, len(lines)):
                 break
-            ahead, answer = self.history.to_redo, self.send(line)
+            ahead, answer = self.simulator.to_redo, self.send(line)
             discarded += ahead if kind_of(answer) in ("OK", "TURNS") else 0
-            if is_refusal(answer) or hit_of(answer):
+            if refused(answer) or hit_of(answer):
                 break
-        if self.history.position != position:
+        if self.simulator.position != position:
             self.state, self.before = self.read(), state
         return Outcome(answer, discarded, watched)
 
@@ -129,7 +115,7 @@ class LoggedSession:
             self.before, self.state = self.state, self.read()
         self.before = self.before if turn else self.state
 
-    def perform_script(self, lines: Sequence[str], stops: Callable[[int, int], bool] = never) -> bool:
+    def perform_script(self, lines: Sequence[str], stops: Callable[[int, int], bool] = lambda done, total: False) -> bool:
         """Performs a script, whatever is refused; `stops` is asked before each line. What the last action changed is marked. Returns
         whether all was performed."""
         acting = (number for number, line in enumerate(lines) if not has_no_answer(line) and line.upper().split()[:1] != ["DUMP"])

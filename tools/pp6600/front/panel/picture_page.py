@@ -50,6 +50,6 @@ class PicturePage(TextPage):
         return self.panel.message or "s, b and other keys that step do so here; v, Escape or Enter closes this page"
 
     def screen(self, columns: int, rows: int) -> Screen:
-        self.title = f"Turn {self.panel.session.history.turns:o}"
+        self.title = f"Turn {self.panel.session.simulator.turn:o}"
         self.lines = list(map(line_of, self.texts(columns, rows)))
         return super().screen(columns, rows)

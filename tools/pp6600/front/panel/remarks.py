@@ -47,7 +47,7 @@ def next_change(session: LoggedSession, places: Sequence[Place], symbols: AllSym
     if line != STEP:
         return [f"the change is the next action, {line.strip()}"]
     was, processor = next_changes(simulator), session.state.processors[slot]
-    with session.search() as run:
+    with simulator.search() as run:
         address = address_of(run, slot, simulator.position)
     change = next((f"changes {place.short} from {was[place.number]:0{place.digits}o}" for place in places if place.number in was),
                   "makes the change")

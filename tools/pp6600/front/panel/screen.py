@@ -256,7 +256,7 @@ def log_lines(log: Log) -> List[MarkedLine]:
 def title_line(shown: ScreenContent, width: int) -> MarkedLine:
     """Returns the line at the top."""
     left = f" TURN {shown.turn:o}  SLOT {shown.state.slot:02o}  KEPT {shown.kept:o}  AHEAD {shown.ahead:o}"
-    right = f"cursor {shown.view.place()}  all octal  ? help "
+    right = f"cursor {shown.view.cursor.short}  all octal  ? help "
     return MarkedLine(left + right.rjust(width - len(left)), TITLE)
 
 

@@ -46,10 +46,6 @@ class View:
         return Place(*{"processors": (self.register, (self.processor,)), "channels": ("H", (self.channel,)),
                        "memory": ("M", (self.processor, self.cell)), "central": ("C", (self.word,))}[self.pane])
 
-    def place(self) -> str:
-        """Returns the place of the cursor, as the lines of the console have it."""
-        return self.cursor.short
-
     @property
     def is_by_rows(self) -> bool:
         """Whether the cells are shown as instructions or as a source, and not as numbers."""
