@@ -7,17 +7,17 @@ use crate::program::Performed;
 use crate::readings::read_line;
 use crate::systems::system_texts;
 use crate::terms::{Names, begins_with_blank, field_of, may_follow, operand_of, text_of_display};
-use pp_decks::{Lines, Span, tail};
+use pp_decks::{LAST_COLUMN, Lines, Span, tail};
 use pp_expansion::Pass;
 use pp_meaning::{
     Block, Item, Literal, Operand, Operation as Meant, Refusal, Statement, Symbol, SystemText,
     encode, program_of,
 };
-use pp_notation::{Cell, Form, Program, form_of};
+use pp_notation::{Cell, Program};
 use pp_source::{
     Elsewhere, Fault, Here, Message, Operation, Parts, Statement as Fields, Wording, operation_of,
 };
-use pp_statements::{CELLS, Row, base_of};
+use pp_statements::{CELLS, Cut, Named, Row, base_of};
 use std::alloc::{AllocError, Global};
 
 /// The greatest word.
@@ -105,7 +105,11 @@ fn is_silent(operation: Operation) -> bool {
             | Operation::Block(_)
             | Operation::TextCode
             | Operation::Lines(
-                Elsewhere::Deck | Elsewhere::Here | Elsewhere::Purge | Elsewhere::Stop
+                Elsewhere::Deck
+                    | Elsewhere::Here
+                    | Elsewhere::Purge
+                    | Elsewhere::Stop
+                    | Elsewhere::Column
             )
     )
 }
@@ -119,15 +123,41 @@ fn is_right_label(operation: Meant, fields: Fields) -> bool {
     !may_not_have || fields.location.is_empty()
 }
 
-/// Returns what the statement of a row is.
-fn part_of_statement(pass: &Pass, here: &Here, row: &Row, fields: Fields) -> Part {
-    let name = fields.operation.of(here.text);
-    let operation = operation_of(name);
-    let is_call = pass.vocabulary.has_had_macro(name);
-    if is_call && !matches!(operation, Operation::Unknown) {
-        return Part::Other;
+/// Returns what the call of a macro is: nothing, or its label, which is alone in what it means.
+fn part_of_call(row: &Row, fields: Fields) -> Part {
+    if is_bare(row) {
+        return Part::Silent;
     }
-    if is_bare(row) && (is_call || is_silent(operation)) {
+    let nothing = Span::new(fields.location.end, fields.location.end);
+    let label_alone = Fields {
+        operation: nothing,
+        operand: nothing,
+        ..fields
+    };
+    Part::Kept(label_alone, Meant::Blank)
+}
+
+/// Returns what OPSYN is. A macro with another name is no statement.
+fn part_of_synonym(pass: &Pass, here: &Here, cut: Cut) -> Part {
+    let Some(renamed) = cut.renamed else {
+        return Part::Silent;
+    };
+    let is_own = pass.vocabulary.text_of(renamed) == cut.fields.operand.of(here.text);
+    Part::Kept(cut.fields, Meant::Synonym(is_own))
+}
+
+/// Returns what the statement of a row is.
+fn part_of_statement(pass: &Pass, here: &Here, row: &Row, cut: Cut) -> Part {
+    let fields = cut.fields;
+    if cut.is_call {
+        return part_of_call(row, fields);
+    }
+    let name = cut.name.of(here.text);
+    let operation = operation_of(name);
+    if matches!(operation, Operation::Lines(Elsewhere::Synonym)) {
+        return part_of_synonym(pass, here, cut);
+    }
+    if is_bare(row) && is_silent(operation) {
         return Part::Silent;
     }
     let address = row.value.and_then(|value| usize::try_from(value).ok());
@@ -144,11 +174,10 @@ pub fn part_of(pass: &Pass, lines: &Lines, row: &Row) -> Part {
     if !row.is_performed || row.statement == NO_STATEMENT {
         return Part::Silent;
     }
-    let here = Here::new(lines, row.statement);
-    match pass.statement(&here) {
-        Ok(Some(fields)) => part_of_statement(pass, &here, row, fields),
-        Ok(None) if is_bare(row) => Part::Silent,
-        _ => Part::Other,
+    match row.cut {
+        Some(cut) => part_of_statement(pass, &Here::new(lines, row.statement), row, cut),
+        None if is_bare(row) => Part::Silent,
+        None => Part::Other,
     }
 }
 
@@ -166,7 +195,7 @@ fn add_names(lines: &Lines, pass: &Pass, names: &mut Names) -> Result<bool, Allo
             Part::Kept(fields, operation) => (fields, operation),
         };
         let label = lines.part_of(row.statement, fields.location);
-        if is_name(label) {
+        if is_name(label) && !matches!(operation, Meant::Synonym(_)) {
             let value = match operation {
                 Meant::Equate(_) | Meant::Set | Meant::Choose(_) | Meant::Pool(_) => row.value,
                 _ => Some(row.location),
@@ -182,22 +211,6 @@ fn add_names(lines: &Lines, pass: &Pass, names: &mut Names) -> Result<bool, Allo
         }
     }
     Ok(true)
-}
-
-/// Returns the address of a literal, by the words of the statement that has it as an operand.
-fn literal_address(operation: Meant, words: &[u16], index: usize) -> Option<usize> {
-    let first = usize::from(*words.first()?);
-    let second = words.get(1).copied().map(usize::from);
-    match operation {
-        Meant::Constants => words.get(index).copied().map(usize::from),
-        Meant::Shortest(_) => Some((first & 0o77) << 12 | second?),
-        Meant::Instruction(code) => match (form_of(code), index) {
-            (Form::Constant, _) => Some((first & 0o77) << 12 | second?),
-            (Form::Indexed | Form::Both, 0) => second,
-            _ => Some(first & 0o77),
-        },
-        _ => None,
-    }
 }
 
 /// Returns the literals, which the listing has after the statements.
@@ -239,6 +252,58 @@ fn words_of_row<'a>(pass: &'a Pass, row: &Row) -> &'a [u16] {
         .unwrap_or(&[])
 }
 
+/// Returns the literals that a row names.
+fn named_by<'a>(pass: &'a Pass, row: &Row) -> &'a [Named] {
+    let Span { first, end } = row.named;
+    pass.scope.output.named.get(first..end).unwrap_or(&[])
+}
+
+/// Returns whether an operation has numbers and texts, and no symbols.
+fn is_of_data(operation: Meant) -> bool {
+    matches!(operation, Meant::Data | Meant::Pool(_))
+}
+
+/// Returns the terms of an operand, which begins at a column.
+fn one_operand(
+    alloc: Global,
+    names: &Names,
+    operation: Meant,
+    text: &[u8],
+    named: &[Named],
+    column: usize,
+) -> Result<Option<Operand>, AllocError> {
+    match operation {
+        Meant::Bits => field_of(alloc, names, text, named, column),
+        Meant::Constants if text.is_empty() => Ok(Some(Operand::Single(Item::Nothing))),
+        _ => operand_of(alloc, names, text, is_of_data(operation), named, column),
+    }
+}
+
+/// Returns the terms of an operand that is a part of a line. At the end of the line a text may go on in blanks that are lost.
+fn operand_in(
+    alloc: Global,
+    names: &Names,
+    line: &[u8],
+    operation: Meant,
+    part: Span,
+    named: &[Named],
+) -> Result<Option<Operand>, AllocError> {
+    let mut text = Vec::from_slice(alloc, part.of(line))?;
+    let longest = if part.end < line.len() {
+        text.len()
+    } else {
+        text.len().max(LAST_COLUMN)
+    };
+    for _ in text.len()..=longest {
+        let found = one_operand(alloc, names, operation, &text, named, part.first)?;
+        if found.is_some() {
+            return Ok(found);
+        }
+        text.push(b' ')?;
+    }
+    Ok(None)
+}
+
 /// Returns the terms of operands, between two of which is a comma.
 fn operands_of(
     alloc: Global,
@@ -246,29 +311,19 @@ fn operands_of(
     line: &[u8],
     operation: Meant,
     field: Span,
-    words: &[u16],
+    named: &[Named],
 ) -> Result<Option<Vec<Operand>>, AllocError> {
     let mut operands = Vec::new(alloc);
-    let is_data = matches!(operation, Meant::Data | Meant::Pool(_));
     let is_literal = field.of(line).first() == Some(&b'=');
-    let is_instruction = matches!(operation, Meant::Instruction(_));
-    let mut parts = Parts::new(field, is_data || is_instruction && is_literal);
-    for index in 0..=line.len() {
+    let is_single = matches!(operation, Meant::Instruction(_) | Meant::End);
+    let mut parts = Parts::new(field, is_of_data(operation) || is_single && is_literal);
+    for _ in 0..=line.len() {
         let part = match parts.next(line) {
             Ok(Some(part)) => part,
             Ok(None) => return Ok(Some(operands)),
             Err(_) => return Ok(None),
         };
-        let text = part.of(line);
-        let found = match operation {
-            Meant::Bits => field_of(alloc, names, text)?,
-            Meant::Constants if text.is_empty() => Some(Operand::Single(Item::Nothing)),
-            _ => {
-                let address = literal_address(operation, words, index);
-                operand_of(alloc, names, text, is_data, address)?
-            }
-        };
-        match found {
+        match operand_in(alloc, names, line, operation, part, named)? {
             Some(operand) => operands.push(operand)?,
             None => return Ok(None),
         }
@@ -286,15 +341,12 @@ fn display_of(
         return Ok(None);
     };
     let field = field.part(0, size);
-    if !may_follow(&text, tail(line, field.end)) {
-        return Ok(None);
-    }
     let mut operands = Vec::new(alloc);
     operands.push(Operand::Single(Item::Characters(text)))?;
     Ok(Some((operands, field)))
 }
 
-/// Returns what USE has, if it has something.
+/// Returns what USE or OPSYN has, if it has something.
 fn word_of(alloc: Global, line: &[u8], field: Span) -> Result<Vec<Operand>, AllocError> {
     let mut operands = Vec::new(alloc);
     if !field.is_empty() {
@@ -311,17 +363,27 @@ fn variable_of(
     line: &[u8],
     operation: Meant,
     field: Span,
-    words: &[u16],
+    named: &[Named],
 ) -> Result<Option<(Vec<Operand>, Span)>, AllocError> {
     match operation {
         Meant::SetBase(..) | Meant::BaseBefore => Ok(Some((Vec::new(alloc), field))),
         Meant::Deck => Ok(Some((Vec::new(alloc), Span::none()))),
         Meant::Display => display_of(alloc, line, field),
-        Meant::Use => Ok(Some((word_of(alloc, line, field)?, field))),
-        _ => match operands_of(alloc, names, line, operation, field, words)? {
+        Meant::Use | Meant::Synonym(_) => Ok(Some((word_of(alloc, line, field)?, field))),
+        _ => match operands_of(alloc, names, line, operation, field, named)? {
             Some(operands) => Ok(Some((operands, field))),
             None => Ok(None),
         },
+    }
+}
+
+/// Returns whether a text is the comment behind operands. Under another name DIS has an operand without blanks.
+fn is_comment(name: &[u8], operation: Meant, operands: &[Operand], comment: &[u8]) -> bool {
+    match (operation, operands) {
+        (Meant::Display, [Operand::Single(Item::Characters(text))]) => {
+            may_follow(text, comment) || !matches!(name, b"DIS") && begins_with_blank(comment)
+        }
+        _ => begins_with_blank(comment),
     }
 }
 
@@ -332,7 +394,7 @@ pub fn statement_of(
     line: &[u8],
     fields: Fields,
     operation: Meant,
-    words: &[u16],
+    named: &[Named],
 ) -> Result<Option<Statement>, AllocError>
     ensures { IfOk result (λ made. IfSome made (λ statement. statement.line.items ≡ line.now)) }
 {
@@ -342,7 +404,7 @@ pub fn statement_of(
         operand,
         ..
     } = fields;
-    let Some((operands, field)) = variable_of(alloc, names, line, operation, operand, words)? else {
+    let Some((operands, field)) = variable_of(alloc, names, line, operation, operand, named)? else {
         return Ok(None);
     };
     let (space, end) = if field.is_empty() {
@@ -351,14 +413,20 @@ pub fn statement_of(
         (Span::new(name.end, field.first), field.end)
     };
     let comment = tail(line, end);
-    if !matches!(operation, Meant::Display) && !begins_with_blank(comment) {
+    if !is_comment(name.of(line), operation, &operands, comment) {
         return Ok(None);
     }
+    let (label, synonym) = match operation {
+        Meant::Synonym(_) => (b"".as_slice(), location.of(line)),
+        _ => (location.of(line), b"".as_slice()),
+    };
     Ok(Some(Statement {
         line: Vec::from_slice(alloc, line)?,
         margin: Vec::from_slice(alloc, Span::new(0, location.first).of(line))?,
-        label: names.label(location.of(line))?,
+        label: names.label(label)?,
+        synonym: Vec::from_slice(alloc, synonym)?,
         gap: Vec::from_slice(alloc, Span::new(location.end, name.first).of(line))?,
+        name: Vec::from_slice(alloc, name.of(line))?,
         operation,
         space: Vec::from_slice(alloc, space.of(line))?,
         operands,
@@ -393,7 +461,7 @@ fn statements_of(
                 line,
                 fields,
                 operation,
-                words_of_row(pass, row),
+                named_by(pass, row),
             )? {
                 Some(statement) => statements.push(statement)?,
                 None => return Ok(None),
@@ -416,7 +484,7 @@ fn performed_of(alloc: Global, lines: &Lines, pass: &Pass) -> Result<Option<Perf
     ensures { IfOk result (λ made. IfSome made (ArePerformedAll lines.now pass.now.scope.output.rows.items
         pass.now.scope.output.systems.items)) }
 {
-    if !pass.scope.output.messages.is_empty() || !pass.vocabulary.synonyms.is_empty() {
+    if !pass.scope.output.messages.is_empty() {
         return Ok(None);
     }
     let mut names = Names::new(alloc);

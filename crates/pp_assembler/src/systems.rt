@@ -9,7 +9,7 @@ use crate::terms::Names;
 use pp_decks::Lines;
 use pp_expansion::Pass;
 use pp_meaning::{Operation as Meant, Statement, SystemText};
-use pp_source::{Here, Statement as Fields};
+use pp_source::Statement as Fields;
 use pp_statements::{Row, SystemRows};
 use std::alloc::{AllocError, Global};
 
@@ -26,11 +26,10 @@ fn has_counter(operand: &[u8]) -> bool {
 }
 
 /// Returns the label of a row.
-fn label_of<'a>(lines: &'a Lines, pass: &Pass, row: &Row) -> &'a [u8] {
-    let here = Here::new(lines, row.statement);
-    match pass.statement(&here) {
-        Ok(Some(fields)) => fields.location.of(here.text),
-        _ => b"",
+fn label_of<'a>(lines: &'a Lines, row: &Row) -> &'a [u8] {
+    match row.cut {
+        Some(cut) => lines.part_of(row.statement, cut.fields.location),
+        None => b"",
     }
 }
 
@@ -86,7 +85,10 @@ fn statement_of_row(
     ensures { IfOk result (λ made. IfSome made (λ statement. statement.line.items ≡ read_at lines.now row.now.statement)) }
 {
     match part_of(pass, lines, row) {
-        Part::Kept(fields, operation @ (Meant::SetBase(..) | Meant::BaseBefore | Meant::Deck)) => {
+        Part::Kept(
+            fields,
+            operation @ (Meant::SetBase(..) | Meant::BaseBefore | Meant::Deck | Meant::Synonym(_)),
+        ) => {
             let line = read_line(lines, row.statement);
             statement_of(alloc, names, line, fields, operation, &[])
         }
@@ -96,7 +98,7 @@ fn statement_of_row(
     }
 }
 
-/// Returns the same, if what is before the row is known.
+/// Returns the same, if what is before the row is known. OPSYN does not depend on that.
 fn statement_if_known(
     alloc: Global,
     lines: &Lines,
@@ -107,7 +109,8 @@ fn statement_if_known(
 ) -> Result<Option<Statement>, AllocError>
     ensures { IfOk result (λ made. IfSome made (λ statement. statement.line.items ≡ read_at lines.now row.now.statement)) }
 {
-    if !is_known {
+    let is_kept = is_known || matches!(part_of(pass, lines, row), Part::Kept(_, Meant::Synonym(_)));
+    if !is_kept {
         return Ok(None);
     }
     statement_of_row(alloc, lines, pass, names, row)
@@ -130,7 +133,7 @@ fn system_text(
             continue;
         }
         is_known = is_known && !matches!(part_of(pass, lines, row), Part::Other);
-        let label = label_of(lines, pass, row);
+        let label = label_of(lines, row);
         let made = statement_if_known(alloc, lines, pass, names, row, is_known)?;
         match made {
             Some(statement) => statements.push(statement)?,

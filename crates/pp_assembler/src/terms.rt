@@ -7,6 +7,7 @@ use pp_meaning::{
 use pp_source::{
     Number, code_of, counter_of, digits_of, end_of_name, find, is_blank, number_of, text_at,
 };
+use pp_statements::Named;
 use std::alloc::{AllocError, Global};
 use std::collections::BTreeMap;
 
@@ -313,36 +314,51 @@ fn name_after(text: &[u8]) -> Option<(Linkage, &[u8])> {
     (end_of_name(name, 0) == Some(name.len())).then_some((linkage, name))
 }
 
-/// Returns an operand with its terms, or as a text. A literal is at an address.
+/// Returns an operand with its terms, or as a text. A literal is the one that the operand at a column names.
 pub fn operand_of(
     alloc: Global,
     names: &Names,
     text: &[u8],
     is_data: bool,
-    address: Option<usize>,
+    named: &[Named],
+    column: usize,
 ) -> Result<Option<Operand>, AllocError> {
     // Nothing between two commas of CON is zero, and has no terms.
     if text.is_empty() {
         return Ok(None);
     }
-    let [b'=', named @ ..] = text else {
+    let [b'=', written @ ..] = text else {
         let item = item_of(alloc, names, text, is_data)?;
         return Ok(item.map(Operand::Single));
     };
-    if let Some((linkage, name)) = name_after(named) {
+    if let Some((linkage, name)) = name_after(written) {
         let index = names.index_of(name);
         return Ok(index.map(|index| Operand::External(linkage, index)));
     }
-    match (item_of(alloc, names, named, true)?, address) {
+    match (
+        item_of(alloc, names, written, true)?,
+        address_at(named, column),
+    ) {
         (Some(item), Some(address)) => Ok(Some(Operand::Literal(address, item))),
+        _ => Ok(None),
+    }
+}
+
+/// Returns the size of a field of VFD that begins with `*P`, and may go on in what is added.
+fn width_beyond(alloc: Global, names: &Names, more: &[u8]) -> Result<Option<Width>, AllocError> {
+    if more.is_empty() {
+        return Ok(Some(Width::Rest));
+    }
+    match sum_of(alloc, names, more)? {
+        Some(Item::Sum(x)) if x.has_sign => Ok(Some(Width::Beyond(x))),
         _ => Ok(None),
     }
 }
 
 /// Returns what the size of a field of VFD says: a number, a name, `*P` or an expression.
 fn width_of(alloc: Global, names: &Names, text: &[u8]) -> Result<Option<Width>, AllocError> {
-    if matches!(text, b"*P") {
-        return Ok(Some(Width::Rest));
+    if let [b'*', b'P', more @ ..] = text {
+        return width_beyond(alloc, names, more);
     }
     if end_of_name(text, 0) == Some(text.len()) {
         return Ok(names.index_of(text).map(Width::Named));
@@ -361,7 +377,13 @@ fn width_of(alloc: Global, names: &Names, text: &[u8]) -> Result<Option<Width>, 
 }
 
 /// Returns a field of VFD: its size, and its expression, which may be left out.
-pub fn field_of(alloc: Global, names: &Names, text: &[u8]) -> Result<Option<Operand>, AllocError> {
+pub fn field_of(
+    alloc: Global,
+    names: &Names,
+    text: &[u8],
+    named: &[Named],
+    column: usize,
+) -> Result<Option<Operand>, AllocError> {
     let Some(end) = find(text, 0, b'/') else {
         return Ok(None);
     };
@@ -369,13 +391,27 @@ pub fn field_of(alloc: Global, names: &Names, text: &[u8]) -> Result<Option<Oper
     let Some(width) = width_of(alloc, names, size)? else {
         return Ok(None);
     };
-    let expression = tail(text, end.saturating_add(1));
-    let item = if expression.is_empty() {
-        Some(Item::Nothing)
-    } else {
-        item_of(alloc, names, expression, false)?
-    };
-    Ok(item.map(|item| Operand::Bits(width, item)))
+    let first = end.saturating_add(1);
+    let expression = tail(text, first);
+    if expression.is_empty() {
+        return Ok(Some(Operand::Bits(width, Item::Nothing)));
+    }
+    let column = column.saturating_add(first);
+    let value = operand_of(alloc, names, expression, false, named, column)?;
+    Ok(match value {
+        Some(Operand::Single(item)) => Some(Operand::Bits(width, item)),
+        Some(Operand::Literal(address, item)) => Some(Operand::LiteralBits(width, address, item)),
+        Some(Operand::External(linkage, index)) => {
+            Some(Operand::ExternalBits(width, linkage, index))
+        }
+        _ => None,
+    })
+}
+
+/// Returns the address of the literal that the operand at a column names.
+fn address_at(named: &[Named], column: usize) -> Option<usize> {
+    let mut all = named.iter();
+    usize::try_from(all.find(|one| one.column == column)?.address).ok()
 }
 
 /// Returns the terms of an operand, if they are known here.

@@ -172,6 +172,9 @@ impl Pass {
                 _ => words.keep(old)?,
             };
             self.vocabulary.synonyms.push(Meaning { name, text })?;
+            if let Some(cut) = &mut self.scope.output.cut {
+                cut.renamed = Some(text);
+            }
         }
         self.scope.plain_row(here, false)
     }

@@ -6,7 +6,7 @@ use pp_source::{
     FIRST_OF_COMMENTS, Field, Here, Message, Operation, Origin, Outcome, Statement, Stop, Wording,
     operation_of, statement_of,
 };
-use pp_statements::{MOST_STATEMENTS, is_known, too_many_statements};
+use pp_statements::{Cut, MOST_STATEMENTS, is_known, too_many_statements};
 
 /// How many blocks and calls are within one another.
 const MOST_NESTED: u32 = 100;
@@ -32,7 +32,7 @@ pub enum Job {
     /// The listing has lines that make nothing.
     Show(Span),
     /// The statement END, of a line, after the lines of RMT.
-    End(usize, Statement),
+    End(usize, Statement, Option<Cut>),
 }
 
 impl Run {
@@ -124,8 +124,9 @@ impl Pass {
     fn perform_job(&mut self, lines: &mut Lines, decks: &Decks, job: Job) -> Outcome {
         match job {
             Job::Show(span) => self.show(lines, span),
-            Job::End(index, statement) => {
+            Job::End(index, statement, cut) => {
                 self.at = index;
+                self.scope.output.cut = cut;
                 self.scope.end(&Here::new(lines, index), statement)
             }
             Job::Run(run) if run.next < run.all.end => {
@@ -232,25 +233,44 @@ impl Pass {
     /// Performs the present line.
     fn perform(&mut self, lines: &mut Lines, decks: &Decks) -> Outcome {
         self.scope.count_statement()?;
+        self.scope.output.cut = None;
         if let Some(name) = name_after_call(lines, decks, self.at) {
             return self.read_deck(lines, decks, name, 0);
         }
         self.replace_micros(lines)?;
-        let Some(statement) = self.present_statement(lines)? else {
+        let Some(fields) = self.present_statement(lines)? else {
             return Ok(());
         };
-        let column = statement.operation.first;
-        let statement = self.renamed(lines, statement)?;
+        let statement = self.renamed(lines, fields)?;
         let name = lines.part_of(self.at, statement.operation);
-        if let Some(called) = self.vocabulary.macro_of(name) {
-            return self.call(lines, statement, called, column);
+        let called = self.vocabulary.macro_of(name);
+        self.scope.output.cut = Some(Cut {
+            fields,
+            name: statement.operation,
+            is_call: called.is_some(),
+            renamed: None,
+        });
+        match called {
+            Some(called) => self.call(lines, statement, called, fields.operation.first),
+            None => self.perform_operation(lines, decks, statement),
         }
+    }
+
+    /// Performs a statement of the present line that calls no macro.
+    fn perform_operation(
+        &mut self,
+        lines: &mut Lines,
+        decks: &Decks,
+        statement: Statement,
+    ) -> Outcome {
+        let name = lines.part_of(self.at, statement.operation);
         match operation_of(name) {
             Operation::Block(opening) => self.block(lines, statement, opening),
             Operation::Lines(directive) => self.elsewhere(lines, decks, statement, directive),
             Operation::End => {
                 let rest = self.all_remote(lines)?;
-                self.jobs.push(Job::End(self.at, statement))?;
+                let cut = self.scope.output.cut;
+                self.jobs.push(Job::End(self.at, statement, cut))?;
                 self.push_run(rest, 1, 0)
             }
             Operation::Micro => self.name_text(&Here::new(lines, self.at), statement),

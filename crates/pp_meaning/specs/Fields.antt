@@ -8,7 +8,8 @@ use Rattle.pp_meaning.specs.declared.expressions.Atom.TheVariants.{Number}
 use Rattle.pp_meaning.specs.declared.expressions.Item.{Item}
 use Rattle.pp_meaning.specs.declared.expressions.Item.TheVariants.{Characters, Nothing, Sum}
 use Rattle.pp_meaning.specs.declared.expressions.Operand.{Operand}
-use Rattle.pp_meaning.specs.declared.expressions.Operand.TheVariants.{Single, External, Literal as Named, Bits, Word}
+use Rattle.pp_meaning.specs.declared.expressions.Operand.TheVariants.{Single, External, Literal as Named, Bits}
+use Rattle.pp_meaning.specs.declared.expressions.Operand.TheVariants.{LiteralBits, ExternalBits, Word}
 use Rattle.pp_meaning.specs.declared.expressions.Place.{Place}
 use Rattle.pp_meaning.specs.declared.expressions.Radix.TheVariants.{Plain}
 use Rattle.pp_meaning.specs.declared.expressions.Sign.{Sign}
@@ -80,4 +81,6 @@ operand_field bits symbols place (Named address item) = field (2 ^ bits - 1) fal
 operand_field bits symbols place (External letter index) =
     then_field (2 ^ bits - 1) false (named_value place index (slice_get symbols index))
 operand_field bits symbols place (Bits width item) = None
+operand_field bits symbols place (LiteralBits width address item) = None
+operand_field bits symbols place (ExternalBits width letter index) = None
 operand_field bits symbols place (Word name) = None

@@ -9,4 +9,5 @@ pub mod Meaning
 pub mod Names
 pub mod Numbers
 pub mod Standing
+pub mod Synonyms
 pub mod Texts

@@ -1,11 +1,11 @@
 -- How statements are written. A line is a label, an operation, operands and a comment, with blanks between two.
 use Rattle.std.specs.Prelude.{◌≡◌, ◌+◌, ◌==◌, ◌&&◌, ◌||◌, not, ℕ, Bool, true, false, length, take, drop, Option, Some, None, List}
-use Rattle.std.specs.Prelude.{[], ◌∷◌, ◌++◌, codes, map, slice_get, if◌then◌else◌}
+use Rattle.std.specs.Prelude.{[], ◌∷◌, ◌++◌, ◌-◌, bytes_eq, codes, map, replicate, slice_get, if◌then◌else◌}
 use Rattle.std.specs.List.{AllByRecursion, flat_map, list_all}
 use Rattle.pp_notation.specs.DisplayCode.{symbol}
 use Rattle.pp_notation.specs.Mnemonics.{mnemonic}
 use Rattle.pp_meaning.specs.Numbers.{decimal_number}
-use Rattle.pp_meaning.specs.Texts.{has_all, text_with}
+use Rattle.pp_meaning.specs.Texts.{has_all, is_without, text_with}
 use Rattle.pp_meaning.specs.declared.expressions.Atom.{Atom}
 use Rattle.pp_meaning.specs.declared.expressions.Atom.TheVariants.{Number, Name, Here, LocationCounter}
 use Rattle.pp_meaning.specs.declared.expressions.Atom.TheVariants.{OriginCounter, Nothing, Symbols, Shifted}
@@ -16,7 +16,8 @@ use Rattle.pp_meaning.specs.declared.expressions.Factor.{Factor}
 use Rattle.pp_meaning.specs.declared.expressions.Item.{Item}
 use Rattle.pp_meaning.specs.declared.expressions.Item.TheVariants.{Characters, Nothing as Null, Sum}
 use Rattle.pp_meaning.specs.declared.expressions.Operand.{Operand}
-use Rattle.pp_meaning.specs.declared.expressions.Operand.TheVariants.{Single, External, Literal as Named, Bits as Field, Word}
+use Rattle.pp_meaning.specs.declared.expressions.Operand.TheVariants.{Single, External, Literal as Named, Bits as Field}
+use Rattle.pp_meaning.specs.declared.expressions.Operand.TheVariants.{LiteralBits, ExternalBits, Word}
 use Rattle.pp_meaning.specs.declared.expressions.Linkage.{Linkage}
 use Rattle.pp_meaning.specs.declared.expressions.Linkage.TheVariants.{S, X, Y}
 use Rattle.pp_meaning.specs.declared.expressions.Radix.{Radix}
@@ -26,18 +27,19 @@ use Rattle.pp_meaning.specs.declared.expressions.Sign.TheVariants.{Plus as Added
 use Rattle.pp_meaning.specs.declared.expressions.Symbol.{Symbol}
 use Rattle.pp_meaning.specs.declared.expressions.Term.{Term}
 use Rattle.pp_meaning.specs.declared.expressions.Width.{Width}
-use Rattle.pp_meaning.specs.declared.expressions.Width.TheVariants.{Digits, Named as Width_name, Rest, Count}
+use Rattle.pp_meaning.specs.declared.expressions.Width.TheVariants.{Digits, Named as Width_name, Rest, Count, Beyond}
 use Rattle.pp_meaning.specs.declared.statements.Label.{Label}
 use Rattle.pp_meaning.specs.declared.statements.Label.TheVariants.{Empty, Plus, Minus, Named}
 use Rattle.pp_meaning.specs.declared.statements.Operation.{Operation}
 use Rattle.pp_meaning.specs.declared.statements.Operation.TheVariants.{Blank, Instruction, Constants, Data, Zeros, Space, Origin}
 use Rattle.pp_meaning.specs.declared.statements.Operation.TheVariants.{Location, Equate, Set, Choose, SetBase, BaseBefore, Deck}
-use Rattle.pp_meaning.specs.declared.statements.Operation.TheVariants.{Display, Bits, Position, Shortest, Pool, Use, End}
+use Rattle.pp_meaning.specs.declared.statements.Operation.TheVariants.{Display, Bits, Position, Shortest, Pool, Use, Synonym, End}
 use Rattle.pp_meaning.specs.declared.statements.Statement.{Statement}
 use Rattle.pp_meaning.specs.declared.statements.SystemText.{SystemText}
 use Rattle.pp_meaning.specs.declared.texts.Cut.{Cut}
 use Rattle.pp_meaning.specs.declared.texts.Cut.TheVariants.{Counted, Marked}
 use Rattle.pp_meaning.specs.declared.texts.Kind.{Kind}
+use Rattle.pp_meaning.specs.declared.texts.Text.{Text}
 use Rattle.pp_meaning.specs.declared.texts.Kind.TheVariants.{A, C, H, L, R, Z}
 
 -- ---- operands
@@ -97,18 +99,29 @@ width_text symbols (Digits digits radix) = digits.items ++ letter radix
 width_text symbols (Width_name index) = symbol_name (slice_get symbols index)
 width_text symbols Rest = codes "*P"
 width_text symbols (Count x) = sum_text symbols x
+width_text symbols (Beyond x) = codes "*P" ++ sum_text symbols x
 
 abbrev pub external_letter : Linkage → List ℕ
 external_letter S = codes "S"
 external_letter X = codes "X"
 external_letter Y = codes "Y"
 
--- A literal is what its words are, after =. =X, =S and =Y are before a name. A field of VFD is its size, / and its expression.
+-- A literal is what its words are, after =. =X, =S and =Y are before a name.
+abbrev pub literal_text : List Symbol → Item → List ℕ
+literal_text symbols item = codes "=" ++ item_text symbols item
+
+abbrev pub external_text : List Symbol → Linkage → ℕ → List ℕ
+external_text symbols letter index = codes "=" ++ external_letter letter ++ symbol_name (slice_get symbols index)
+
+-- A field of VFD is its size, / and its expression.
 abbrev pub operand_text : List Symbol → Operand → List ℕ
 operand_text symbols (Single item) = item_text symbols item
-operand_text symbols (Named address item) = codes "=" ++ item_text symbols item
-operand_text symbols (External letter index) = codes "=" ++ external_letter letter ++ symbol_name (slice_get symbols index)
+operand_text symbols (Named address item) = literal_text symbols item
+operand_text symbols (External letter index) = external_text symbols letter index
 operand_text symbols (Field width item) = width_text symbols width ++ codes "/" ++ item_text symbols item
+operand_text symbols (LiteralBits width address item) = width_text symbols width ++ codes "/" ++ literal_text symbols item
+operand_text symbols (ExternalBits width letter index) =
+    width_text symbols width ++ codes "/" ++ external_text symbols letter index
 operand_text symbols (Word name) = name.items
 
 -- Operands have a comma between two.
@@ -143,6 +156,7 @@ operation_name Position = codes "POS"
 operation_name (Shortest is_sum) = if is_sum then codes "ADK" else codes "LDK"
 operation_name (Pool address) = codes "LIT"
 operation_name Use = codes "USE"
+operation_name (Synonym is_own) = codes "OPSYN"
 operation_name End = codes "END"
 
 -- BASE has the beginning of a base's name, at least its first letter. DIS has a comma before its text.
@@ -162,8 +176,9 @@ label_text symbols (Named index) = symbol_name (slice_get symbols index)
 
 abbrev pub line_text : List Symbol → Statement → List ℕ
 line_text symbols statement =
-    statement.margin.items ++ label_text symbols statement.label ++ statement.gap.items ++ operation_name statement.operation
-    ++ statement.space.items ++ variable symbols statement.operation statement.operands.items ++ statement.comment.items
+    statement.margin.items ++ label_text symbols statement.label ++ statement.synonym.items ++ statement.gap.items
+    ++ statement.name.items ++ statement.space.items ++ variable symbols statement.operation statement.operands.items
+    ++ statement.comment.items
 
 -- A blank or a tab.
 abbrev pub is_blank : ℕ → Bool
@@ -185,7 +200,13 @@ is_wide [] = false
 is_wide (byte ∷ []) = byte == 9
 is_wide _ = true
 
+-- A word of OPSYN is in place of a label.
+abbrev pub is_synonym : Operation → List ℕ → Bool
+is_synonym (Synonym is_own) name = not (length name == 0) && list_all (λ byte. not (is_blank byte)) name
+is_synonym operation name = length name == 0
+
 abbrev pub is_gap : Label → Operation → List ℕ → List ℕ → Bool
+is_gap Empty (Synonym is_own) margin gap = is_margin margin && not (length gap == 0)
 is_gap Empty operation margin gap = length margin == 0 && is_wide gap
 is_gap label Blank margin gap = is_margin margin
 is_gap label operation margin gap = is_margin margin && not (length gap == 0)
@@ -195,21 +216,32 @@ abbrev pub follows_text : Cut → ℕ → List ℕ → Bool
 follows_text (Counted digits) count comment = length comment == 0 || has_all count (decimal_number digits.items)
 follows_text (Marked mark) count comment = begins_blank comment
 
-abbrev pub is_comment : Operation → List Operand → List ℕ → Bool
-is_comment Display (Single (Characters text) ∷ []) comment = follows_text text.cut (length text.codes.items) comment
-is_comment operation operands comment = begins_blank comment
+-- Under another name DIS has an operand without blanks, as others have, and its text may be short before a comment too.
+abbrev pub follows_display : List ℕ → Text → List ℕ → Bool
+follows_display name text comment =
+    follows_text text.cut (length text.codes.items) comment
+    || (not (bytes_eq name (codes "DIS")) && begins_blank comment && is_without 32 text.codes.items)
+
+abbrev pub is_comment : List ℕ → Operation → List Operand → List ℕ → Bool
+is_comment name Display (Single (Characters text) ∷ []) comment = follows_display name text comment
+is_comment name operation operands comment = begins_blank comment
 
 -- Blanks are between two fields, and before a comment.
 abbrev pub is_cut : List Symbol → Statement → Bool
 is_cut symbols statement =
     list_all is_blank statement.gap.items && list_all is_blank statement.space.items
-    && is_comment statement.operation statement.operands.items statement.comment.items
+    && is_comment statement.name.items statement.operation statement.operands.items statement.comment.items
+    && is_synonym statement.operation statement.synonym.items
     && is_gap statement.label statement.operation statement.margin.items statement.gap.items
     && (not (length statement.space.items == 0) || length (variable symbols statement.operation statement.operands.items) == 0)
 
--- The line of a statement has its fields, and nothing else.
+-- A line with the blanks that it has lost at its end, up to a size.
+abbrev pub up_to : ℕ → List ℕ → List ℕ
+up_to size line = line ++ replicate (size - length line) 32
+
+-- The line of a statement has its fields, and nothing else. It may have lost blanks at its end.
 pub record IsWritten (symbols : List Symbol) (statement : Statement) : Type 0 where
-  pub line : statement.line.items ≡ line_text symbols statement
+  pub line : up_to (length (line_text symbols statement)) statement.line.items ≡ line_text symbols statement
   pub cut : is_cut symbols statement ≡ true
 
 -- So have the lines of the statements of a system text.

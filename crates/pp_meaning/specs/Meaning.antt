@@ -13,6 +13,7 @@ use Rattle.pp_meaning.specs.Expressions.{address, address_around, chosen, decima
 use Rattle.pp_meaning.specs.Fields.{item_field, operand_field}
 use Rattle.pp_meaning.specs.Literals.{are_placed, index_of, is_at, words_of_literals}
 use Rattle.pp_meaning.specs.Standing.{Standing, first, place_of}
+use Rattle.pp_meaning.specs.Synonyms.{named, with_synonym}
 use Rattle.pp_meaning.specs.Texts.{display, text_words}
 use Rattle.pp_meaning.specs.declared.expressions.Atom.{Atom}
 use Rattle.pp_meaning.specs.declared.expressions.Atom.TheVariants.{Number}
@@ -21,7 +22,7 @@ use Rattle.pp_meaning.specs.declared.expressions.Item.{Item}
 use Rattle.pp_meaning.specs.declared.expressions.Item.TheVariants.{Characters, Nothing, Sum}
 use Rattle.pp_meaning.specs.declared.expressions.Literal.{Literal}
 use Rattle.pp_meaning.specs.declared.expressions.Operand.{Operand}
-use Rattle.pp_meaning.specs.declared.expressions.Operand.TheVariants.{Single, Literal as Named_literal}
+use Rattle.pp_meaning.specs.declared.expressions.Operand.TheVariants.{Single, Literal as Named_literal, LiteralBits, Word}
 use Rattle.pp_meaning.specs.declared.expressions.Place.{Place}
 use Rattle.pp_meaning.specs.declared.expressions.Symbol.{Symbol}
 use Rattle.pp_meaning.specs.declared.expressions.Term.{Term}
@@ -33,7 +34,7 @@ use Rattle.pp_meaning.specs.declared.statements.Label.TheVariants.{Empty, Minus,
 use Rattle.pp_meaning.specs.declared.statements.Operation.{Operation}
 use Rattle.pp_meaning.specs.declared.statements.Operation.TheVariants.{Blank, Instruction, Constants, Data, Zeros, Space, Origin}
 use Rattle.pp_meaning.specs.declared.statements.Operation.TheVariants.{Location, Equate, Set, Choose, SetBase, BaseBefore, Deck}
-use Rattle.pp_meaning.specs.declared.statements.Operation.TheVariants.{Display, Bits, Position, Shortest, Pool, Use, End}
+use Rattle.pp_meaning.specs.declared.statements.Operation.TheVariants.{Display, Bits, Position, Shortest, Pool, Use, Synonym, End}
 use Rattle.pp_meaning.specs.declared.statements.Statement.{Statement}
 use Rattle.pp_meaning.specs.declared.statements.SystemText.{SystemText}
 
@@ -300,6 +301,7 @@ after symbols s Minus (Pool address) operands = Some s
 after symbols s Empty (SetBase base more) [] = Some (record s { base = Some base; bases = s.bases ++ s.base ∷ [] })
 after symbols s Empty BaseBefore [] = base_before s (slice_get s.bases (length s.bases - 1))
 after symbols s Empty Deck [] = Some (record s { is_deck = true })
+after symbols s Empty (Synonym is_own) (Word old ∷ []) = Some s
 after symbols s Empty End [] = Some s
 after symbols s Empty End (x ∷ []) = ended s (operand_field 12 symbols (place_of s) x)
 after symbols s label operation operands = then_words symbols (labelled symbols s label) operation operands
@@ -320,6 +322,8 @@ abbrev pub with_literal : List Symbol → List Literal → Option Standing → O
 with_literal symbols literals None x = None
 with_literal symbols literals (Some s) (Named_literal address item) =
     naming literals s address (index_of literals (datum symbols (place_of s) item))
+with_literal symbols literals (Some s) (LiteralBits width address item) =
+    naming literals s address (index_of literals (datum symbols (place_of s) item))
 with_literal symbols literals (Some s) x = Some s
 
 -- LIT names the literal that has its words.
@@ -329,9 +333,14 @@ with_pool symbols literals (Some s) (Pool address) operands =
     naming literals s address (index_of literals (data_words symbols (place_of s) operands))
 with_pool symbols literals (Some s) operation operands = Some s
 
+-- An instruction names the literal of its index before that of its address.
+abbrev pub in_order : Operation → List Operand → List Operand
+in_order (Instruction code) (x ∷ y ∷ []) = y ∷ x ∷ []
+in_order operation operands = operands
+
 abbrev pub with_all_literals : List Symbol → List Literal → Option Standing → Operation → List Operand → Option Standing
 with_all_literals symbols literals before operation operands =
-    with_pool symbols literals (fold (with_literal symbols literals) before operands) operation operands
+    with_pool symbols literals (fold (with_literal symbols literals) before (in_order operation operands)) operation operands
 
 -- USE goes on with a block, in which its label is.
 abbrev pub after_any : List Symbol → List Block → Standing → Label → Operation → List Operand → Option Standing
@@ -349,8 +358,9 @@ reached (Some s) = Some (record s { reach = if nat_lt s.reach s.origin then s.or
 
 abbrev pub follow : List Symbol → List Literal → List Block → Option Standing → Statement → Option Standing
 follow symbols literals blocks before statement =
-    reached (then_after symbols blocks (with_all_literals symbols literals before statement.operation statement.operands.items)
-    statement)
+    reached (with_synonym (then_after symbols blocks
+    (with_all_literals symbols literals (named before statement) statement.operation statement.operands.items) statement)
+    statement.synonym.items statement.operation statement.operands.items)
 
 -- The literals are behind the highest cell of the nominal block.
 abbrev pub with_literals : List Literal → Option Standing → Option Standing
@@ -368,23 +378,25 @@ with_blocks literals blocks (Some s) =
     if s.named == length blocks && lie_behind (s.reach + length (words_of_literals literals)) blocks (drop 1 s.blocks) then Some s
     else None
 
--- A system text leaves its symbols, and nothing else. It has no literals and no blocks.
-abbrev pub symbols_of : Option Standing → Option ℕ
-symbols_of None = None
-symbols_of (Some s) = Some s.defined
+-- A system text leaves its symbols and its names of OPSYN, and nothing else. It has no literals and no blocks.
+abbrev pub left_by : Option Standing → Option (ℕ × List (List ℕ × List ℕ))
+left_by None = None
+left_by (Some s) = Some (s.defined, s.synonyms)
 
-abbrev pub with_system : List Symbol → Option ℕ → SystemText → Option ℕ
+abbrev pub with_system : List Symbol → Option (ℕ × List (List ℕ × List ℕ)) → SystemText → Option (ℕ × List (List ℕ × List ℕ))
 with_system symbols None text = None
-with_system symbols (Some defined) text = symbols_of (fold (follow symbols [] []) (Some (first [] defined)) text.statements.items)
+with_system symbols (Some known) text =
+    left_by (fold (follow symbols [] []) (Some (first [] known.0 known.1)) text.statements.items)
 
--- How many symbols system texts define.
-abbrev pub begun : List Symbol → List SystemText → Option ℕ
-begun symbols systems = fold (with_system symbols) (Some 0) systems
+-- How many symbols system texts define, and which names they give to operations.
+abbrev pub begun : List Symbol → List SystemText → Option (ℕ × List (List ℕ × List ℕ))
+begun symbols systems = fold (with_system symbols) (Some (0, [])) systems
 
-abbrev pub performed : List Symbol → List Literal → List Block → List Statement → Option ℕ → Option Standing
+abbrev pub performed :
+    List Symbol → List Literal → List Block → List Statement → Option (ℕ × List (List ℕ × List ℕ)) → Option Standing
 performed symbols literals blocks statements None = None
-performed symbols literals blocks statements (Some defined) =
-    fold (follow symbols literals blocks) (Some (first blocks defined)) statements
+performed symbols literals blocks statements (Some known) =
+    fold (follow symbols literals blocks) (Some (first blocks known.0 known.1)) statements
 
 abbrev pub assembled : List Symbol → List Literal → List Block → List SystemText → List Statement → Option Standing
 assembled symbols literals blocks systems statements =

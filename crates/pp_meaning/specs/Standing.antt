@@ -6,6 +6,7 @@ use Rattle.pp_meaning.specs.declared.expressions.Place.{Place}
 use Rattle.pp_meaning.specs.declared.statements.Block.{Block}
 use Rattle.pp_meaning.specs.declared.statements.Counters.{Counters}
 use Rattle.pp_meaning.specs.declared.statements.State.{State}
+use Rattle.pp_meaning.specs.declared.statements.Synonym.{Synonym}
 
 -- Numbers of a deck are decimal before BASE.
 abbrev pub deck_base : Option Base → Base
@@ -15,7 +16,8 @@ deck_base (Some base) = base
 -- What there is so far: the counters, whether PERIPH says that the source is a deck, the base of numbers, those that BASE * goes
 -- back to, how many symbols are defined, how many literals are named, the cell after the highest one, the memory, the words in the
 -- order of their statements, how many bits of the last word are used, if VFD has not filled it, or 0, and where a processor begins.
--- Of the blocks of USE there are the present one, those that USE * goes back to, how many have been named, and their counters.
+-- Of the blocks of USE there are the present one, those that USE * goes back to, how many have been named, and their counters. The
+-- synonyms are names of OPSYN, each with the name of its operation.
 pub record Standing : Type 0 where
   pub location : ℕ
   pub origin : ℕ
@@ -33,6 +35,7 @@ pub record Standing : Type 0 where
   pub before : List ℕ
   pub named : ℕ
   pub blocks : List Counters
+  pub synonyms : List (List ℕ × List ℕ)
 
 abbrev pub place_of : Standing → Place
 place_of s = record {
@@ -49,9 +52,9 @@ from_cell cell = record { location = cell; origin = cell; reach = cell }
 abbrev pub first_counters : List Block → List Counters
 first_counters blocks = from_cell 0 ∷ map (λ block. from_cell block.base) blocks
 
--- Before the first statement the memory is empty. So many symbols are defined.
-abbrev pub first : List Block → ℕ → Standing
-first blocks defined = record {
+-- Before the first statement the memory is empty. System texts have defined so many symbols, and given names to operations.
+abbrev pub first : List Block → ℕ → List (List ℕ × List ℕ) → Standing
+first blocks defined synonyms = record {
   location = 0;
   origin = 0;
   is_deck = false;
@@ -68,7 +71,11 @@ first blocks defined = record {
   before = [];
   named = 0;
   blocks = first_counters blocks;
+  synonyms = synonyms;
 }
+
+abbrev pub synonym_pair : Synonym → List ℕ × List ℕ
+synonym_pair synonym = (synonym.name.items, synonym.operation.items)
 
 abbrev pub standing : State → Standing
 standing s = record {
@@ -88,4 +95,5 @@ standing s = record {
   before = s.before.items;
   named = s.named;
   blocks = s.blocks.items;
+  synonyms = map synonym_pair s.synonyms.items;
 }

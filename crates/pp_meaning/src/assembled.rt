@@ -1,12 +1,12 @@
 //! What the statements of a source make, behind those of its system texts.
-ghost use Rattle.std.specs.Prelude.{◌≡◌, IfOk, IfSome, None, OnOk, Some, fold, replicate};
+ghost use Rattle.std.specs.Prelude.{◌≡◌, IfOk, IfSome, None, OnOk, Some, fold, map, replicate};
 ghost use Rattle.pp_meaning.specs.Meaning.{IsAssembled, assembled, begun, follow, performed};
 ghost use Rattle.pp_meaning.specs.Meaning.{with_blocks, with_literals, with_system};
 ghost use Rattle.pp_meaning.specs.Blocks.{closed};
-ghost use Rattle.pp_meaning.specs.Standing.{first, first_counters, from_cell, standing};
+ghost use Rattle.pp_meaning.specs.Standing.{first, first_counters, from_cell, standing, synonym_pair};
 
 use crate::expressions::{Literal, Symbol};
-use crate::statements::{Block, CELLS, Counters, Refusal, State, Statement, SystemText};
+use crate::statements::{Block, CELLS, Counters, Refusal, State, Statement, Synonym, SystemText};
 use std::alloc::{AllocError, Global};
 
 /// What statements make: a word or none for each cell, the words in the order of their statements, and where a processor begins.
@@ -51,9 +51,16 @@ fn counters_from(cell: usize) -> Counters
     }
 }
 
-/// Returns what there is before the first statement, if so many symbols are defined.
-fn state_with(alloc: Global, blocks: &[Block], defined: usize) -> Result<State, AllocError>
-    ensures { IfOk result (λ state. first blocks.now defined ≡ standing state) }
+/// What system texts leave: how many symbols they define, and the names that they give to operations.
+#[derive(Drop)]
+struct Known {
+    defined: usize,
+    synonyms: Vec<Synonym>,
+}
+
+/// Returns what there is before the first statement.
+fn state_with(alloc: Global, blocks: &[Block], known: Known) -> Result<State, AllocError>
+    ensures { IfOk result (λ state. first blocks.now known.defined (map synonym_pair known.synonyms.items) ≡ standing state) }
 {
     let memory = empty_memory(alloc)?;
     let counters = counters_of(alloc, blocks)?;
@@ -63,7 +70,7 @@ fn state_with(alloc: Global, blocks: &[Block], defined: usize) -> Result<State, 
         is_deck: false,
         base: None,
         bases: Vec::new(alloc),
-        defined,
+        defined: known.defined,
         literals: 0,
         reach: 0,
         memory,
@@ -74,6 +81,7 @@ fn state_with(alloc: Global, blocks: &[Block], defined: usize) -> Result<State, 
         before: Vec::new(alloc),
         named: 0,
         blocks: counters,
+        synonyms: known.synonyms,
     })
 }
 
@@ -102,35 +110,42 @@ fn follow_all(
     Ok(())
 }
 
-/// Returns how many symbols are defined after a system text.
+/// Returns what there is after a system text.
 fn after_system(
     alloc: Global,
     symbols: &[Symbol],
-    defined: usize,
+    before: Known,
     text: &SystemText,
-) -> Result<usize, Refusal>
-    ensures { IfOk result (λ after. with_system symbols.now (Some defined) text.now ≡ Some after) }
+) -> Result<Known, Refusal>
+    ensures { IfOk result (λ after. with_system symbols.now (Some (before.defined, map synonym_pair before.synonyms.items)) text.now
+        ≡ Some (after.defined, map synonym_pair after.synonyms.items)) }
 {
-    let mut state = state_with(alloc, &[], defined)?;
+    let mut state = state_with(alloc, &[], before)?;
     match follow_all(alloc, &mut state, symbols, &[], &[], &text.statements) {
-        Ok(()) => Ok(state.defined),
+        Ok(()) => Ok(Known {
+            defined: state.defined,
+            synonyms: state.synonyms,
+        }),
         Err(refusal) => Err(refusal.of_system()),
     }
 }
 
-/// Returns how many symbols system texts define.
+/// Returns what system texts leave.
 fn after_systems(
     alloc: Global,
     symbols: &[Symbol],
     systems: &[SystemText],
-) -> Result<usize, Refusal>
-    ensures { IfOk result (λ defined. begun symbols.now systems.now ≡ Some defined) }
+) -> Result<Known, Refusal>
+    ensures { IfOk result (λ known. begun symbols.now systems.now ≡ Some (known.defined, map synonym_pair known.synonyms.items)) }
 {
-    let mut defined: usize = 0;
+    let mut known = Known {
+        defined: 0,
+        synonyms: Vec::new(alloc),
+    };
     for text in systems {
-        defined = after_system(alloc, symbols, defined, text)?;
+        known = after_system(alloc, symbols, known, text)?;
     }
-    Ok(defined)
+    Ok(known)
 }
 
 /// Returns what there is after statements.
@@ -139,13 +154,13 @@ fn perform_all(
     symbols: &[Symbol],
     literals: &[Literal],
     blocks: &[Block],
-    defined: usize,
+    known: Known,
     statements: &[Statement],
 ) -> Result<State, Refusal>
-    ensures { IfOk result (λ state. performed symbols.now literals.now blocks.now statements.now (Some defined) ≡ Some
-        (standing state)) }
+    ensures { IfOk result (λ state. performed symbols.now literals.now blocks.now statements.now
+        (Some (known.defined, map synonym_pair known.synonyms.items)) ≡ Some (standing state)) }
 {
-    let mut state = state_with(alloc, blocks, defined)?;
+    let mut state = state_with(alloc, blocks, known)?;
     follow_all(alloc, &mut state, symbols, literals, blocks, statements)?;
     Ok(state)
 }
@@ -178,8 +193,8 @@ fn assemble_all(
     ensures { IfOk result (λ state. assembled symbols.now literals.now blocks.now systems.now statements.now ≡ Some
         (standing state)) }
 {
-    let defined = after_systems(alloc, symbols, systems)?;
-    let mut state = perform_all(alloc, symbols, literals, blocks, defined, statements)?;
+    let known = after_systems(alloc, symbols, systems)?;
+    let mut state = perform_all(alloc, symbols, literals, blocks, known, statements)?;
     match end(alloc, &mut state, literals, blocks)? {
         Some(()) => Ok(state),
         None => Err(Refusal::At(statements.len())),

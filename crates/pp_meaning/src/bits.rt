@@ -1,14 +1,15 @@
 //! The fields of VFD: numbers of so many bits.
 ghost use Rattle.std.specs.Prelude.{◌≡◌, ◌++◌, ◌*◌, ◌+◌, ◌/◌, ◌≤◌, IfOk, IfSome, Some, drop, fold, length, take};
-ghost use Rattle.pp_meaning.specs.Bits.{bits_left, bits_of, field_number, field_size, number_from_bits, whole, width_value};
-ghost use Rattle.pp_meaning.specs.Bits.{with_bits, words_from, words_of_bits, zeros_before};
+ghost use Rattle.pp_meaning.specs.Bits.{bits_left, bits_of, field_number, field_size, left_and, number_from_bits, size_value};
+ghost use Rattle.pp_meaning.specs.Bits.{whole, width_value, with_bits, words_from, words_of_bits, zeros_before};
 ghost use Rattle.pp_meaning.specs.Meaning.{bits_used};
 
 use crate::expressions::{
-    Base, Item, Operand, Place, Symbol, Width, counter, decimal_sum_above, name_value,
+    Base, Expression, Item, Operand, Place, Sign, Symbol, Width, counter, decimal_sum_above,
+    name_value,
 };
-use crate::fields::field_of_item;
-use crate::numbers::{power_of_two, value_of};
+use crate::fields::{field_of, field_of_item, greatest};
+use crate::numbers::{power_of_two, sum_of, value_of};
 use std::alloc::{AllocError, Global};
 
 /// How many bits a word has.
@@ -24,7 +25,18 @@ pub fn left_after(count: usize) -> usize
     WORD - count % WORD
 }
 
-/// Returns what the size of a field says that is behind so many bits.
+/// Returns what `*P` and more is in a word that has so many bits left.
+fn value_beyond(symbols: &[Symbol], place: Place, left: usize, x: &Expression) -> Option<i64>
+    ensures { IfSome result (λ number. left_and symbols.now place left x.now ≡ Some number) }
+{
+    if !x.has_sign {
+        return None;
+    }
+    let more = decimal_sum_above(symbols, place, x)?;
+    sum_of(counter(left)?, more, Sign::Plus)
+}
+
+/// Returns what a size says that is behind so many bits.
 fn value_of_width(symbols: &[Symbol], place: Place, count: usize, width: &Width) -> Option<i64>
     ensures { IfSome result (λ number. width_value symbols.now place count width.now ≡ Some number) }
 {
@@ -38,6 +50,7 @@ fn value_of_width(symbols: &[Symbol], place: Place, count: usize, width: &Width)
         }
         Width::Rest => counter(left_after(count)),
         Width::Count(x) => decimal_sum_above(symbols, place, x),
+        Width::Beyond(x) => value_beyond(symbols, place, left_after(count), x),
     }
 }
 
@@ -51,20 +64,38 @@ fn size_of(number: i64) -> Option<u32>
     Some(number as u32)
 }
 
-/// Returns how many bits the field has that is behind so many.
-fn size_behind(symbols: &[Symbol], place: Place, count: usize, width: &Width) -> Option<u32>
-    ensures { IfSome result (λ size. field_size (width_value symbols.now place count width.now) ≡ Some size) }
+/// Returns what the size of a field says that is behind so many bits.
+fn value_of_size(symbols: &[Symbol], place: Place, count: usize, operand: &Operand) -> Option<i64>
+    ensures { IfSome result (λ number. size_value symbols.now place count operand.now ≡ Some number) }
 {
-    size_of(value_of_width(symbols, place, count, width)?)
+    match operand {
+        Operand::Bits(width, _) => value_of_width(symbols, place, count, width),
+        Operand::LiteralBits(width, ..) => value_of_width(symbols, place, count, width),
+        Operand::ExternalBits(width, ..) => value_of_width(symbols, place, count, width),
+        _ => None,
+    }
+}
+
+/// Returns how many bits the field has that is behind so many.
+fn size_behind(symbols: &[Symbol], place: Place, count: usize, operand: &Operand) -> Option<u32>
+    ensures { IfSome result (λ size. field_size (size_value symbols.now place count operand.now) ≡ Some size) }
+{
+    size_of(value_of_size(symbols, place, count, operand)?)
 }
 
 /// Returns the number of a field.
-fn number_of(size: u32, symbols: &[Symbol], place: Place, item: &Item) -> Option<u64>
-    ensures { IfSome result (λ number. field_number size symbols.now place item.now ≡ Some number) }
+fn number_of(size: u32, symbols: &[Symbol], place: Place, operand: &Operand) -> Option<u64>
+    ensures { IfSome result (λ number. field_number size symbols.now place operand.now ≡ Some number) }
 {
-    match item {
-        Item::Nothing => Some(0),
-        _ => field_of_item(size, symbols, place, item),
+    match operand {
+        Operand::Bits(_, Item::Nothing) => Some(0),
+        Operand::Bits(_, item) => field_of_item(size, symbols, place, item),
+        Operand::LiteralBits(_, address, _) => field_of(greatest(size)?, false, counter(*address)?),
+        Operand::ExternalBits(_, _, index) => {
+            let number = name_value(symbols, place, *index)?;
+            field_of(greatest(size)?, false, number)
+        }
+        _ => None,
     }
 }
 
@@ -97,13 +128,10 @@ fn add_field(
     ensures { IfOk result (λ made. IfSome made (λ done. with_bits symbols.now place (Some bits.old.items) operand.now ≡ Some
         bits.new.items)) }
 {
-    let Operand::Bits(width, item) = operand else {
+    let Some(size) = size_behind(symbols, place, bits.len(), operand) else {
         return Ok(None);
     };
-    let Some(size) = size_behind(symbols, place, bits.len(), width) else {
-        return Ok(None);
-    };
-    let Some(number) = number_of(size, symbols, place, item) else {
+    let Some(number) = number_of(size, symbols, place, operand) else {
         return Ok(None);
     };
     let Some(field) = bits_in(alloc, size, number)? else {

@@ -112,6 +112,8 @@ pub enum Width {
     Rest,
     /// An expression, whose numbers are decimal.
     Count(Expression),
+    /// `*P`, and behind it what is added, with its sign. Its numbers are decimal.
+    Beyond(Expression),
 }
 
 /// The letter before the name of a symbol that may be one of another program.
@@ -132,6 +134,10 @@ pub enum Operand {
     External(Linkage, usize),
     /// A field of VFD.
     Bits(Width, Item),
+    /// A field of VFD with a literal at an address, and what its words are.
+    LiteralBits(Width, usize, Item),
+    /// A field of VFD with the name of the symbol at an index.
+    ExternalBits(Width, Linkage, usize),
     /// What USE has: the name of a block, 0 or `*`.
     Word(Vec<u8>),
 }

@@ -15,14 +15,14 @@ use crate::texts::{Cut, Kind, Text, has_end, number_of_filled};
 const CODE_BITS: u32 = 6;
 
 /// Returns the greatest number of so many bits.
-fn greatest(bits: u32) -> Option<u64>
+pub fn greatest(bits: u32) -> Option<u64>
     ensures { IfSome result (λ most. most ≡ 2 ^ bits - 1) }
 {
     power_of_two(bits)?.checked_sub(1)
 }
 
 /// Returns a number as one up to a greatest one, which is all ones: minus is the complement.
-fn field_of(most: u64, is_ones: bool, number: i64) -> Option<u64>
+pub fn field_of(most: u64, is_ones: bool, number: i64) -> Option<u64>
     ensures { IfSome result (λ d. field most is_ones number ≡ Some d) }
 {
     let size = number.unsigned_abs();
@@ -135,7 +135,8 @@ fn wide_field_in(bits: u32, symbols: &[Symbol], place: Place, operand: &Operand)
             let number = name_value(symbols, place, *index)?;
             field_of(greatest(bits)?, false, number)
         }
-        Operand::Bits(..) | Operand::Word(_) => None,
+        Operand::Bits(..) | Operand::LiteralBits(..) | Operand::ExternalBits(..) => None,
+        Operand::Word(_) => None,
     }
 }
 

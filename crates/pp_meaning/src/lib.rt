@@ -19,6 +19,7 @@ mod performing;
 mod program;
 mod state;
 mod statements;
+mod synonyms;
 mod texts;
 mod words;
 
@@ -29,5 +30,7 @@ pub use expressions::{
     Term, Width,
 };
 pub use program::program_of;
-pub use statements::{Block, Counters, Label, Operation, Refusal, State, Statement, SystemText};
+pub use statements::{
+    Block, Counters, Label, Operation, Refusal, State, Statement, Synonym, SystemText,
+};
 pub use texts::{Cut, Kind, Text};

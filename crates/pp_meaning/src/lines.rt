@@ -3,8 +3,9 @@ ghost use Rattle.std.specs.Prelude.{◌≡◌, ◌∷◌, ◌++◌, [], codes, d
 ghost use Rattle.std.specs.Prelude.{length, map, take, ◌+◌, true};
 ghost use Rattle.std.specs.List.{AllByRecursion, flat_map, list_all};
 ghost use Rattle.pp_meaning.specs.declared.statements.Operation.TheVariants.{Instruction};
-ghost use Rattle.pp_meaning.specs.Lines.{AreWritten, IsWritten, atom_text, base_name, begins_blank, external_letter, factor_text};
-ghost use Rattle.pp_meaning.specs.Lines.{follows_text, is_blank, is_comment, is_cut, is_gap, is_margin, is_wide, item_text};
+ghost use Rattle.pp_meaning.specs.Lines.{AreWritten, IsWritten, atom_text, base_name, begins_blank, external_letter};
+ghost use Rattle.pp_meaning.specs.Lines.{external_text, factor_text, follows_display, item_text, literal_text, up_to};
+ghost use Rattle.pp_meaning.specs.Lines.{follows_text, is_blank, is_comment, is_cut, is_gap, is_margin, is_synonym, is_wide};
 ghost use Rattle.pp_meaning.specs.Lines.{kind_letter, label_text, letter, line_text, operand_text, operands_text, operation_name};
 ghost use Rattle.pp_meaning.specs.Lines.{sign_text, sum_text, symbol_name, term_text, variable, width_text};
 ghost use Rattle.pp_notation.specs.DisplayCode.{symbol};
@@ -16,7 +17,7 @@ use crate::expressions::{
 };
 use crate::numbers::decimal_value;
 use crate::statements::{Label, Operation, Refusal, Statement, SystemText};
-use crate::texts::{Cut, Kind, Text, put_codes, put_text};
+use crate::texts::{Cut, Kind, Text, has_no_mark, put_codes, put_text};
 use pp_notation::name_of;
 use std::alloc::{AllocError, Global};
 
@@ -196,6 +197,10 @@ fn put_width(
         Width::Named(index) => out.extend_from_slice(name_at(symbols, *index)),
         Width::Rest => out.extend_from_slice(b"*P"),
         Width::Count(x) => put_sum(alloc, out, symbols, x),
+        Width::Beyond(x) => {
+            out.extend_from_slice(b"*P")?;
+            put_sum(alloc, out, symbols, x)
+        }
     }
 }
 
@@ -210,6 +215,33 @@ fn letter_of_name(linkage: Linkage) -> &'static [u8]
     }
 }
 
+/// Writes a literal.
+fn put_literal(
+    alloc: Global,
+    out: &mut Vec<u8>,
+    symbols: &[Symbol],
+    item: &Item,
+) -> Result<(), AllocError>
+    ensures { OnOk result (out.new.items ≡ out.old.items ++ literal_text symbols.now item.now) }
+{
+    out.push(b'=')?;
+    put_item(alloc, out, symbols, item)
+}
+
+/// Writes the name of a symbol that may be one of another program.
+fn put_external(
+    out: &mut Vec<u8>,
+    symbols: &[Symbol],
+    linkage: Linkage,
+    index: usize,
+) -> Result<(), AllocError>
+    ensures { OnOk result (out.new.items ≡ out.old.items ++ external_text symbols.now linkage index) }
+{
+    out.push(b'=')?;
+    out.extend_from_slice(letter_of_name(linkage))?;
+    out.extend_from_slice(name_at(symbols, index))
+}
+
 /// Writes an operand.
 fn put_operand(
     alloc: Global,
@@ -221,19 +253,22 @@ fn put_operand(
 {
     match operand {
         Operand::Single(item) => put_item(alloc, out, symbols, item),
-        Operand::Literal(_, item) => {
-            out.push(b'=')?;
-            put_item(alloc, out, symbols, item)
-        }
-        Operand::External(linkage, index) => {
-            out.push(b'=')?;
-            out.extend_from_slice(letter_of_name(*linkage))?;
-            out.extend_from_slice(name_at(symbols, *index))
-        }
+        Operand::Literal(_, item) => put_literal(alloc, out, symbols, item),
+        Operand::External(linkage, index) => put_external(out, symbols, *linkage, *index),
         Operand::Bits(width, item) => {
             put_width(alloc, out, symbols, width)?;
             out.push(b'/')?;
             put_item(alloc, out, symbols, item)
+        }
+        Operand::LiteralBits(width, _, item) => {
+            put_width(alloc, out, symbols, width)?;
+            out.push(b'/')?;
+            put_literal(alloc, out, symbols, item)
+        }
+        Operand::ExternalBits(width, linkage, index) => {
+            put_width(alloc, out, symbols, width)?;
+            out.push(b'/')?;
+            put_external(out, symbols, *linkage, *index)
         }
         Operand::Word(name) => out.extend_from_slice(name),
     }
@@ -327,7 +362,7 @@ fn name_of_instruction(code: u8) -> Option<&'static [u8]>
 }
 
 /// Returns the name of an operation.
-fn name_of_operation(operation: Operation) -> Option<&'static [u8]>
+pub fn name_of_operation(operation: Operation) -> Option<&'static [u8]>
     ensures { IfSome result (λ name. name.now ≡ operation_name operation) }
 {
     match operation {
@@ -353,6 +388,7 @@ fn name_of_operation(operation: Operation) -> Option<&'static [u8]>
         Operation::Shortest(false) => Some(b"LDK"),
         Operation::Pool(_) => Some(b"LIT"),
         Operation::Use => Some(b"USE"),
+        Operation::Synonym(_) => Some(b"OPSYN"),
         Operation::End => Some(b"END"),
     }
 }
@@ -374,17 +410,18 @@ fn text_of_line(
     alloc: Global,
     symbols: &[Symbol],
     statement: &Statement,
-    name: &[u8],
     variable: &[u8],
 ) -> Result<Vec<u8>, AllocError>
     ensures { IfOk result (λ line. line.items ≡ statement.now.margin.items ++ label_text symbols.now statement.now.label
-        ++ statement.now.gap.items ++ name.now ++ statement.now.space.items ++ variable.now ++ statement.now.comment.items) }
+        ++ statement.now.synonym.items ++ statement.now.gap.items ++ statement.now.name.items ++ statement.now.space.items
+        ++ variable.now ++ statement.now.comment.items) }
 {
     let mut line = Vec::new(alloc);
     line.extend_from_slice(&statement.margin)?;
     line.extend_from_slice(text_of_label(symbols, statement.label))?;
+    line.extend_from_slice(&statement.synonym)?;
     line.extend_from_slice(&statement.gap)?;
-    line.extend_from_slice(name)?;
+    line.extend_from_slice(&statement.name)?;
     line.extend_from_slice(&statement.space)?;
     line.extend_from_slice(variable)?;
     line.extend_from_slice(&statement.comment)?;
@@ -426,11 +463,29 @@ fn is_wide_gap(text: &[u8]) -> bool
     }
 }
 
+/// Returns whether a text has no blank.
+fn has_no_blank(text: &[u8]) -> bool
+    ensures { result ≡ list_all (λ byte. not (is_blank byte)) text.now }
+{
+    text.iter().all(|byte| *byte != b' ' && *byte != b'\t')
+}
+
+/// Returns whether what is in place of a label is a word of OPSYN, or nothing.
+fn has_synonym(operation: Operation, name: &[u8]) -> bool
+    ensures { result ≡ is_synonym operation name.now }
+{
+    match operation {
+        Operation::Synonym(_) => !name.is_empty() && has_no_blank(name),
+        _ => name.is_empty(),
+    }
+}
+
 /// Returns whether the blanks round a label are right.
 fn has_gap(label: Label, operation: Operation, margin: &[u8], gap: &[u8]) -> bool
     ensures { result ≡ is_gap label operation margin.now gap.now }
 {
     match (label, operation) {
+        (Label::Empty, Operation::Synonym(_)) => is_narrow_margin(margin) && !gap.is_empty(),
         (Label::Empty, _) => margin.is_empty() && is_wide_gap(gap),
         (_, Operation::Blank) => is_narrow_margin(margin),
         _ => is_narrow_margin(margin) && !gap.is_empty(),
@@ -457,15 +512,21 @@ fn may_follow(cut: &Cut, count: usize, comment: &[u8]) -> bool
     }
 }
 
+/// Returns whether a comment may follow a text of DIS, or of another name of it.
+fn may_follow_display(name: &[u8], text: &Text, comment: &[u8]) -> bool
+    ensures { IsTrue result → follows_display name.now text.now comment.now ≡ true }
+{
+    may_follow(&text.cut, text.codes.len(), comment)
+        || name != b"DIS".as_slice() && begins_with_blank(comment) && has_no_mark(&text.codes, b' ')
+}
+
 /// Returns whether what follows the operands is a comment.
-fn has_comment(operation: Operation, operands: &[Operand], comment: &[u8]) -> bool
-    ensures { IsTrue result → is_comment operation operands.now comment.now ≡ true }
+fn has_comment(name: &[u8], operation: Operation, operands: &[Operand], comment: &[u8]) -> bool
+    ensures { IsTrue result → is_comment name.now operation operands.now comment.now ≡ true }
 {
     match (operation, operands) {
-        (Operation::Display, [Operand::Single(Item::Characters(text))]) => may_follow(
-            &text.cut,
-            text.codes.len(),
-            comment,
+        (Operation::Display, [Operand::Single(Item::Characters(text))]) => may_follow_display(
+            name, text, comment,
         ),
         _ => begins_with_blank(comment),
     }
@@ -474,13 +535,21 @@ fn has_comment(operation: Operation, operands: &[Operand], comment: &[u8]) -> bo
 /// Returns whether blanks are where a line needs them.
 fn is_cut_so(statement: &Statement, variable: &[u8]) -> bool
     ensures { IsTrue result → (list_all is_blank statement.now.gap.items && list_all is_blank
-        statement.now.space.items && is_comment statement.now.operation statement.now.operands.items statement.now.comment.items &&
+        statement.now.space.items && is_comment statement.now.name.items statement.now.operation statement.now.operands.items
+        statement.now.comment.items &&
+        is_synonym statement.now.operation statement.now.synonym.items &&
         is_gap statement.now.label statement.now.operation statement.now.margin.items statement.now.gap.items &&
         (not (length statement.now.space.items == 0) || length variable.now == 0)) ≡ true }
 {
     are_blanks(&statement.gap)
         && are_blanks(&statement.space)
-        && has_comment(statement.operation, &statement.operands, &statement.comment)
+        && has_comment(
+            &statement.name,
+            statement.operation,
+            &statement.operands,
+            &statement.comment,
+        )
+        && has_synonym(statement.operation, &statement.synonym)
         && has_gap(
             statement.label,
             statement.operation,
@@ -490,16 +559,24 @@ fn is_cut_so(statement: &Statement, variable: &[u8]) -> bool
         && (!statement.space.is_empty() || variable.is_empty())
 }
 
+/// Returns a line with the blanks that it has lost at its end, up to a size.
+fn with_lost_blanks(alloc: Global, line: &[u8], size: usize) -> Result<Vec<u8>, AllocError>
+    ensures { IfOk result (λ whole. whole.items ≡ up_to size line.now) }
+{
+    let mut whole = Vec::from_slice(alloc, line)?;
+    let lost = size.saturating_sub(line.len());
+    whole.extend_from_slice(&vec![in alloc; b' '; lost]?)?;
+    Ok(whole)
+}
+
 /// Returns whether a statement is written so.
 fn is_written(alloc: Global, symbols: &[Symbol], statement: &Statement) -> Result<bool, AllocError>
     ensures { IfOk result (λ yes. IsTrue yes → IsWritten symbols.now statement.now) }
 {
-    let Some(name) = name_of_operation(statement.operation) else {
-        return Ok(false);
-    };
     let variable = variable_of(alloc, symbols, statement.operation, &statement.operands)?;
-    let line = text_of_line(alloc, symbols, statement, name, &variable)?;
-    if statement.line.as_slice() != line.as_slice() {
+    let line = text_of_line(alloc, symbols, statement, &variable)?;
+    let whole = with_lost_blanks(alloc, &statement.line, line.len())?;
+    if whole.as_slice() != line.as_slice() {
         return Ok(false);
     }
     Ok(is_cut_so(statement, &variable))

@@ -70,6 +70,7 @@ impl State {
                 self.set_deck();
                 Ok(Some(()))
             }
+            (Label::Empty, Operation::Synonym(_), [Operand::Word(_)]) => Ok(Some(())),
             (Label::Empty, Operation::End, []) => Ok(Some(())),
             (Label::Empty, Operation::End, [x]) => Ok(self.end(symbols, x)),
             (
@@ -144,6 +145,9 @@ impl State {
         ensures { IfOk result (λ made. IfSome made (λ done. follow symbols.now literals.now blocks.now (Some (standing self.old))
             statement.now ≡ Some (standing self.new))) }
     {
+        if self.is_named(statement).is_none() {
+            return Ok(None);
+        }
         let operands = &statement.operands;
         let Statement {
             label,
@@ -162,6 +166,7 @@ impl State {
         {
             return Ok(None);
         }
+        self.keep_synonym(alloc, &statement.synonym, *operation, operands)?;
         self.reach_on();
         Ok(Some(()))
     }

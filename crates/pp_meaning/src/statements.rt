@@ -96,6 +96,8 @@ pub enum Operation {
     Pool(usize),
     /// USE.
     Use,
+    /// OPSYN of an operation by its own name, or by a synonym.
+    Synonym(bool),
     /// END.
     End,
 }
@@ -108,8 +110,12 @@ pub struct Statement {
     /// The blanks before the label.
     pub margin: Vec<u8>,
     pub label: Label,
+    /// The name that OPSYN gives to an operation, which is in place of a label.
+    pub synonym: Vec<u8>,
     /// The blanks before the operation.
     pub gap: Vec<u8>,
+    /// The name of the operation, or a synonym.
+    pub name: Vec<u8>,
     pub operation: Operation,
     /// The blanks before the operands.
     pub space: Vec<u8>,
@@ -129,6 +135,13 @@ pub struct SystemText {
 pub struct Block {
     pub name: Vec<u8>,
     pub base: usize,
+}
+
+/// A name of OPSYN, and the name of its operation.
+#[derive(Drop)]
+pub struct Synonym {
+    pub name: Vec<u8>,
+    pub operation: Vec<u8>,
 }
 
 /// Where a block goes on, and the cell after its highest one.
@@ -165,4 +178,5 @@ pub struct State {
     pub named: usize,
     /// The counters of the blocks as USE has left them.
     pub blocks: Vec<Counters>,
+    pub synonyms: Vec<Synonym>,
 }

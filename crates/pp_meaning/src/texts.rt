@@ -106,7 +106,7 @@ pub fn put_text(out: &mut Vec<u8>, letter: &[u8], text: &Text) -> Result<(), All
 }
 
 /// Returns whether no symbol of a text is a mark.
-fn has_no_mark(codes: &[u8], mark: u8) -> bool
+pub fn has_no_mark(codes: &[u8], mark: u8) -> bool
     ensures { result ≡ is_without mark codes.now }
 {
     codes.iter().all(|code| symbol_or_zero(*code) != mark)

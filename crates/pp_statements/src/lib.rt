@@ -12,8 +12,8 @@ mod values;
 pub use directives::{base_of, the_only, wants_operand};
 pub use performing::is_known;
 pub use scope::{
-    CELLS, Counters, MOST_STATEMENTS, Output, Programs, Row, Scope, SystemRows, count_one,
-    too_many_statements,
+    CELLS, Counters, Cut, MOST_STATEMENTS, Named, Output, Programs, Row, Scope, SystemRows,
+    count_one, too_many_statements,
 };
 pub use units::{Blocks, NamedBlock, Unit};
 pub use values::Base;

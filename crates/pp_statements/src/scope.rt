@@ -1,6 +1,7 @@
 //! What a pass knows at a line, and what it has made: its counters, its names, its cells, and the rows of the listing.
 use crate::units::{Blocks, Literals, Unit};
 use crate::values::{Base, Expression, Value};
+use pp_decks::Span;
 use pp_notation::Slot;
 use pp_source::{
     Argument, Definition, DisplayText, Fault, Field, Here, Message, Outcome, Statement, Stop,
@@ -17,6 +18,26 @@ pub const MOST_STATEMENTS: u32 = 100_000;
 /// Returns that a source makes too many statements.
 pub fn too_many_statements() -> Stop {
     Stop::too_much(Wording::ManyStatements)
+}
+
+/// How a line has been cut when it was performed.
+#[derive(Clone, Copy)]
+pub struct Cut {
+    /// The fields of the line, as it stands there.
+    pub fields: Statement,
+    /// Where the name of its operation is: in its field, or behind the line if OPSYN has given that name another meaning.
+    pub name: Field,
+    /// It is the call of a macro.
+    pub is_call: bool,
+    /// Where the name is of the operation that OPSYN gives another name to, in the text of the vocabulary; none of a macro.
+    pub renamed: Option<Span>,
+}
+
+/// A literal that an operand names: the column of the operand, and the address.
+#[derive(Clone, Copy)]
+pub struct Named {
+    pub column: usize,
+    pub address: i64,
 }
 
 /// What the listing has of a line.
@@ -36,6 +57,10 @@ pub struct Row {
     pub is_set: bool,
     /// The line has been performed, and is not only listed.
     pub is_performed: bool,
+    /// How the line was cut, if it has a statement.
+    pub cut: Option<Cut>,
+    /// Where the literals are that the line names.
+    pub named: Span,
 }
 
 /// What the listing would have of the lines of a system text.
@@ -71,6 +96,11 @@ pub struct Output {
     pub cells: Vec<Slot>,
     pub words: Vec<u16>,
     pub rows: Vec<Row>,
+    /// How the present line is cut.
+    pub cut: Option<Cut>,
+    /// The literals that operands name, and how many of them are of the rows.
+    pub named: Vec<Named>,
+    pub listed: usize,
     /// The rows of system texts, which the listing has not.
     pub systems: Vec<SystemRows>,
     pub messages: Vec<Message>,
@@ -127,6 +157,9 @@ impl Output {
             cells: vec![in alloc; Slot::default(); CELLS]?,
             words: Vec::new(alloc),
             rows: Vec::new(alloc),
+            cut: None,
+            named: Vec::new(alloc),
+            listed: 0,
             systems: Vec::new(alloc),
             messages: Vec::new(alloc),
             warnings: Vec::new(alloc),
@@ -135,6 +168,16 @@ impl Output {
             made: 0,
             performed: 0,
         })
+    }
+
+    /// Returns where the literals are that the statement with an index has named. The row of a literal has none.
+    fn named_in_row(&mut self, statement: usize) -> Span {
+        let first = self.listed;
+        if statement == usize::MAX {
+            return Span::new(first, first);
+        }
+        self.listed = self.named.len();
+        Span::new(first, self.listed)
     }
 
     /// Forgets the words of a system text. The listing has no row of it, and it has no warnings.
@@ -367,6 +410,7 @@ impl Scope {
             return Ok(());
         }
         let first = self.output.words.len();
+        let named = self.output.named_in_row(here.index);
         self.output.words.extend_from_slice(words)?;
         let row = Row {
             statement: here.index,
@@ -378,6 +422,8 @@ impl Scope {
             value,
             is_set,
             is_performed: true,
+            cut: self.output.cut,
+            named,
         };
         Ok(self.output.rows.push(row)?)
     }

@@ -1,5 +1,5 @@
 //! The programs of a source, with the blocks of USE and the literals of each.
-use crate::scope::Scope;
+use crate::scope::{Named, Scope};
 use pp_decks::Span;
 use pp_notation::{Program, Slot, program_of};
 use pp_source::{
@@ -313,6 +313,14 @@ impl Scope {
         Ok(())
     }
 
+    /// Keeps that the operand at a column names the literal at an address, in the last pass.
+    fn name_literal(&mut self, column: usize, address: i64) -> Outcome<i64> {
+        if self.is_last {
+            self.output.named.push(Named { column, address })?;
+        }
+        Ok(address)
+    }
+
     /// Returns the address of the words that a = names, or what the name after =X, =S or =Y stands for.
     pub fn literal(&mut self, here: &Here, operand: Field) -> Outcome<i64> {
         let text = operand.of(here.text);
@@ -320,7 +328,8 @@ impl Scope {
             let item = Field::new(operand.first.saturating_add(1), operand.end);
             let mut words = Vec::new(self.alloc);
             self.datum(here, item, &mut words)?;
-            return Ok(self.literals.address_of(&words)?);
+            let address = self.literals.address_of(&words)?;
+            return self.name_literal(operand.first, address);
         };
         if !self.symbols.is_named(name) {
             return Err(Stop::of(Wording::OfAnotherProgram, operand));
