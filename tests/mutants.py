@@ -5,7 +5,7 @@ A mutant, crates/CRATE/must-fail/NAME.edit or mutants/NAME.edit, is code that is
 checked as it is. Then the mutants of a crate are applied at once, each in a function of its own, to another copy, and rt checks the
 crate there, which begins with what it kept of the first. A mutant is refused if a goal of the function that it changes is not proved,
 or a goal of one that names this function and no other that is changed. A goal may wait for the proof of what its function calls: so
-what is not refused is tried again, without what has been, and in the end alone.
+what is not refused is tried again, without what has been, and in the end alone, where any goal counts.
 
 These fail: a mutant that the prover accepts, or can't read; one that only met a limit of the prover; one for which a proof only
 names what is gone; and one that only renames. They say nothing of a contract. The last line is 'N passed, M failed'.
@@ -30,6 +30,7 @@ FUNCTION = re.compile(r'^ *(?:pub(?:\([^)]*\))? )?(?:const )?(?:unsafe )?(?:exte
 ITEM = re.compile(r"(?:pub(?:\([^)]*\))? )?(?:unsafe )?(?:struct|enum|impl|trait|const|static|type|mod|use|ghost)\b(?!.*\bfn )")
 GOAL = re.compile(r"^(?:note: )?(?:\./)?(src/\S+?):(\d+):\d+: (?:error: )?it is not proved", re.M)
 ANSWER = re.compile(r"^(?:note: )?(?:\./)?proofs/(?:(\S+)/)?(\w+)/Answers\.antt:\d+:\d+: error: (.*)", re.M)
+ERROR = re.compile(r"^(?:note: \S+:\d+:\d+: |\S+:\d+:\d+: error)(.*)", re.M)
 LOST_NAME = re.compile(r"has no field|is not in scope|has no `|was not admitted")
 WORD = re.compile(r"\w+|[^\w\s]")
 DECLARED = r"\b(?:let|mut|for|fn|const|ensures|requires|invariant) {0}\b|\b{0}\s*:(?!:)"
@@ -155,7 +156,7 @@ class Crate:
             left = [mutant for mutant in left if mutant not in refused]
             if not refused:
                 break
-        return wrong + [mutant for mutant in left if not self.failing(self.check([mutant]))]
+        return wrong + [mutant for mutant in left if all(map(LOST_NAME.search, ERROR.findall(self.check([mutant]))))]
 
 
 def tried(crate):
