@@ -25,7 +25,7 @@ from pp6600.failure import Failure
 CRATE = os.path.join(TOP, "crates", "pp_library")
 PLACES = 106592 + 32768  # of a machine with the smallest central memory
 SEQUENCES = 50
-STACKS = 36 << 10, 144 << 10, 16 << 10  # bytes of the assembler's calls, of a search and of another, as the header says
+STACKS = 40 << 10, 144 << 10, 16 << 10  # bytes of the assembler's calls, of a search and of another, as the header says
 # Opens sessions with little memory until there is none, and compares the others before and after.
 LITTLE_MEMORY = """
 import resource

@@ -9,7 +9,7 @@
  * - Each pointer is to as many elements as the call says. None is null, also for 0 elements. What a call writes overlaps nothing
  *   else that it is given: the lines of pp6600_answer are not in `into`, and no two out-parameters are one variable.
  * - One call at a time works on a session, and no call is made from a signal handler.
- * - The stack has 36 KB for a call of the assembler, 144 KB for a search, and 16 KB for another.
+ * - The stack has 40 KB for a call of the assembler, 144 KB for a search, and 16 KB for another.
  *
  * What each call says of its out-parameters holds for every status. Those of which it says nothing are as they were.
  */
