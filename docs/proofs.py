@@ -11,7 +11,7 @@ docs/promises.txt has the text of both. A line '### NAME' begins a promise. Belo
 A line 'first: SECTION: NAME; NAME' names promises that matter most. PROOFS.md begins with these sections, each with these promises.
 Then come the sections without promises. INNER.md has all other promises, section by section.
 
-Each mutant, crates/CRATE/mutants/NAME.edit or must-fail/NAME.edit, has two lines, '# promise: NAME' and '# call: CRATE::TYPE::CALL',
+Each mutant, crates/CRATE/mutants/NAME.edit, mutants/more/NAME.edit or must-fail/NAME.edit, has two lines, '# promise: NAME' and '# call: CRATE::TYPE::CALL',
 or several such pairs: a promise that it breaks, and the call of its own crate whose contract rejects it. The text that it changes is there.
 
 What is named and is not there is a fault: a call, a clause, a definition, a promise, a section. Faults are printed, and then nothing is
@@ -146,7 +146,7 @@ def ordered(text):
 
 def edits():
     """Returns the path of each mutant's file, in the order of crates and names."""
-    found = [path for folder in ("must-fail", "mutants") for path in glob.glob(os.path.join(TOP, "crates", "*", folder, "*.edit"))]
+    found = [path for folder in ("must-fail", "mutants", "mutants/more") for path in glob.glob(os.path.join(TOP, "crates", "*", folder, "*.edit"))]
     return sorted(found, key=lambda path: (path[len(TOP):].split(os.sep)[2], os.path.basename(path)))
 
 
@@ -168,7 +168,7 @@ def faults_of_edits():
         texts, name, old = {}, "", ""
         for key, value in re.findall(r"^(file|old|new):(?: (.*))?$", read(path), re.M):
             if key == "file":
-                name = os.path.join(os.path.dirname(path), "..", value)
+                name = os.path.join(TOP, "crates", path[len(TOP):].split(os.sep)[2], value)
             elif key == "old":
                 old = value
             elif texts.setdefault(name, read(name)).count(old) != 1:

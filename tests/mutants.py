@@ -1,11 +1,12 @@
 #!/usr/bin/env python3
-"""Tries mutants, many in one check of their crate: tests/mutants.py [CRATE ..]
+"""Tries mutants, many in one check of their crate: tests/mutants.py [--all] [CRATE ..]
 
-A mutant, crates/CRATE/must-fail/NAME.edit or mutants/NAME.edit, is code that is wrong on purpose. First a copy of the repository is
-checked as it is. Then the mutants of a crate are applied at once, each in a function of its own, to another copy, and rt checks the
-crate there, which begins with what it kept of the first. A mutant is refused if a goal of the function that it changes is not proved,
-or a goal of one that names this function and no other that is changed. A goal may wait for the proof of what its function calls: so
-what is not refused is tried again, without what has been, and in the end alone, where any goal counts.
+A mutant, crates/CRATE/must-fail/NAME.edit or mutants/NAME.edit, is code that is wrong on purpose; with --all those of mutants/more
+are tried too. First a copy of the repository is checked as it is. Then the mutants of a crate are applied at once, each in a
+function of its own, to another copy, and rt checks the crate there, which begins with what it kept of the first. A mutant is
+refused if a goal of the function that it changes is not proved, or a goal of one that names this function and no other that is
+changed. A goal may wait for the proof of what its function calls: so what is not refused is tried again, without what has been,
+and in the end alone, where any goal counts.
 
 These fail: a mutant that the prover accepts, or can't read; one that only met a limit of the prover; one for which a proof only
 names what is gone; and one that only renames. They say nothing of a contract. The last line is 'N passed, M failed'.
@@ -108,9 +109,8 @@ class Sources:
 class Crate:
     """A crate whose mutants are tried, in a copy of its own: the crates above it must not see them."""
 
-    def __init__(self, room, name):
+    def __init__(self, room, name, paths):
         self.name, self.folder, self.checks = name, f"{copy_of_sources(f'{room}/{name}')}/crates/{name}", 0
-        paths = glob.glob(f"{TOP}/crates/{name}/must-fail/*.edit") + glob.glob(f"{TOP}/crates/{name}/mutants/*.edit")
         self.mutants, self.sources = [Mutant(path) for path in sorted(paths)], Sources(self.folder)
 
     def check(self, mutants):
@@ -179,17 +179,23 @@ def workers():
     return max(1, min(os.cpu_count(), memory // MEMORY_OF_A_CHECK))
 
 
+def edits_of(crate, folders):
+    return [path for folder in folders for path in glob.glob(f"{TOP}/crates/{crate}/{folder}/*.edit")]
+
+
 def main():
     crates = sorted(os.path.basename(os.path.dirname(path)) for path in glob.glob(f"{TOP}/crates/*/src"))
-    for name in sys.argv[1:]:
+    is_all = sys.argv[1:2] == ["--all"]
+    names, folders = sys.argv[2 if is_all else 1:], ("must-fail", "mutants", "mutants/more")[:3 if is_all else 2]
+    for name in names:
         if name not in crates:
             print(f"tests/mutants.py: there is no crate {name}", file=sys.stderr)
             return 2
     with tempfile.TemporaryDirectory() as room:
-        if not are_proved(copy_of_sources(f"{room}/base"), sys.argv[1:]):
+        if not are_proved(copy_of_sources(f"{room}/base"), names):
             print("tests/mutants.py: a crate is not proved as it is\n0 passed, 1 failed")
             return 1
-        wanted = [Crate(room, name) for name in sys.argv[1:] or crates if glob.glob(f"{TOP}/crates/{name}/m*/*.edit")]
+        wanted = [Crate(room, name, edits_of(name, folders)) for name in names or crates if edits_of(name, folders)]
         wanted.sort(key=lambda crate: -len(crate.mutants))
         with concurrent.futures.ThreadPoolExecutor(workers()) as pool:
             counts = list(pool.map(tried, wanted))
