@@ -11,7 +11,7 @@ docs/promises.txt has the text of both. A line '### NAME' begins a promise. Belo
 A line 'first: SECTION: NAME; NAME' names promises that matter most. PROOFS.md begins with these sections, each with these promises.
 Then come the sections without promises. INNER.md has all other promises, section by section.
 
-Each mutant, crates/CRATE/mutants/NAME.edit, mutants/more/NAME.edit or must-fail/NAME.edit, has two lines, '# promise: NAME' and '# call: CRATE::TYPE::CALL',
+Each mutant, crates/CRATE/must-fail/NAME.edit or must-fail/more/NAME.edit, has two lines, '# promise: NAME' and '# call: CRATE::TYPE::CALL',
 or several such pairs: a promise that it breaks, and the call of its own crate whose contract rejects it. The text that it changes is there.
 
 What is named and is not there is a fault: a call, a clause, a definition, a promise, a section. Faults are printed, and then nothing is
@@ -31,7 +31,7 @@ import textwrap
 TOP = os.path.dirname(os.path.dirname(os.path.abspath(__file__)))
 PAGE, INNER = "docs/PROOFS.md", "docs/INNER.md"
 TEXT = os.path.join(TOP, "docs", "promises.txt")
-MADE = "<!-- docs/proofs.py makes this page from docs/promises.txt, crates/*/src and the mutants of crates: change those. -->\n\n"
+MADE = "<!-- docs/proofs.py makes this page from docs/promises.txt, crates/*/src and crates/*/must-fail: change those. -->\n\n"
 WHOLE = {"break_long_words": False, "break_on_hyphens": False}
 KEY = re.compile(r"^(call|theorem|defined|mutants): (.*)\n", re.M)
 FIRST = re.compile(r"^first: (.*?): (.*)\n", re.M)
@@ -144,16 +144,10 @@ def ordered(text):
     return {PAGE: made, INNER: inner}, faults
 
 
-def edits():
-    """Returns the path of each mutant's file, in the order of crates and names."""
-    found = [path for folder in ("must-fail", "mutants", "mutants/more") for path in glob.glob(os.path.join(TOP, "crates", "*", folder, "*.edit"))]
-    return sorted(found, key=lambda path: (path[len(TOP):].split(os.sep)[2], os.path.basename(path)))
-
-
 def mutants():
     """Returns the crate, the name and the pairs of promise and call of each mutant."""
     found = []
-    for path in edits():
+    for path in sorted(glob.glob(os.path.join(TOP, "crates", "*", "must-fail", "**", "*.edit"), recursive=True)):
         pairs, promise = [], ""
         for key, value in re.findall(r"^# (promise|call): (.*)", read(path), re.M):
             promise = value if key == "promise" else promise
@@ -164,11 +158,11 @@ def mutants():
 
 def faults_of_edits():
     """Yields each mutant whose text is not there exactly once, as its pairs are applied one after another."""
-    for path in edits():
+    for path in sorted(glob.glob(os.path.join(TOP, "crates", "*", "must-fail", "**", "*.edit"), recursive=True)):
         texts, name, old = {}, "", ""
         for key, value in re.findall(r"^(file|old|new):(?: (.*))?$", read(path), re.M):
             if key == "file":
-                name = os.path.join(TOP, "crates", path[len(TOP):].split(os.sep)[2], value)
+                name = os.path.join(path.partition("must-fail")[0], value)
             elif key == "old":
                 old = value
             elif texts.setdefault(name, read(name)).count(old) != 1:

@@ -25,7 +25,7 @@ IN_FOLDERS = {
     "docs/drawings": {"draw.py": ["--help"], "panel.py": ["--help"]},
     "bench": {"devices": ["--help"], "run": ["--help"], "tools": ["--help"]},
     "targets": {"build": ["--list"]},
-    "tests": {"__main__.py": ["nothing"], "mutants.py": ["--help"]}}
+    "tests": {"__main__.py": ["nothing"], "refusals.py": []}}
 NOT_COPIED = shutil.ignore_patterns(".git", "crates", "films", "out", "work", "__pycache__", "libpp6600-aarch64.so", "pp6600-aarch64", "definitions.html")
 OWN = ("checking", "class_page", "pp6600", "tables", "packaging", "wheels", "scripts", "sitecustomize", "usercustomize")
 

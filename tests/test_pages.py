@@ -27,7 +27,7 @@ OTHERS = set("""ci crate doc lemma logic plant version specs proofs ghost prove 
     End Home WORD FILE FILE.html FUNCTION word /usr/local ~/.local ~/.pp6600_history PREFIX/bin PREFIX/libexec/pp6600/tools
     share/pp6600/exercises pp6600-VERSION-linux.tar.gz work.html
     libpp6600.so.1 PKG_CONFIG_PATH wasm-opt BigInt memory.grow grow XNAME SNAME OP redo crates/.checked /Q/NAME
-    WHO Who slot_text kept_text mutants/who_shows_p.edit pp_console/who_shows_p pp6600_watched BLANK ABC""".split())
+    WHO Who slot_text kept_text must-fail/who_shows_p.edit pp_console/who_shows_p pp6600_watched BLANK ABC""".split())
 COMMENT_OR_TEXT = re.compile(r'//[^\n]*|--[^\n]*|b?("(?:\\.|[^"\\])*")')
 OF_A_PROGRAM = re.compile(r"--?[a-z][a-z-]*|\b[A-Z][A-Z\d_]*\b|(?<=[\"'])\w+(?=[\"'])|(?<=def )\w+|(?<=class )\w+")
 PATH = re.compile(r"(?=.*\w)[~\w.*-]*/[\w./*-]*|[\w*-]+\.(?:antt|edit|html|md|py|rt|txt)")
@@ -89,7 +89,7 @@ def is_path(path, page):
     kept = re.sub(r"/out/.*", "/out", path.lstrip("./").strip("/"))
     ending = re.escape(re.sub(r"NAME|(?<![^/])[xX](?=[A-Z./]|$)", "*", kept)).replace(r"\*", "[^/]*") + r"(?:\.rt)?$"
     first, own = kept.split("/")[0], os.path.dirname(page)
-    if first in ("src", "specs", "proofs", "must-fail", "mutants") and own.startswith("crates/"):
+    if first in ("src", "specs", "proofs", "must-fail") and own.startswith("crates/"):
         ending = f"^{own}/{ending}"
     elif first in KNOWN.files and "/" in kept:
         ending = "^" + ending

@@ -1,11 +1,13 @@
 """Says what the gate takes: bench/gate [NAME ..]
 
-Runs rt ci --anew, of these crates and those below them if some are named, and then tests/mutants.py, and looks five times a second at
-what the prover does. It prints the processor seconds of each crate's proof, of its tests and of its mutants. Its status is that of what
-it runs, whose output is on standard error.
+Runs rt ci --anew, of these crates and those below them if some are named, and looks five times a second at what the prover does. It
+prints the processor seconds of each crate's proof, of its tests and of its mutants, and then the ten dearest mutants of each. Its status
+is that of rt ci, whose output is on standard error.
 """
 import collections
+import glob
 import os
+import re
 import resource
 import subprocess
 import sys
@@ -19,19 +21,35 @@ def read(path):
         return file.read()
 
 
+def edited(crate, edit):
+    """Returns the texts by path that a mutant of a crate changes."""
+    texts, path, old = {}, "", ""
+    for key, value in re.findall(r"^(file|old|new): ?(.*)$", read(edit), re.M):
+        if key == "file":
+            path, texts[value] = value, texts.get(value, read(f"{TOP}/crates/{crate}/{value}"))
+        elif key == "old":
+            old = value
+        else:
+            texts[path] = texts[path].replace(old, value)
+    return texts
+
+
 def work_of(pid):
-    """Returns the crate and the part of the gate that a process works for, or None."""
+    """Returns the crate, the part of the gate and the mutant that a process works for, or None."""
     words, room = read(f"/proc/{pid}/cmdline").split("\0"), os.readlink(f"/proc/{pid}/cwd")
     if not words[0].endswith("/rattle") or "--crate-name" not in words:
         return None
-    is_own = room.startswith(TOP) or "/rt-copy-" in room
-    return words[words.index("--crate-name") + 1], "mutants" if not is_own else "tests" if "--test" in words else "proof"
+    crate = words[words.index("--crate-name") + 1]
+    if "rt-edit-" not in room:
+        return crate, "tests" if "--test" in words else "proof", ""
+    rows = {edit: edited(crate, edit) for edit in glob.glob(f"{TOP}/crates/{crate}/must-fail/*.edit")}
+    found = [edit for edit, texts in rows.items() if all(read(f"{room}/{path}") == text for path, text in texts.items())]
+    return crate, "mutants", os.path.basename(found[0])[:-5] if found else "(the crate itself)"
 
 
 def main():
     began, works, spent = time.time(), {}, {}
-    run = subprocess.Popen(["sh", "-c", 'rt ci "$@" --anew && python3 tests/mutants.py "$@"', "gate", *sys.argv[1:]], cwd=TOP,
-                           stdout=sys.stderr, start_new_session=True)
+    run = subprocess.Popen(["rt", "ci", *sys.argv[1:], "--anew"], cwd=TOP, stdout=sys.stderr, start_new_session=True)
     while run.poll() is None:
         for pid in filter(str.isdigit, os.listdir("/proc")):
             try:
@@ -41,12 +59,15 @@ def main():
             except (OSError, ValueError):
                 continue
         time.sleep(0.2)
-    parts = collections.defaultdict(collections.Counter)
-    for pid, (crate, part) in ((pid, work) for pid, work in works.items() if work):
+    parts, mutants = collections.defaultdict(collections.Counter), collections.defaultdict(collections.Counter)
+    for pid, (crate, part, mutant) in ((pid, work) for pid, work in works.items() if work):
         parts[crate][part] += spent[pid]
+        mutants[crate][mutant] += spent[pid] * (part == "mutants")
     print("| Crate | Proof | Tests | Mutants |\n|---|---|---|---|")
     for crate, row in sorted(parts.items(), key=lambda item: -sum(item[1].values())):
         print(f"| {crate} | {row['proof']:.0f} | {row['tests']:.0f} | {row['mutants']:.0f} |")
     whole = resource.getrusage(resource.RUSAGE_CHILDREN)
     print(f"\nIn all {(whole.ru_utime + whole.ru_stime) / 60:.0f} minutes of processor time, in {(time.time() - began) / 60:.0f} minutes")
+    for crate, row in sorted(mutants.items()):
+        print(f"{crate}: " + ", ".join(f"{mutant} {seconds:.0f}" for mutant, seconds in row.most_common(10) if mutant))
     return run.returncode
