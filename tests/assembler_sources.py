@@ -228,7 +228,7 @@ def sum_of(lines: Sequence[str]) -> str:
 
 def differences() -> List[List[str]]:
     """Returns the sources made at random whose answer is another one than that of the assembler in Python, which was written apart from
-    this one, had the same answer to all 3,000 (decimal), and went. 34 of them, with faults then and now, have forms that are taken since:
-    their answers are of today."""
+    this one, had the same answer to all 3,000 (decimal), and went. 34 of them, with faults then and now, have forms that are taken since,
+    and 13 have what is a fault since, a tab in a text of DIS or a comma or slash in a qualifier: their answers are of today."""
     sums = read("tests", "programs", "frozen.txt").splitlines()
     return [lines for lines, wanted in zip(made_at_random(), sums) if sum_of(lines) != wanted]

@@ -11,6 +11,7 @@ import tempfile
 import time
 
 NAMES = ("chromium", "chromium-browser", "google-chrome", "google-chrome-stable")
+EMPTY = "about:blank"
 PATIENCE = 600  # seconds for one answer
 CODES = {"Backspace": 8, "Tab": 9, "Enter": 13, "Escape": 27, "End": 35, "Home": 36, "ArrowLeft": 37, "ArrowUp": 38, "ArrowRight": 39, "ArrowDown": 40}
 
@@ -51,8 +52,9 @@ class Browser(Page):
         self.numbers = itertools.count(1)
         self.rest = b""
         self.log = []  # what the page complained about
+        self.is_empty = True  # the page
         words = [path, "--headless=new", "--no-sandbox", "--disable-gpu", "--no-first-run", "--disable-dev-shm-usage",
-                 "--hide-scrollbars", f"--user-data-dir={self.room.name}", "--remote-debugging-pipe", "about:blank"]
+                 "--hide-scrollbars", f"--user-data-dir={self.room.name}", "--remote-debugging-pipe", EMPTY]
         ends = f"exec {{a}}<&{to_browser} {{b}}>&{from_browser}; exec 3<&$a 4>&$b; exec \"$@\""  # either end may have number 3 or 4
         self.process = subprocess.Popen(["bash", "-c", ends, "bash", *words], pass_fds=(to_browser, from_browser),
                                         stdout=subprocess.DEVNULL, stderr=subprocess.DEVNULL, start_new_session=True)
@@ -108,10 +110,21 @@ class Browser(Page):
             raise RuntimeError(f"{text[:80]}: {json.dumps(result['exceptionDetails'])[:500]}")
         return result["result"].get("value")
 
+    def leave(self, address=EMPTY):
+        """Goes to an empty page."""
+        self.ask("Page.navigate", url=address)
+        self.is_empty = True
+
+    def go(self, address):
+        """Goes to an address from an empty page, so that nothing of the page before is there."""
+        if not self.is_empty:
+            self.leave()
+        self.is_empty = False
+        self.ask("Page.navigate", url=address)
+
     def open(self, path, address=""):
         """Opens a film from its file, and waits until it is shown."""
-        self.ask("Page.navigate", url="about:blank")
-        self.ask("Page.navigate", url=f"file://{os.path.abspath(path)}{address}")
+        self.go(f"file://{os.path.abspath(path)}{address}")
         self.wait_for("document.body && document.body.dataset.open === 'yes'")
 
     def key(self, key):

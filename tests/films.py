@@ -117,11 +117,12 @@ def moments_of(words, lines):
 
 
 def forget(browser):
-    """Forgets what the browser has kept of films."""
+    """Leaves a film, and forgets what the browser has kept of films."""
     path = os.path.join(ROOM.name, "blank.html")
     with open(path, "w", encoding="ascii") as file:
-        file.write("<!DOCTYPE html><title>blank</title><body data-open=yes>")
-    browser.open(path)
+        file.write("<!DOCTYPE html><title>blank</title>")
+    browser.leave(f"file://{path}")
+    browser.wait_for("document.title === 'blank'")
     browser.evaluate("localStorage.clear()")
 
 

@@ -50,13 +50,16 @@ def slips():
 
 
 def deep(task):
-    """Returns what a task returns that may call itself very often."""
-    limit, size = sys.getrecursionlimit(), threading.stack_size(STACK)
+    """Returns what a task returns that may call itself very often, and whose values have no circles."""
+    limit, size, collects = sys.getrecursionlimit(), threading.stack_size(STACK), gc.isenabled()
     sys.setrecursionlimit(10 ** 8)
+    gc.disable()
     try:
         with concurrent.futures.ThreadPoolExecutor(1) as pool:
             return pool.submit(task).result()
     finally:
+        if collects:
+            gc.enable()
         threading.stack_size(size)
         sys.setrecursionlimit(limit)
 

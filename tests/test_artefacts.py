@@ -343,6 +343,12 @@ class Shims(Artefacts):
     def test_windows(self):
         self.check("x86_64-w64-mingw32-gcc", "windows_program", "windows_memory", "windows_library", "bytes")
 
+    def test_memory_of_threads(self):
+        """Four threads ask for blocks and give them back, and each block keeps its bytes."""
+        made, shim = self.path("memory"), os.path.join(TARGETS, "shim")
+        compiled(self.tool("gcc"), os.path.join(CLIENTS, "memory.c"), "-I", shim, os.path.join(shim, "linux_memory.c"), "-pthread", "-o", made)
+        self.assertEqual("0\n", run_tool(made))
+
     def test_lines(self):
         """targets/README.md counts each file that is trusted."""
         table = re.findall(r"^\| `([\w./]+)` \| (\d+) \|", read("targets", "README.md"), flags=re.M)

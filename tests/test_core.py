@@ -28,8 +28,6 @@ class Package(Case):
     @unittest.skipUnless(shutil.which("mypy"), "mypy is not installed")
     def test_types(self):
         """mypy --strict accepts the tools, as pyproject.toml has it; and of a user's script but one line, by docs/PYTHON.md."""
-        done = run("mypy", "--cache-dir", self.path("cache"))
-        self.assertEqual(0, done.status, done.out)
         script = """from typing import Dict, List
 from pp6600 import Attached, Console, Device, Failure, Place, full
 with Console(options=["--history", "5"]) as console:
@@ -41,8 +39,8 @@ session: Attached = Attached(devices=[Device()])
 reply = full(5)
 console.registers("0")
 """
-        done = run("mypy", "--cache-dir", self.path("cache"), self.file(script.encode(), "own.py"))
-        found = [line.partition("own.py:")[2] for line in done.out.splitlines() if "own.py:" in line]
+        done = run("mypy", "--cache-dir", self.path("cache"), "tools/pp6600", self.file(script.encode(), "own.py"))
+        found = [line.partition("own.py:")[2] or line for line in done.out.splitlines() if not line.startswith("Found 1 error in 1 file ")]
         self.assertEqual(['10: error: Argument 1 to "registers" of "Console" has incompatible type "str"; expected "int"  [arg-type]'], found)
 
     @unittest.skipUnless(shutil.which("ruff"), "ruff is not installed")

@@ -52,7 +52,7 @@ class Tables(PageCase):
 class Card(PageCase):
     def test_printed(self):
         """docs/card.html is one sheet of A4 on a printer."""
-        self.browser.ask("Page.navigate", url=f"file://{os.path.join(TOP, 'docs', 'card.html')}")
+        self.browser.go(f"file://{os.path.join(TOP, 'docs', 'card.html')}")
         self.browser.wait_for("document.readyState === 'complete' && document.title")
         self.browser.paper(self.path("card.pdf"))
         data = part(self.folder, "card.pdf")

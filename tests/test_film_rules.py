@@ -178,8 +178,7 @@ class BadSurroundings(PageCase):
         if script:
             self.added.append(self.browser.ask("Page.addScriptToEvaluateOnNewDocument", source=script)["identifier"])
             self.addCleanup(lambda: self.browser.ask("Page.removeScriptToEvaluateOnNewDocument", identifier=self.added.pop()))
-        self.browser.ask("Page.navigate", url="about:blank")
-        self.browser.ask("Page.navigate", url=f"file://{path}")
+        self.browser.go(f"file://{path}")
 
     def assert_fault(self, reason):
         self.browser.wait_for("document.getElementById('fault') && !document.getElementById('fault').hidden")

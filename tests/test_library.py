@@ -32,6 +32,7 @@ import resource
 from pp6600.engine import library
 used = int(open("/proc/self/statm").read().split()[0]) * resource.getpagesize()
 library.load()
+of_python = bytearray(4 << 20)  # what the lines below the loop may need
 resource.setrlimit(resource.RLIMIT_AS, (used + (24 << 20),) * 2)
 sessions, numbers = [], lambda session: session.numbers(40960, 100) + session.numbers(0, 100)
 library.ANSWER_ROOM = 4096  # so that memory does not run out in Python
@@ -40,6 +41,7 @@ try:
         sessions.append(library.LibrarySession(history=200, central=32768))
         sessions[-1].answer(b"SET A 0 %o\\nSTEP 20\\n" % len(sessions))
 except library.Refused as refused:
+    del of_python
     before = list(map(numbers, sessions))
     sessions.pop(0).close()
     sessions.append(library.LibrarySession(history=200, central=32768))

@@ -6,8 +6,10 @@ mod naming;
 mod passes;
 mod program;
 mod readings;
-mod systems;
+mod rows;
+mod statements;
 mod terms;
+mod units;
 
 pub use passes::{assemble, assemble_with};
 pub use pp_decks::{Complaint, Deck, Decks, Line, Lines, Span, Text};

@@ -1,9 +1,9 @@
 //! A source in two passes: the first one finds what its names stand for, the second one makes its words and reports what is wrong.
-ghost use Rattle.std.specs.Prelude.{[], All, IfOk, IfSome, List, map};
+ghost use Rattle.std.specs.Prelude.{◌∷◌, [], All, IfOk, IfSome, List, map};
 ghost use Rattle.std.specs.List.{AllByRecursion};
 ghost use Rattle.pp_notation.specs.Cells.{IsProgram, IsStart};
 ghost use Rattle.pp_assembler.specs.Decks.{AreRead, IsRead, IsReading};
-ghost use Rattle.pp_assembler.specs.Meaning.{AreMeant, IsFound, IsMeant};
+ghost use Rattle.pp_assembler.specs.Meaning.{AreMeant, IsFound, IsMeant, IsNothingWithout, programs_of};
 ghost use Rattle.pp_decks.specs.Decks.{AreOf};
 ghost use Rattle.pp_decks.specs.declared.decks.Text.{Text as DeckText};
 ghost use Rattle.pp_decks.specs.declared.lines.Lines.{Lines as AllLines};
@@ -17,9 +17,9 @@ use crate::readings::{are_read, are_readings};
 use pp_complaints::{Known, complaints};
 use pp_decks::{Complaint, Decks, Lines, Span, Text, cut_lines, placed, read_lines};
 use pp_expansion::{Ending, Pass, Reading};
-use pp_notation::{Program, Slot, program_of};
+use pp_notation::Program;
 use pp_source::{Fault, Message, Symbols, Vocabulary, Wording};
-use pp_statements::{Blocks, Programs, Scope};
+use pp_statements::{Blocks, Scope, Unit};
 use std::alloc::{AllocError, Global};
 use std::mem::replace;
 
@@ -173,7 +173,7 @@ fn assembly_of(
 {
     let wrong = Vec::from_slice(alloc, &scope.output.messages)?;
     let noticed = Vec::from_slice(alloc, &scope.output.warnings)?;
-    let made = without_messages(alloc, read, scope, found)?;
+    let made = without_messages(alloc, read, scope, found);
     let messages = match made.meaning {
         Some(_) => Vec::new(alloc),
         None => complaints_at(alloc, &made, &wrong, spans)?,
@@ -187,32 +187,30 @@ fn assembly_of(
 }
 
 /// Returns what a pass has made, without its messages.
-fn without_messages(
-    alloc: Global,
-    read: Read,
-    scope: Scope,
-    found: Found,
-) -> Result<Assembly, AllocError>
+fn without_messages(alloc: Global, read: Read, scope: Scope, found: Found) -> Assembly
     ensures decks { (texts : List DeckText) → AreOf texts read.decks.all.items →
         AllByRecursion (IsReading read.lines read.decks.all.items) read.readings.items →
         AllByRecursion (IsRead read.lines read.decks.all.items read.vocabulary read.readings.items) scope.output.rows.items →
-        IfOk result (AreRead texts) }
+        AreRead texts result }
     ensures meaning { IsFound read.lines scope.output.rows.items scope.output.systems.items found →
-        IfOk result (λ made. IfSome made.meaning (AreMeant made.lines made.rows.items made.systems.items made.program
-        made.words.items)) }
+        IfSome result.meaning (AreMeant result.lines result.rows.items result.systems.items (programs_of result) result.words.items) }
+    ensures nothing { IsNothingWithout result.meaning result.program result.others.items }
 {
     let Scope {
         symbols,
         output,
-        mut programs,
         ..
     } = scope;
-    let first = first_program(alloc, &mut programs, &output.cells)?;
-    let (program, words, meaning) = output_of(found, first, output.words);
-    Ok(Assembly {
+    let Made {
+        program,
+        others,
+        words,
+        meaning,
+    } = made_by(alloc, found, output.words);
+    Assembly {
         program,
         meaning,
-        others: programs.ended,
+        others,
         lines: read.lines,
         decks: read.decks,
         readings: read.readings,
@@ -223,7 +221,7 @@ fn without_messages(
         systems: output.systems,
         messages: Vec::new(alloc),
         warnings: Vec::new(alloc),
-    })
+    }
 }
 
 /// Returns what messages say, each at its place in a source with these lines.
@@ -247,29 +245,35 @@ fn known_of(made: &Assembly) -> Known<'_> {
     }
 }
 
-/// Returns the program of the first unit, or that of these cells if there is none.
-fn first_program(
-    alloc: Global,
-    programs: &mut Programs,
-    cells: &[Slot],
-) -> Result<Program, AllocError> {
-    if programs.ended.is_empty() {
-        return program_of(alloc, cells, programs.start);
-    }
-    Ok(programs.ended.remove(0).program)
+/// What a source makes: its first program and the others, their words, and the statements that these are of.
+#[derive(Drop)]
+struct Made {
+    program: Program,
+    others: Vec<Unit>,
+    words: Vec<u16>,
+    meaning: Option<Performed>,
 }
 
-/// Returns the program and the words that the statements mean, if these have been found, or else those that a pass has made.
-fn output_of(
-    found: Found,
-    program: Program,
-    words: Vec<u16>,
-) -> (Program, Vec<u16>, Option<Performed>)
-    ensures { (lines : AllLines) (rows : List Row) (systems : List SystemRows) →
-        IsFound lines rows systems found → IfSome result.2 (AreMeant lines rows systems result.0 result.1.items) }
+/// Returns what the statements mean, if that has been found. Else there is no program, and the words are those of the rows of a source with
+/// which something is wrong.
+fn made_by(alloc: Global, found: Found, words: Vec<u16>) -> Made
+    ensures meaning { (lines : AllLines) (rows : List Row) (systems : List SystemRows) →
+        IsFound lines rows systems found → IfSome result.meaning (AreMeant lines rows systems
+        (result.program ∷ map (λ unit. unit.program) result.others.items) result.words.items) }
+    ensures nothing { IsNothingWithout result.meaning result.program result.others.items }
 {
     match found {
-        Found::Words(made) => (made.program, made.words, Some(made.performed)),
-        _ => (program, words, None),
+        Found::Words(made) => Made {
+            program: made.program,
+            others: made.others,
+            words: made.words,
+            meaning: Some(made.performed),
+        },
+        _ => Made {
+            program: Program::new(Vec::new(alloc), None),
+            others: Vec::new(alloc),
+            words,
+            meaning: None,
+        },
     }
 }

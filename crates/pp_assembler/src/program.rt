@@ -1,7 +1,7 @@
 //! All that is known of a source.
 use pp_decks::{Complaint, Decks, Lines};
 use pp_expansion::Reading;
-use pp_meaning::{Block, Literal, Statement, Symbol, SystemText};
+use pp_meaning::{Symbol, SystemText, Unit as Statements};
 use pp_notation::Program;
 use pp_source::{Symbols, Vocabulary};
 use pp_statements::{Row, SystemRows, Unit};
@@ -12,15 +12,9 @@ use pp_statements::{Row, SystemRows, Unit};
 pub struct Performed {
     /// What the names stand for, in the order of the statements that define them.
     pub symbols: Vec<Symbol>,
-    /// The words that operands name by what they are, in the order in which they are named first.
-    pub literals: Vec<Literal>,
-    /// The blocks of USE, in the order in which they are named first.
-    pub blocks: Vec<Block>,
-    /// Those of system texts that name numbers.
     pub systems: Vec<SystemText>,
-    pub statements: Vec<Statement>,
-    /// The index of the line of each statement.
-    pub lines: Vec<usize>,
+    /// Those of each program, with its literals and its blocks of USE.
+    pub units: Vec<Statements>,
 }
 
 /// All that is known of a source: the program that it makes, its statements and their rows in the listing, its names, and what is

@@ -1,36 +1,32 @@
 //! The terms of operands, and the names that they have.
-use pp_decks::tail;
+use pp_decks::{LAST_COLUMN, tail};
 use pp_meaning::{
     Atom, Cut, Expression, Factor, Item, Kind, Label, Linkage, Operand, Radix, Sign, Symbol, Term,
-    Text, Width,
+    Text, Validity, Width,
 };
 use pp_source::{
     Number, code_of, counter_of, digits_of, end_of_name, find, is_blank, number_of, text_at,
 };
-use pp_statements::Named;
+use pp_statements::{Named, end_of_size, size_of_name};
 use std::alloc::{AllocError, Global};
 use std::collections::BTreeMap;
 
-/// What names stand for, in the order of the statements that define them. SET makes a symbol each time.
+/// What names stand for, in the order of the statements that define them: first those of system texts. SET makes a symbol each time,
+/// and so does a source that defines a name of a system text anew.
 #[derive(Drop)]
 pub struct Names {
     alloc: Global,
     pub all: Vec<Symbol>,
-    /// The index of the last symbol of a name, by the name as a number.
-    last: BTreeMap<u64, usize>,
-    /// The index of the symbol that a name means now, if it means one.
-    present: BTreeMap<u64, usize>,
+    /// The index of the last symbol of a name, with its qualifier.
+    last: BTreeMap<Vec<u8>, usize>,
+    /// The index of the symbol that a name with its qualifier means now, if it means one.
+    present: BTreeMap<Vec<u8>, usize>,
     /// How many statements that define names have been read anew.
     defined: usize,
-}
-
-/// Returns a name of at most eight characters as a number.
-fn number_of_name(name: &[u8]) -> u64 {
-    let mut number: u64 = 0;
-    for byte in name {
-        number = number.wrapping_mul(0x100).wrapping_add(u64::from(*byte));
-    }
-    number
+    /// How many symbols system texts define.
+    of_systems: usize,
+    /// What was before a name with the qualifiers of QUAL, that of the present one at the end.
+    prefixes: Vec<Vec<u8>>,
 }
 
 impl Names {
@@ -41,26 +37,76 @@ impl Names {
             last: BTreeMap::new(alloc),
             present: BTreeMap::new(alloc),
             defined: 0,
+            of_systems: 0,
+            prefixes: Vec::new(alloc),
         }
     }
 
-    /// Adds what a name stands for, in each statement if it is none of SET.
+    /// Returns what is before a name with the present qualifier.
+    pub fn prefix(&self) -> &[u8] {
+        match self.prefixes.last() {
+            Some(prefix) => prefix,
+            None => b"",
+        }
+    }
+
+    /// Goes on with a qualifier, or without one; * goes back to the one before.
+    pub fn qualify(&mut self, name: &[u8]) -> Result<(), AllocError> {
+        if matches!(name, b"*") {
+            let _ = self.prefixes.pop();
+            return Ok(());
+        }
+        let mut prefix = Vec::new(self.alloc);
+        if !name.is_empty() {
+            prefix.push(b'/')?;
+            prefix.extend_from_slice(name)?;
+            prefix.push(b'/')?;
+        }
+        Ok(self.prefixes.push(prefix)?)
+    }
+
+    /// Ends a source, or a system text: names have no qualifier.
+    pub fn end_text(&mut self) {
+        self.prefixes.clear();
+    }
+
+    /// Returns a name with the present qualifier.
+    fn qualified(&self, name: &[u8]) -> Result<Vec<u8>, AllocError> {
+        let mut full = Vec::from_slice(self.alloc, self.prefix())?;
+        full.extend_from_slice(name)?;
+        Ok(full)
+    }
+
+    /// Adds what a name stands for, in each statement if it is none of SET. The symbol before of the same name stands for its number
+    /// up to there alone, and does so in the source only if SET makes this one.
     pub fn add(&mut self, name: &[u8], value: i64, is_set: bool) -> Result<(), AllocError> {
         let index = self.all.len();
-        if let Some(before) = self.last.insert(number_of_name(name), index)?
+        let name = self.qualified(name)?;
+        if let Some(before) = self.last.insert(name.clone()?, index)?
             && let Some(symbol) = self.all.get_mut(before)
         {
             symbol.next = index;
+            symbol.validity = if is_set {
+                Validity::Set
+            } else {
+                Validity::Replaced
+            };
         }
-        if !is_set {
-            self.present.insert(number_of_name(name), index)?;
+        if is_set {
+            self.present.remove(&name);
+        } else {
+            self.present.insert(name.clone()?, index)?;
         }
-        let name = Vec::from_slice(self.alloc, name)?;
+        let validity = if is_set {
+            Validity::Set
+        } else {
+            Validity::Fixed
+        };
         Ok(
             self.all.push(Symbol {
                 name,
                 value,
-                is_set,
+                validity,
                 next: usize::MAX,
             })?,
         )
@@ -74,28 +120,50 @@ impl Names {
             b"-" => Label::Minus,
             name => {
                 let index = self.defined;
-                self.present.insert(number_of_name(name), index)?;
+                let name = self.qualified(name)?;
+                self.present.insert(name, index)?;
                 self.defined = index.saturating_add(1);
                 Label::Named(index)
             }
         })
     }
 
-    /// Returns whether a name may have one more symbol: if it has none, or if SET makes each.
-    pub fn may_add(&self, name: &[u8], is_set: bool) -> bool {
-        match self.last.get(&number_of_name(name)) {
-            Some(index) => is_set && self.all.get(*index).is_some_and(|symbol| symbol.is_set),
-            None => true,
+    /// Keeps that the symbols so far are those of system texts.
+    pub fn end_systems(&mut self) {
+        self.of_systems = self.all.len();
+    }
+
+    /// Begins the source, when the statements of system texts have been read anew: a name that it has itself, but for SET, means that.
+    pub fn begin_source(&mut self) -> Result<(), AllocError> {
+        for index in self.of_systems..self.all.len() {
+            if let Some(symbol) = self.all.get(index)
+                && matches!(symbol.validity, Validity::Fixed)
+            {
+                self.present.insert(symbol.name.clone()?, index)?;
+            }
         }
+        Ok(())
     }
 
-    /// Forgets what a name stands for.
-    pub fn forget(&mut self, name: &[u8]) {
-        self.present.remove(&number_of_name(name));
-    }
-
-    fn index_of(&self, name: &[u8]) -> Option<usize> {
-        self.present.get(&number_of_name(name)).copied()
+    /// Returns the symbol that a name means: with its qualifier, or else with the present one, or else without.
+    fn index_of(&self, name: &[u8]) -> Result<Option<usize>, AllocError> {
+        if name.first() == Some(&b'/') {
+            let name = name.strip_prefix(b"//").unwrap_or(name);
+            return Ok(
+                self.present
+                    .get(&Vec::from_slice(self.alloc, name)?)
+                    .copied(),
+            );
+        }
+        let full = self.qualified(name)?;
+        if self.last.contains_key(&full) {
+            return Ok(self.present.get(&full).copied());
+        }
+        Ok(
+            self.present
+                .get(&Vec::from_slice(self.alloc, name)?)
+                .copied(),
+        )
     }
 }
 
@@ -124,10 +192,10 @@ struct Reader<'a> {
 impl<'a> Reader<'a> {
     /// Returns a number, a name, a counter or a text. There is `None` if the text has something else.
     fn atom(&mut self) -> Result<Option<Atom>, AllocError> {
-        if let Some(size) = end_of_name(self.rest, 0) {
+        if let Some(size) = size_of_name(self.rest) {
             let name = self.rest.get(..size).unwrap_or(b"");
             self.rest = tail(self.rest, size);
-            return Ok(self.names.index_of(name).map(Atom::Name));
+            return self.name(name);
         }
         match self.rest {
             [b'*', after @ ..] => {
@@ -145,6 +213,15 @@ impl<'a> Reader<'a> {
                 None => self.symbols(),
             },
         }
+    }
+
+    /// Returns a name, which is written in full if it begins with a slash.
+    fn name(&self, name: &[u8]) -> Result<Option<Atom>, AllocError> {
+        let index = self.names.index_of(name)?;
+        Ok(match name.first() {
+            Some(b'/') => index.map(Atom::Qualified),
+            _ => index.map(Atom::Name),
+        })
     }
 
     /// Returns a text with R that has as many symbols as its count.
@@ -332,7 +409,7 @@ pub fn operand_of(
         return Ok(item.map(Operand::Single));
     };
     if let Some((linkage, name)) = name_after(written) {
-        let index = names.index_of(name);
+        let index = names.index_of(name)?;
         return Ok(index.map(|index| Operand::External(linkage, index)));
     }
     match (
@@ -361,7 +438,7 @@ fn width_of(alloc: Global, names: &Names, text: &[u8]) -> Result<Option<Width>, 
         return width_beyond(alloc, names, more);
     }
     if end_of_name(text, 0) == Some(text.len()) {
-        return Ok(names.index_of(text).map(Width::Named));
+        return Ok(names.index_of(text)?.map(Width::Named));
     }
     if let Some(number) = number_of(text) {
         let (radix, letters) = radix_of(number);
@@ -384,7 +461,7 @@ pub fn field_of(
     named: &[Named],
     column: usize,
 ) -> Result<Option<Operand>, AllocError> {
-    let Some(end) = find(text, 0, b'/') else {
+    let Some(end) = end_of_size(text) else {
         return Ok(None);
     };
     let size = text.get(..end).unwrap_or(b"");
@@ -479,13 +556,16 @@ pub fn text_of_display(alloc: Global, operand: &[u8]) -> Result<Option<(Text, us
     Ok(codes.map(|codes| (Text { kind, cut, codes }, end)))
 }
 
-/// Returns whether a comment may follow a text of DIS: it may be any if the text has all symbols that its count says.
-pub fn may_follow(text: &Text, comment: &[u8]) -> bool {
+/// Returns whether a comment may follow a text of DIS, before which are so many columns: it may be any behind a mark, or if the text has
+/// all symbols that its count says, or ends in the last column.
+pub fn may_follow(text: &Text, columns: usize, comment: &[u8]) -> bool {
     match &text.cut {
         Cut::Counted(digits) => {
             let (_, count) = digits_of(digits, 4);
-            comment.is_empty() || text.codes.len() == (count as usize).saturating_mul(2)
+            comment.is_empty()
+                || columns == LAST_COLUMN
+                || text.codes.len() == (count as usize).saturating_mul(2)
         }
-        Cut::Marked(_) => begins_with_blank(comment),
+        Cut::Marked(_) => true,
     }
 }

@@ -3,3 +3,4 @@ pub mod Filling
 pub mod Folds
 pub mod LastNames
 pub mod TextNumbers
+pub mod Units

@@ -1,5 +1,5 @@
 -- What operands stand for. Each is given by its terms; specs/Lines.antt says how these are written.
-use Rattle.std.specs.Prelude.{ℕ, ℤ, pos, negsuc, ◌+◌, ◌-◌, ◌^◌, ◌%◌, ◌&&◌, ◌||◌, nat_le, nat_lt, not, Bool, true, false, Option}
+use Rattle.std.specs.Prelude.{ℕ, ℤ, pos, negsuc, ◌+◌, ◌-◌, ◌^◌, ◌%◌, ◌&&◌, ◌||◌, nat_le, nat_lt, Bool, true, false, Option}
 use Rattle.std.specs.Prelude.{Some, None, List, [], ◌∷◌, slice_get, take, bit_xor, fold, if◌then◌else◌}
 use Rattle.std.specs.List.{list_all}
 use Rattle.std.specs.Prelude.{int_lt}
@@ -9,7 +9,7 @@ use Rattle.pp_meaning.specs.Numbers.{decimal_number, number_value}
 use Rattle.pp_meaning.specs.Texts.{text_number}
 use Rattle.pp_meaning.specs.declared.expressions.Base.TheVariants.{Decimal}
 use Rattle.pp_meaning.specs.declared.expressions.Atom.{Atom}
-use Rattle.pp_meaning.specs.declared.expressions.Atom.TheVariants.{Number, Name, Here, LocationCounter}
+use Rattle.pp_meaning.specs.declared.expressions.Atom.TheVariants.{Number, Name, Qualified, Here, LocationCounter}
 use Rattle.pp_meaning.specs.declared.expressions.Atom.TheVariants.{OriginCounter, Nothing, Symbols, Shifted}
 use Rattle.pp_meaning.specs.declared.expressions.Expression.{Expression}
 use Rattle.pp_meaning.specs.declared.expressions.Factor.{Factor}
@@ -21,12 +21,24 @@ use Rattle.pp_meaning.specs.declared.expressions.Sign.{Sign}
 use Rattle.pp_meaning.specs.declared.expressions.Sign.TheVariants.{Plus, Minus, Differ}
 use Rattle.pp_meaning.specs.declared.expressions.Symbol.{Symbol}
 use Rattle.pp_meaning.specs.declared.expressions.Term.{Term}
+use Rattle.pp_meaning.specs.declared.expressions.Validity.{Validity}
+use Rattle.pp_meaning.specs.declared.expressions.Validity.TheVariants.{Fixed, Set, Replaced}
 
 -- ---- expressions
 
--- A name of SET stands for what the last SET above says.
+-- Whether a symbol is defined above, and the next one of its name is not.
+abbrev pub is_last : Place → ℕ → ℕ → Bool
+is_last place index next = nat_lt index place.defined && nat_le place.defined next
+
+abbrev pub is_valid : Validity → Place → ℕ → ℕ → Bool
+is_valid Fixed place index next = true
+is_valid Set place index next = is_last place index next
+is_valid Replaced place index next = place.is_system && is_last place index next
+
+-- A name of SET stands for what the last SET above says. One that the source defines anew stands in system texts for what the last
+-- of their statements above says.
 abbrev pub is_current : Place → ℕ → Symbol → Bool
-is_current place index symbol = not symbol.is_set || (nat_lt index place.defined && nat_le place.defined symbol.next)
+is_current place index symbol = is_valid symbol.validity place index symbol.next
 
 abbrev pub named_value : Place → ℕ → Option Symbol → Option ℤ
 named_value place index None = None
@@ -41,6 +53,7 @@ shifted _ _ = None
 abbrev pub atom_value : List Symbol → Place → Atom → Option ℤ
 atom_value symbols place (Number digits radix) = number_value place.base digits.items radix
 atom_value symbols place (Name index) = named_value place index (slice_get symbols index)
+atom_value symbols place (Qualified index) = named_value place index (slice_get symbols index)
 atom_value symbols place Here = Some (pos place.location)
 atom_value symbols place LocationCounter = Some (pos place.location)
 atom_value symbols place OriginCounter = Some (pos place.origin)
@@ -109,6 +122,7 @@ decimal_above symbols place operand = value_above symbols (record place { base =
 -- Whether each name of an operand is defined above.
 abbrev pub is_atom_above : Place → Atom → Bool
 is_atom_above place (Name index) = nat_lt index place.defined
+is_atom_above place (Qualified index) = nat_lt index place.defined
 is_atom_above place _ = true
 
 abbrev pub is_factor_above : Place → Factor → Bool

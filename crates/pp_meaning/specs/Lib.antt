@@ -8,6 +8,8 @@ pub mod Literals
 pub mod Meaning
 pub mod Names
 pub mod Numbers
+pub mod Qualifiers
 pub mod Standing
 pub mod Synonyms
 pub mod Texts
+pub mod Units

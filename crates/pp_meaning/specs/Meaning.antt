@@ -1,5 +1,5 @@
 -- What the words of statements are.
-use Rattle.std.specs.Prelude.{◌≡◌, ℕ, ℤ, pos, negsuc, ◌+◌, ◌-◌, ◌*◌, ◌%◌, ◌==◌, ◌&&◌, nat_le, nat_lt, not}
+use Rattle.std.specs.Prelude.{ℕ, ℤ, pos, negsuc, ◌+◌, ◌-◌, ◌*◌, ◌%◌, ◌==◌, ◌&&◌, ◌||◌, nat_le, nat_lt, not}
 use Rattle.std.specs.Prelude.{Bool, true, false, Option, Some, None, List, [], ◌∷◌, ◌++◌, length, replicate}
 use Rattle.std.specs.Prelude.{take, drop, slice_get, slice_set, fold, if◌then◌else◌}
 use Rattle.std.specs.Ordering.{int_eq}
@@ -7,12 +7,13 @@ use Rattle.pp_notation.specs.Instructions.{form}
 use Rattle.pp_notation.specs.InstructionWords.{constant_words, one_word, then_distance}
 use Rattle.pp_notation.specs.declared.instructions.Form.{Form}
 use Rattle.pp_notation.specs.declared.instructions.Form.TheVariants.{Alone, D as OneField, Target, Constant, Indexed, Both}
-use Rattle.pp_meaning.specs.Blocks.{block_used, closed, lie_behind, nominal}
+use Rattle.pp_meaning.specs.Blocks.{block_used, lie_behind, nominal}
 use Rattle.pp_meaning.specs.Bits.{bits_left, bits_of, with_bits, words_of_bits, zeros_before}
 use Rattle.pp_meaning.specs.Expressions.{address, address_around, chosen, decimal_above, is_above, value, value_above}
 use Rattle.pp_meaning.specs.Fields.{item_field, operand_field}
 use Rattle.pp_meaning.specs.Literals.{are_placed, index_of, is_at, words_of_literals}
-use Rattle.pp_meaning.specs.Standing.{Standing, first, place_of}
+use Rattle.pp_meaning.specs.Qualifiers.{in_qualifier, qualified}
+use Rattle.pp_meaning.specs.Standing.{Standing, place_of}
 use Rattle.pp_meaning.specs.Synonyms.{named, with_synonym}
 use Rattle.pp_meaning.specs.Texts.{display, text_words}
 use Rattle.pp_meaning.specs.declared.expressions.Atom.{Atom}
@@ -26,17 +27,18 @@ use Rattle.pp_meaning.specs.declared.expressions.Operand.TheVariants.{Single, Li
 use Rattle.pp_meaning.specs.declared.expressions.Place.{Place}
 use Rattle.pp_meaning.specs.declared.expressions.Symbol.{Symbol}
 use Rattle.pp_meaning.specs.declared.expressions.Term.{Term}
+use Rattle.pp_meaning.specs.declared.expressions.Validity.{Validity}
+use Rattle.pp_meaning.specs.declared.expressions.Validity.TheVariants.{Fixed, Set as Changing, Replaced}
 use Rattle.pp_meaning.specs.declared.instruction.Words.{Words}
-use Rattle.pp_meaning.specs.declared.assembled.Image.{Image}
 use Rattle.pp_meaning.specs.declared.statements.Block.{Block}
 use Rattle.pp_meaning.specs.declared.statements.Label.{Label}
 use Rattle.pp_meaning.specs.declared.statements.Label.TheVariants.{Empty, Minus, Named}
 use Rattle.pp_meaning.specs.declared.statements.Operation.{Operation}
 use Rattle.pp_meaning.specs.declared.statements.Operation.TheVariants.{Blank, Instruction, Constants, Data, Zeros, Space, Origin}
-use Rattle.pp_meaning.specs.declared.statements.Operation.TheVariants.{Location, Equate, Set, Choose, SetBase, BaseBefore, Deck}
-use Rattle.pp_meaning.specs.declared.statements.Operation.TheVariants.{Display, Bits, Position, Shortest, Pool, Use, Synonym, End}
+use Rattle.pp_meaning.specs.declared.statements.Operation.TheVariants.{Location, Equate, Set, Choose, Count, SetBase, BaseBefore}
+use Rattle.pp_meaning.specs.declared.statements.Operation.TheVariants.{Deck, Display, Bits, Position, Shortest, Pool, Use, Synonym}
+use Rattle.pp_meaning.specs.declared.statements.Operation.TheVariants.{Qualify, End}
 use Rattle.pp_meaning.specs.declared.statements.Statement.{Statement}
-use Rattle.pp_meaning.specs.declared.statements.SystemText.{SystemText}
 
 -- ---- the words of a statement
 
@@ -184,16 +186,24 @@ with_words s (Some words) =
     })
     else None
 
--- Whether a symbol stands for a number, which another SET may change or not.
-abbrev pub is_symbol : Bool → ℤ → Option Symbol → Bool
-is_symbol is_set number None = false
-is_symbol is_set number (Some symbol) = int_eq symbol.value number && (if is_set then symbol.is_set else not symbol.is_set)
+-- SET makes a symbol that another SET may change, and other statements one that stays. In a system text both may make one that the
+-- source defines anew; if it does so by SET, that symbol is as one of SET.
+abbrev pub may_make : Bool → Bool → Validity → Bool
+may_make is_system is_set Fixed = not is_set
+may_make is_system is_set Changing = is_set || is_system
+may_make is_system is_set Replaced = is_system
+
+-- Whether a symbol stands for a number, and a statement may make it.
+abbrev pub is_symbol : Bool → Bool → ℤ → Option Symbol → Bool
+is_symbol is_system is_set number None = false
+is_symbol is_system is_set number (Some symbol) = int_eq symbol.value number && may_make is_system is_set symbol.validity
 
 -- A name that a statement defines is the next one of the symbols, and stands for this number.
 abbrev pub define : List Symbol → Bool → Standing → ℕ → Option ℤ → Option Standing
 define symbols is_set s index None = None
 define symbols is_set s index (Some number) =
-    if index == s.defined && is_symbol is_set number (slice_get symbols index) then Some (record s { defined = s.defined + 1 })
+    if index == s.defined && is_symbol s.is_system is_set number (slice_get symbols index)
+    then Some (record s { defined = s.defined + 1 })
     else None
 
 -- A label stands for the location. + and - in its place are none.
@@ -293,6 +303,7 @@ after symbols s (Named index) (Equate is_sign) (x ∷ []) = define symbols false
 after symbols s (Named index) Set (x ∷ []) = define symbols true s index (value_above symbols (place_of s) x)
 after symbols s (Named index) (Choose is_greatest) operands = define symbols true s index
     (chosen symbols (place_of s) is_greatest operands)
+after symbols s (Named index) (Count number) (Word name ∷ []) = define symbols true s index (Some (pos number))
 after symbols s label Bits operands = then_bits symbols (labelled symbols s label) label operands
 after symbols s label Position (x ∷ []) = then_position symbols (labelled symbols s label) label x
 after symbols s (Named index) (Pool address) operands = define symbols false s index (Some (pos address))
@@ -302,6 +313,7 @@ after symbols s Empty (SetBase base more) [] = Some (record s { base = Some base
 after symbols s Empty BaseBefore [] = base_before s (slice_get s.bases (length s.bases - 1))
 after symbols s Empty Deck [] = Some (record s { is_deck = true })
 after symbols s Empty (Synonym is_own) (Word old ∷ []) = Some s
+after symbols s Empty (Qualify left right) operands = qualified s operands
 after symbols s Empty End [] = Some s
 after symbols s Empty End (x ∷ []) = ended s (operand_field 12 symbols (place_of s) x)
 after symbols s label operation operands = then_words symbols (labelled symbols s label) operation operands
@@ -359,8 +371,9 @@ reached (Some s) = Some (record s { reach = if nat_lt s.reach s.origin then s.or
 abbrev pub follow : List Symbol → List Literal → List Block → Option Standing → Statement → Option Standing
 follow symbols literals blocks before statement =
     reached (with_synonym (then_after symbols blocks
-    (with_all_literals symbols literals (named before statement) statement.operation statement.operands.items) statement)
-    statement.synonym.items statement.operation statement.operands.items)
+    (with_all_literals symbols literals (named (in_qualifier before statement) statement) statement.operation
+    statement.operands.items) statement)
+    statement.word.items statement.operation statement.operands.items)
 
 -- The literals are behind the highest cell of the nominal block.
 abbrev pub with_literals : List Literal → Option Standing → Option Standing
@@ -377,38 +390,3 @@ with_blocks literals blocks None = None
 with_blocks literals blocks (Some s) =
     if s.named == length blocks && lie_behind (s.reach + length (words_of_literals literals)) blocks (drop 1 s.blocks) then Some s
     else None
-
--- A system text leaves its symbols and its names of OPSYN, and nothing else. It has no literals and no blocks.
-abbrev pub left_by : Option Standing → Option (ℕ × List (List ℕ × List ℕ))
-left_by None = None
-left_by (Some s) = Some (s.defined, s.synonyms)
-
-abbrev pub with_system : List Symbol → Option (ℕ × List (List ℕ × List ℕ)) → SystemText → Option (ℕ × List (List ℕ × List ℕ))
-with_system symbols None text = None
-with_system symbols (Some known) text =
-    left_by (fold (follow symbols [] []) (Some (first [] known.0 known.1)) text.statements.items)
-
--- How many symbols system texts define, and which names they give to operations.
-abbrev pub begun : List Symbol → List SystemText → Option (ℕ × List (List ℕ × List ℕ))
-begun symbols systems = fold (with_system symbols) (Some (0, [])) systems
-
-abbrev pub performed :
-    List Symbol → List Literal → List Block → List Statement → Option (ℕ × List (List ℕ × List ℕ)) → Option Standing
-performed symbols literals blocks statements None = None
-performed symbols literals blocks statements (Some known) =
-    fold (follow symbols literals blocks) (Some (first blocks known.0 known.1)) statements
-
-abbrev pub assembled : List Symbol → List Literal → List Block → List SystemText → List Statement → Option Standing
-assembled symbols literals blocks systems statements =
-    with_blocks literals blocks (with_literals literals
-    (closed (performed symbols literals blocks statements (begun symbols systems))))
-
--- The words are what the statements say, and each symbol is defined by one of them, or by one of a system text.
-pub record IsAssembled (symbols : List Symbol) (literals : List Literal) (blocks : List Block) (systems : List SystemText)
-    (statements : List Statement) (image : Image) : Type 0 where
-  pub after : Standing
-  pub right : assembled symbols literals blocks systems statements ≡ Some after
-  pub memory : after.memory ≡ image.memory.items
-  pub words : after.words ≡ image.words.items
-  pub start : after.start ≡ image.start
-  pub defined : after.defined ≡ length symbols

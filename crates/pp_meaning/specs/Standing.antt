@@ -1,5 +1,6 @@
 -- What there is between statements.
-use Rattle.std.specs.Prelude.{ℕ, Bool, false, if◌then◌else◌, Option, Some, None, List, [], ◌∷◌, map, replicate}
+use Rattle.std.specs.Prelude.{ℕ, Bool, if◌then◌else◌, Option, Some, None, List, ◌∷◌, Vec, map}
+use Rattle.std.specs.Global.{Global}
 use Rattle.pp_meaning.specs.declared.expressions.Base.{Base}
 use Rattle.pp_meaning.specs.declared.expressions.Base.TheVariants.{Decimal}
 use Rattle.pp_meaning.specs.declared.expressions.Place.{Place}
@@ -13,12 +14,14 @@ abbrev pub deck_base : Option Base → Base
 deck_base None = Decimal
 deck_base (Some base) = base
 
--- What there is so far: the counters, whether PERIPH says that the source is a deck, the base of numbers, those that BASE * goes
--- back to, how many symbols are defined, how many literals are named, the cell after the highest one, the memory, the words in the
+-- What there is so far: whether a system text is performed, the counters, whether PERIPH says that the source is a deck, the base of
+-- numbers, those that BASE * goes back to, how many symbols are defined, how many literals are named, the cell after the highest one, the memory, the words in the
 -- order of their statements, how many bits of the last word are used, if VFD has not filled it, or 0, and where a processor begins.
 -- Of the blocks of USE there are the present one, those that USE * goes back to, how many have been named, and their counters. The
--- synonyms are names of OPSYN, each with the name of its operation.
+-- synonyms are names of OPSYN, each with the name of its operation. The prefixes are what was before a name with the qualifiers of
+-- QUAL, that of the present one at the end.
 pub record Standing : Type 0 where
+  pub is_system : Bool
   pub location : ℕ
   pub origin : ℕ
   pub is_deck : Bool
@@ -36,6 +39,7 @@ pub record Standing : Type 0 where
   pub named : ℕ
   pub blocks : List Counters
   pub synonyms : List (List ℕ × List ℕ)
+  pub prefixes : List (List ℕ)
 
 abbrev pub place_of : Standing → Place
 place_of s = record {
@@ -43,6 +47,7 @@ place_of s = record {
   origin = s.origin;
   base = if s.is_deck then Some (deck_base s.base) else s.base;
   defined = s.defined;
+  is_system = s.is_system;
 }
 
 -- A block begins at its base, and the nominal one at cell 0.
@@ -52,33 +57,15 @@ from_cell cell = record { location = cell; origin = cell; reach = cell }
 abbrev pub first_counters : List Block → List Counters
 first_counters blocks = from_cell 0 ∷ map (λ block. from_cell block.base) blocks
 
--- Before the first statement the memory is empty. System texts have defined so many symbols, and given names to operations.
-abbrev pub first : List Block → ℕ → List (List ℕ × List ℕ) → Standing
-first blocks defined synonyms = record {
-  location = 0;
-  origin = 0;
-  is_deck = false;
-  base = None;
-  bases = [];
-  defined = defined;
-  literals = 0;
-  reach = 0;
-  memory = replicate 0o10000 None;
-  words = [];
-  used = 0;
-  start = None;
-  block = 0;
-  before = [];
-  named = 0;
-  blocks = first_counters blocks;
-  synonyms = synonyms;
-}
-
 abbrev pub synonym_pair : Synonym → List ℕ × List ℕ
 synonym_pair synonym = (synonym.name.items, synonym.operation.items)
 
+abbrev pub prefix_text : Vec ℕ Global → List ℕ
+prefix_text prefix = prefix.items
+
 abbrev pub standing : State → Standing
 standing s = record {
+  is_system = s.is_system;
   location = s.location;
   origin = s.origin;
   is_deck = s.is_deck;
@@ -96,4 +83,5 @@ standing s = record {
   named = s.named;
   blocks = s.blocks.items;
   synonyms = map synonym_pair s.synonyms.items;
+  prefixes = map prefix_text s.prefixes.items;
 }

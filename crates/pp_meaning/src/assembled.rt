@@ -1,15 +1,18 @@
-//! What the statements of a source make, behind those of its system texts.
-ghost use Rattle.std.specs.Prelude.{◌≡◌, IfOk, IfSome, None, OnOk, Some, fold, map, replicate};
-ghost use Rattle.pp_meaning.specs.Meaning.{IsAssembled, assembled, begun, follow, performed};
-ghost use Rattle.pp_meaning.specs.Meaning.{with_blocks, with_literals, with_system};
+//! What the programs of a source make, behind its system texts.
+ghost use Rattle.std.specs.Prelude.{◌≡◌, IfOk, IfSome, None, OnOk, Some, false, fold, replicate, true};
 ghost use Rattle.pp_meaning.specs.Blocks.{closed};
-ghost use Rattle.pp_meaning.specs.Standing.{first, first_counters, from_cell, standing, synonym_pair};
+ghost use Rattle.pp_meaning.specs.Meaning.{follow, with_blocks, with_literals};
+ghost use Rattle.pp_meaning.specs.Standing.{first_counters, from_cell, standing};
+ghost use Rattle.pp_meaning.specs.Units.{AreAssembled, IsAssembled, IsImage, assembled, begun, first, known, left_by, nothing_known};
+ghost use Rattle.pp_meaning.specs.Units.{performed, with_system, with_unit, without_bases};
 
 use crate::expressions::{Literal, Symbol};
-use crate::statements::{Block, CELLS, Counters, Refusal, State, Statement, Synonym, SystemText};
+use crate::statements::{
+    Block, CELLS, Counters, Left, Refusal, State, Statement, SystemText, Unit,
+};
 use std::alloc::{AllocError, Global};
 
-/// What statements make: a word or none for each cell, the words in the order of their statements, and where a processor begins.
+/// What a program makes: a word or none for each cell, the words in the order of their statements, and where a processor begins.
 #[derive(Drop)]
 pub struct Image {
     pub memory: Vec<Option<u32>>,
@@ -51,26 +54,25 @@ fn counters_from(cell: usize) -> Counters
     }
 }
 
-/// What system texts leave: how many symbols they define, and the names that they give to operations.
-#[derive(Drop)]
-struct Known {
-    defined: usize,
-    synonyms: Vec<Synonym>,
-}
-
-/// Returns what there is before the first statement.
-fn state_with(alloc: Global, blocks: &[Block], known: Known) -> Result<State, AllocError>
-    ensures { IfOk result (λ state. first blocks.now known.defined (map synonym_pair known.synonyms.items) ≡ standing state) }
+/// Returns what there is before the first statement of a unit.
+fn state_with(
+    alloc: Global,
+    is_system: bool,
+    blocks: &[Block],
+    before: Left,
+) -> Result<State, AllocError>
+    ensures { IfOk result (λ state. first is_system blocks.now (known before) ≡ standing state) }
 {
     let memory = empty_memory(alloc)?;
     let counters = counters_of(alloc, blocks)?;
     Ok(State {
+        is_system,
         location: 0,
         origin: 0,
-        is_deck: false,
-        base: None,
-        bases: Vec::new(alloc),
-        defined: known.defined,
+        is_deck: before.is_deck,
+        base: before.base,
+        bases: before.bases,
+        defined: before.defined,
         literals: 0,
         reach: 0,
         memory,
@@ -81,17 +83,40 @@ fn state_with(alloc: Global, blocks: &[Block], known: Known) -> Result<State, Al
         before: Vec::new(alloc),
         named: 0,
         blocks: counters,
-        synonyms: known.synonyms,
+        synonyms: before.synonyms,
+        prefixes: before.prefixes,
     })
 }
 
-/// Does what statements say.
+/// Returns what a unit makes, and what it leaves to the next one.
+fn parts_of(state: State) -> (Image, Left)
+    ensures image { IsImage (standing state) result.0 }
+    ensures left { known result.1 ≡ left_by (standing state) }
+{
+    let image = Image {
+        memory: state.memory,
+        words: state.words,
+        start: state.start,
+    };
+    let left = Left {
+        defined: state.defined,
+        synonyms: state.synonyms,
+        is_deck: state.is_deck,
+        base: state.base,
+        bases: state.bases,
+        prefixes: state.prefixes,
+    };
+    (image, left)
+}
+
+/// Does what the statements of a unit say, of which the number is given.
 fn follow_all(
     alloc: Global,
     state: &mut State,
     symbols: &[Symbol],
     literals: &[Literal],
     blocks: &[Block],
+    number: usize,
     statements: &[Statement],
 ) -> Result<(), Refusal>
     ensures { OnOk result (fold (follow symbols.now literals.now blocks.now) (Some (standing state.old)) statements.now ≡ Some
@@ -103,66 +128,134 @@ fn follow_all(
             .follow(alloc, symbols, literals, blocks, statement)?
             .is_none()
         {
-            return Err(Refusal::At(index));
+            return Err(Refusal::At(number, index));
         }
         index = index.saturating_add(1);
     }
     Ok(())
 }
 
-/// Returns what there is after a system text.
+/// Returns what there is after statements, of a unit with these literals and blocks.
+fn perform_all(
+    alloc: Global,
+    symbols: &[Symbol],
+    is_system: bool,
+    literals: &[Literal],
+    blocks: &[Block],
+    before: Left,
+    number: usize,
+    statements: &[Statement],
+) -> Result<State, Refusal>
+    ensures { IfOk result (λ state. fold (follow symbols.now literals.now blocks.now)
+        (Some (first is_system blocks.now (known before))) statements.now ≡ Some (standing state)) }
+{
+    let mut state = state_with(alloc, is_system, blocks, before)?;
+    follow_all(
+        alloc, &mut state, symbols, literals, blocks, number, statements,
+    )?;
+    Ok(state)
+}
+
+/// Returns what there is after the statements of a unit.
+fn perform_unit(
+    alloc: Global,
+    symbols: &[Symbol],
+    is_system: bool,
+    before: Left,
+    number: usize,
+    unit: &Unit,
+) -> Result<State, Refusal>
+    ensures { IfOk result (λ state. performed symbols.now is_system (known before) unit.now ≡ Some (standing state)) }
+{
+    perform_all(
+        alloc,
+        symbols,
+        is_system,
+        &unit.literals,
+        &unit.blocks,
+        before,
+        number,
+        &unit.statements,
+    )
+}
+
+/// Returns what a unit of a system text leaves.
+fn after_unit(alloc: Global, symbols: &[Symbol], before: Left, unit: &Unit) -> Result<Left, Refusal>
+    ensures { IfOk result (λ left. with_unit symbols.now (Some (known before)) unit.now ≡ Some (known left)) }
+{
+    let state = perform_unit(alloc, symbols, true, before, 0, unit)?;
+    let (_, left) = parts_of(state);
+    Ok(left)
+}
+
+/// Returns what the units of a system text leave.
+fn after_units(
+    alloc: Global,
+    symbols: &[Symbol],
+    before: Left,
+    units: &[Unit],
+) -> Result<Left, Refusal>
+    ensures { IfOk result (λ left. fold (with_unit symbols.now) (Some (known before)) units.now ≡ Some (known left)) }
+{
+    let mut left = before;
+    for unit in units {
+        left = after_unit(alloc, symbols, left, unit)?;
+    }
+    Ok(left)
+}
+
+/// Returns what units leave as those of a system text: symbols and names of OPSYN.
+fn as_of_system(alloc: Global, left: Left) -> Left
+    ensures { without_bases (Some (known left)) ≡ Some (known result) }
+{
+    Left {
+        defined: left.defined,
+        synonyms: left.synonyms,
+        is_deck: false,
+        base: None,
+        bases: Vec::new(alloc),
+        prefixes: Vec::new(alloc),
+    }
+}
+
+/// Returns what a system text leaves.
 fn after_system(
     alloc: Global,
     symbols: &[Symbol],
-    before: Known,
+    before: Left,
     text: &SystemText,
-) -> Result<Known, Refusal>
-    ensures { IfOk result (λ after. with_system symbols.now (Some (before.defined, map synonym_pair before.synonyms.items)) text.now
-        ≡ Some (after.defined, map synonym_pair after.synonyms.items)) }
+) -> Result<Left, Refusal>
+    ensures { IfOk result (λ left. with_system symbols.now (Some (known before)) text.now ≡ Some (known left)) }
 {
-    let mut state = state_with(alloc, &[], before)?;
-    match follow_all(alloc, &mut state, symbols, &[], &[], &text.statements) {
-        Ok(()) => Ok(Known {
-            defined: state.defined,
-            synonyms: state.synonyms,
-        }),
+    match after_units(alloc, symbols, before, &text.units) {
+        Ok(left) => Ok(as_of_system(alloc, left)),
         Err(refusal) => Err(refusal.of_system()),
     }
 }
 
-/// Returns what system texts leave.
-fn after_systems(
-    alloc: Global,
-    symbols: &[Symbol],
-    systems: &[SystemText],
-) -> Result<Known, Refusal>
-    ensures { IfOk result (λ known. begun symbols.now systems.now ≡ Some (known.defined, map synonym_pair known.synonyms.items)) }
+/// Returns what there is before the first system text.
+fn nothing(alloc: Global) -> Left
+    ensures { known result ≡ nothing_known }
 {
-    let mut known = Known {
+    Left {
         defined: 0,
         synonyms: Vec::new(alloc),
-    };
-    for text in systems {
-        known = after_system(alloc, symbols, known, text)?;
+        is_deck: false,
+        base: None,
+        bases: Vec::new(alloc),
+        prefixes: Vec::new(alloc),
     }
-    Ok(known)
 }
 
-/// Returns what there is after statements.
-fn perform_all(
-    alloc: Global,
-    symbols: &[Symbol],
-    literals: &[Literal],
-    blocks: &[Block],
-    known: Known,
-    statements: &[Statement],
-) -> Result<State, Refusal>
-    ensures { IfOk result (λ state. performed symbols.now literals.now blocks.now statements.now
-        (Some (known.defined, map synonym_pair known.synonyms.items)) ≡ Some (standing state)) }
+/// Returns what system texts leave.
+fn after_systems(alloc: Global, symbols: &[Symbol], systems: &[SystemText]) -> Result<Left, Refusal>
+    ensures { IfOk result (λ left. begun symbols.now systems.now ≡ Some (known left)) }
 {
-    let mut state = state_with(alloc, blocks, known)?;
-    follow_all(alloc, &mut state, symbols, literals, blocks, statements)?;
-    Ok(state)
+    let mut left = nothing(alloc);
+    for text in systems {
+        left = after_system(alloc, symbols, left, text)?;
+    }
+    Ok(left)
 }
 
 /// Goes on behind the last statement: with the literals, and the blocks.
@@ -181,44 +274,57 @@ fn end(
     Ok(state.has_blocks(literals, blocks))
 }
 
-/// Returns what there is after statements, literals and blocks.
-fn assemble_all(
+/// Returns what there is after the statements of a unit, its literals and its blocks.
+fn assemble_unit(
     alloc: Global,
     symbols: &[Symbol],
-    literals: &[Literal],
-    blocks: &[Block],
-    systems: &[SystemText],
-    statements: &[Statement],
+    before: Left,
+    number: usize,
+    unit: &Unit,
 ) -> Result<State, Refusal>
-    ensures { IfOk result (λ state. assembled symbols.now literals.now blocks.now systems.now statements.now ≡ Some
-        (standing state)) }
+    ensures { IfOk result (λ state. assembled symbols.now (known before) unit.now ≡ Some (standing state)) }
 {
-    let known = after_systems(alloc, symbols, systems)?;
-    let mut state = perform_all(alloc, symbols, literals, blocks, known, statements)?;
-    match end(alloc, &mut state, literals, blocks)? {
+    let mut state = perform_unit(alloc, symbols, false, before, number, unit)?;
+    match end(alloc, &mut state, &unit.literals, &unit.blocks)? {
         Some(()) => Ok(state),
-        None => Err(Refusal::At(statements.len())),
+        None => Err(Refusal::At(number, unit.statements.len())),
     }
 }
 
-/// Returns what statements make.
-pub fn image_of(
+/// Returns what units make, behind others.
+fn images_behind(
     alloc: Global,
     symbols: &[Symbol],
-    literals: &[Literal],
-    blocks: &[Block],
-    systems: &[SystemText],
-    statements: &[Statement],
-) -> Result<Image, Refusal>
-    ensures { IfOk result (λ image. IsAssembled symbols.now literals.now blocks.now systems.now statements.now image) }
+    before: Left,
+    units: &[Unit],
+) -> Result<Vec<Image>, Refusal>
+    ensures { IfOk result (λ images. AreAssembled symbols.now (known before) units.now images.items) }
 {
-    let state = assemble_all(alloc, symbols, literals, blocks, systems, statements)?;
-    if state.defined != symbols.len() {
-        return Err(Refusal::At(statements.len()));
+    let mut images = Vec::new(alloc);
+    let mut left = before;
+    let mut number: usize = 0;
+    for unit in units {
+        let state = assemble_unit(alloc, symbols, left, number, unit)?;
+        let (image, rest) = parts_of(state);
+        images.push(image)?;
+        left = rest;
+        number = number.saturating_add(1);
     }
-    Ok(Image {
-        memory: state.memory,
-        words: state.words,
-        start: state.start,
-    })
+    if left.defined != symbols.len() {
+        return Err(Refusal::At(number, 0));
+    }
+    Ok(images)
+}
+
+/// Returns what the units of a source make.
+pub fn images_of(
+    alloc: Global,
+    symbols: &[Symbol],
+    systems: &[SystemText],
+    units: &[Unit],
+) -> Result<Vec<Image>, Refusal>
+    ensures { IfOk result (λ images. IsAssembled symbols.now systems.now units.now images.items) }
+{
+    let left = after_systems(alloc, symbols, systems)?;
+    images_behind(alloc, symbols, left, units)
 }

@@ -1,5 +1,5 @@
 //! Statements that move the counters, name numbers or say how others are meant.
-ghost use Rattle.std.specs.Prelude.{◌≡◌, ◌∷◌, IfOk, IfSome, OnOk, Some, [], true};
+ghost use Rattle.std.specs.Prelude.{◌≡◌, ◌∷◌, IfOk, IfSome, OnOk, Some, [], pos, true};
 ghost use Rattle.pp_meaning.specs.Expressions.{address, chosen, value_above};
 ghost use Rattle.pp_meaning.specs.Meaning.{after, at, cells_on, define, moved};
 ghost use Rattle.pp_meaning.specs.Standing.{place_of, standing};
@@ -139,6 +139,15 @@ impl State {
             (chosen symbols.now (place_of (standing self.old)) is_greatest operands.now) ≡ Some (standing self.new)) }
     {
         let number = chosen_value(symbols, self.place(), is_greatest, operands)?;
+        self.define(symbols, index, true, number)
+    }
+
+    /// MICCNT.
+    pub(crate) fn count(&mut self, symbols: &[Symbol], index: usize, number: usize) -> Option<()>
+        ensures { IfSome result (λ done. define symbols.now true (standing self.old) index (Some (pos number)) ≡ Some
+            (standing self.new)) }
+    {
+        let number = i64::try_from(number).ok()?;
         self.define(symbols, index, true, number)
     }
 

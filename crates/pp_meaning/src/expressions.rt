@@ -4,7 +4,7 @@ ghost use Rattle.std.specs.List.{list_all};
 ghost use Rattle.pp_meaning.specs.declared.expressions.Base.TheVariants.{Decimal};
 ghost use Rattle.pp_meaning.specs.Expressions.{are_signed, better, choose, chosen, decimal_above, is_above};
 ghost use Rattle.pp_meaning.specs.Expressions.{is_atom_above, is_factor_above, is_term_above, sum, atom_value};
-ghost use Rattle.pp_meaning.specs.Expressions.{is_current, is_plus, named_value, plus, shifted, product, times};
+ghost use Rattle.pp_meaning.specs.Expressions.{is_current, is_last, is_plus, named_value, plus, shifted, product, times};
 ghost use Rattle.pp_meaning.specs.Expressions.{value, value_above, with_choice, with_factor, with_term};
 
 use crate::numbers::{product_of, shifted_by, sum_of, value_of};
@@ -29,14 +29,24 @@ pub enum Radix {
     Plain,
 }
 
+/// Where a symbol stands for its number.
+#[derive(Clone, Copy)]
+pub enum Validity {
+    /// Everywhere.
+    Fixed,
+    /// Up to the next symbol of its name, which SET makes.
+    Set,
+    /// In system texts, up to the next symbol of its name. The source, or a later system text, defines that one.
+    Replaced,
+}
+
 /// A name, and the number that it stands for.
 #[derive(Drop)]
 pub struct Symbol {
     pub name: Vec<u8>,
     pub value: i64,
-    /// Another SET may give it another number.
-    pub is_set: bool,
-    /// The index of the symbol that the next SET of the name makes, or one that no symbol has.
+    pub validity: Validity,
+    /// The index of the next symbol of the name, or one that no symbol has.
     pub next: usize,
 }
 
@@ -47,6 +57,8 @@ pub enum Atom {
     Number(Vec<u8>, Radix),
     /// The name at an index among the symbols.
     Name(usize),
+    /// The same, written in full: with its qualifier, or with `//` if it has none.
+    Qualified(usize),
     /// `*`, the location counter.
     Here,
     /// `*L`, the location counter.
@@ -156,6 +168,8 @@ pub struct Place {
     pub origin: usize,
     pub base: Option<Base>,
     pub defined: usize,
+    /// A system text is performed.
+    pub is_system: bool,
 }
 
 /// Returns a counter as a number.
@@ -165,11 +179,22 @@ pub fn counter(cell: usize) -> Option<i64>
     i64::try_from(cell).ok()
 }
 
+/// Returns whether a symbol at an index is defined above, and the next one of its name is not.
+fn is_last(place: Place, index: usize, next: usize) -> bool
+    ensures { result ≡ is_last place index next }
+{
+    index < place.defined && place.defined <= next
+}
+
 /// Returns whether a symbol at an index has its present number.
 fn is_current_at(place: Place, index: usize, symbol: &Symbol) -> bool
     ensures { result ≡ is_current place index symbol.now }
 {
-    !symbol.is_set || index < place.defined && place.defined <= symbol.next
+    match symbol.validity {
+        Validity::Fixed => true,
+        Validity::Set => is_last(place, index, symbol.next),
+        Validity::Replaced => place.is_system && is_last(place, index, symbol.next),
+    }
 }
 
 /// Returns what the name at an index stands for.
@@ -188,7 +213,7 @@ fn value_of_atom(symbols: &[Symbol], place: Place, atom: &Atom) -> Option<i64>
 {
     match atom {
         Atom::Number(digits, radix) => value_of(digits, *radix, place.base),
-        Atom::Name(index) => name_value(symbols, place, *index),
+        Atom::Name(index) | Atom::Qualified(index) => name_value(symbols, place, *index),
         Atom::Here | Atom::LocationCounter => counter(place.location),
         Atom::OriginCounter => counter(place.origin),
         Atom::Nothing => Some(0),
@@ -317,7 +342,7 @@ fn is_known_atom(place: Place, atom: &Atom) -> bool
     ensures { result ≡ is_atom_above place atom.now }
 {
     match atom {
-        Atom::Name(index) => *index < place.defined,
+        Atom::Name(index) | Atom::Qualified(index) => *index < place.defined,
         _ => true,
     }
 }

@@ -17,6 +17,7 @@ mod naming;
 mod numbers;
 mod performing;
 mod program;
+mod qualifiers;
 mod state;
 mod statements;
 mod synonyms;
@@ -27,10 +28,10 @@ pub use assembled::Image;
 pub use encoder::encode;
 pub use expressions::{
     Atom, Base, Expression, Factor, Item, Linkage, Literal, Operand, Place, Radix, Sign, Symbol,
-    Term, Width,
+    Term, Validity, Width,
 };
 pub use program::program_of;
 pub use statements::{
-    Block, Counters, Label, Operation, Refusal, State, Statement, Synonym, SystemText,
+    Block, Counters, Label, Left, Operation, Refusal, State, Statement, Synonym, SystemText, Unit,
 };
 pub use texts::{Cut, Kind, Text};

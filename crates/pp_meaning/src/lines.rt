@@ -1,13 +1,15 @@
 //! How statements are written.
 ghost use Rattle.std.specs.Prelude.{◌≡◌, ◌∷◌, ◌++◌, [], codes, drop, slice_get, IfOk, IfSome, IsTrue, OnOk, ◌&&◌, ◌==◌, ◌||◌, not};
-ghost use Rattle.std.specs.Prelude.{length, map, take, ◌+◌, true};
+ghost use Rattle.std.specs.Prelude.{length, map, replicate, take, ◌+◌, true};
 ghost use Rattle.std.specs.List.{AllByRecursion, flat_map, list_all};
 ghost use Rattle.pp_meaning.specs.declared.statements.Operation.TheVariants.{Instruction};
-ghost use Rattle.pp_meaning.specs.Lines.{AreWritten, IsWritten, atom_text, base_name, begins_blank, external_letter};
+ghost use Rattle.pp_meaning.specs.Lines.{AreAllWritten, AreWritten, IsWritten, atom_text, base_name, begins_blank, external_letter};
 ghost use Rattle.pp_meaning.specs.Lines.{external_text, factor_text, follows_display, item_text, literal_text, up_to};
-ghost use Rattle.pp_meaning.specs.Lines.{follows_text, is_blank, is_comment, is_cut, is_gap, is_margin, is_synonym, is_wide};
+ghost use Rattle.pp_meaning.specs.Lines.{follows_text, has_no_blank, is_blank, is_comment, is_cut, is_gap, is_in_place};
+ghost use Rattle.pp_meaning.specs.Lines.{is_label, is_margin, is_wide};
 ghost use Rattle.pp_meaning.specs.Lines.{kind_letter, label_text, letter, line_text, operand_text, operands_text, operation_name};
-ghost use Rattle.pp_meaning.specs.Lines.{sign_text, sum_text, symbol_name, term_text, variable, width_text};
+ghost use Rattle.pp_meaning.specs.Lines.{sign_text, sum_text, term_text, variable, width_text};
+ghost use Rattle.pp_meaning.specs.Qualifiers.{names_in};
 ghost use Rattle.pp_notation.specs.DisplayCode.{symbol};
 ghost use Rattle.pp_meaning.specs.Numbers.{decimal_number};
 ghost use Rattle.pp_meaning.specs.Texts.{has_all, text_with};
@@ -16,10 +18,14 @@ use crate::expressions::{
     Atom, Base, Expression, Factor, Item, Linkage, Operand, Radix, Sign, Symbol, Term, Width,
 };
 use crate::numbers::decimal_value;
-use crate::statements::{Label, Operation, Refusal, Statement, SystemText};
+use crate::qualifiers::Scope;
+use crate::statements::{Label, Operation, Refusal, Statement, SystemText, Unit};
 use crate::texts::{Cut, Kind, Text, has_no_mark, put_codes, put_text};
 use pp_notation::name_of;
 use std::alloc::{AllocError, Global};
+
+/// The last column of a statement.
+const LAST_COLUMN: usize = 72;
 
 /// Returns the letter of a number.
 fn letter_of(radix: Radix) -> &'static [u8]
@@ -33,16 +39,6 @@ fn letter_of(radix: Radix) -> &'static [u8]
     }
 }
 
-/// Returns the name of the symbol at an index.
-fn name_at(symbols: &[Symbol], index: usize) -> &[u8]
-    ensures { result.now ≡ symbol_name (slice_get symbols.now index) }
-{
-    match symbols.get(index) {
-        Some(symbol) => &symbol.name,
-        None => b"",
-    }
-}
-
 /// Writes symbols as a number.
 fn put_symbols(out: &mut Vec<u8>, digits: &[u8], items: &[u8]) -> Result<(), AllocError>
     ensures { OnOk result (out.new.items ≡ out.old.items ++ digits.now ++ codes "R" ++ map symbol items.now) }
@@ -53,15 +49,16 @@ fn put_symbols(out: &mut Vec<u8>, digits: &[u8], items: &[u8]) -> Result<(), All
 }
 
 /// Writes an atom.
-fn put_atom(out: &mut Vec<u8>, symbols: &[Symbol], atom: &Atom) -> Result<(), AllocError>
-    ensures { OnOk result (out.new.items ≡ out.old.items ++ atom_text symbols.now atom.now) }
+fn put_atom(out: &mut Vec<u8>, scope: &Scope, atom: &Atom) -> Result<(), AllocError>
+    ensures { OnOk result (out.new.items ≡ out.old.items ++ atom_text (names_in scope.now) atom.now) }
 {
     match atom {
         Atom::Number(digits, radix) => {
             out.extend_from_slice(digits)?;
             out.extend_from_slice(letter_of(*radix))
         }
-        Atom::Name(index) => out.extend_from_slice(name_at(symbols, *index)),
+        Atom::Name(index) => scope.put_short(out, *index),
+        Atom::Qualified(index) => scope.put_full(out, *index),
         Atom::Here => out.extend_from_slice(b"*"),
         Atom::LocationCounter => out.extend_from_slice(b"*L"),
         Atom::OriginCounter => out.extend_from_slice(b"*O"),
@@ -77,19 +74,19 @@ fn put_atom(out: &mut Vec<u8>, symbols: &[Symbol], atom: &Atom) -> Result<(), Al
 }
 
 /// Writes a factor with its operator.
-fn put_factor(out: &mut Vec<u8>, symbols: &[Symbol], factor: &Factor) -> Result<(), AllocError>
-    ensures { OnOk result (out.new.items ≡ out.old.items ++ factor_text symbols.now factor.now) }
+fn put_factor(out: &mut Vec<u8>, scope: &Scope, factor: &Factor) -> Result<(), AllocError>
+    ensures { OnOk result (out.new.items ≡ out.old.items ++ factor_text (names_in scope.now) factor.now) }
 {
     out.push(if factor.is_quotient { b'/' } else { b'*' })?;
-    put_atom(out, symbols, &factor.atom)
+    put_atom(out, scope, &factor.atom)
 }
 
 /// Writes factors.
-fn put_factors(out: &mut Vec<u8>, symbols: &[Symbol], factors: &[Factor]) -> Result<(), AllocError>
-    ensures { OnOk result (out.new.items ≡ out.old.items ++ flat_map (factor_text symbols.now) factors.now) }
+fn put_factors(out: &mut Vec<u8>, scope: &Scope, factors: &[Factor]) -> Result<(), AllocError>
+    ensures { OnOk result (out.new.items ≡ out.old.items ++ flat_map (factor_text (names_in scope.now)) factors.now) }
 {
     for factor in factors {
-        put_factor(out, symbols, factor)?;
+        put_factor(out, scope, factor)?;
     }
     Ok(())
 }
@@ -105,21 +102,21 @@ fn symbol_of_sign(sign: Sign) -> u8
 }
 
 /// Writes a term with its sign.
-fn put_term(out: &mut Vec<u8>, symbols: &[Symbol], term: &Term) -> Result<(), AllocError>
-    ensures { OnOk result (out.new.items ≡ out.old.items ++ term_text symbols.now term.now) }
+fn put_term(out: &mut Vec<u8>, scope: &Scope, term: &Term) -> Result<(), AllocError>
+    ensures { OnOk result (out.new.items ≡ out.old.items ++ term_text (names_in scope.now) term.now) }
 {
     out.push(symbol_of_sign(term.sign))?;
-    put_atom(out, symbols, &term.atom)?;
-    put_factors(out, symbols, &term.factors)
+    put_atom(out, scope, &term.atom)?;
+    put_factors(out, scope, &term.factors)
 }
 
 /// Returns terms, each with its sign.
-fn terms_text(alloc: Global, symbols: &[Symbol], terms: &[Term]) -> Result<Vec<u8>, AllocError>
-    ensures { IfOk result (λ text. text.items ≡ flat_map (term_text symbols.now) terms.now) }
+fn terms_text(alloc: Global, scope: &Scope, terms: &[Term]) -> Result<Vec<u8>, AllocError>
+    ensures { IfOk result (λ text. text.items ≡ flat_map (term_text (names_in scope.now)) terms.now) }
 {
     let mut out = Vec::new(alloc);
     for term in terms {
-        put_term(&mut out, symbols, term)?;
+        put_term(&mut out, scope, term)?;
     }
     Ok(out)
 }
@@ -138,12 +135,12 @@ fn without_first(text: &[u8]) -> &[u8]
 fn put_sum(
     alloc: Global,
     out: &mut Vec<u8>,
-    symbols: &[Symbol],
+    scope: &Scope,
     x: &Expression,
 ) -> Result<(), AllocError>
-    ensures { OnOk result (out.new.items ≡ out.old.items ++ sum_text symbols.now x.now) }
+    ensures { OnOk result (out.new.items ≡ out.old.items ++ sum_text (names_in scope.now) x.now) }
 {
-    let signed = terms_text(alloc, symbols, &x.terms)?;
+    let signed = terms_text(alloc, scope, &x.terms)?;
     if x.has_sign {
         return out.extend_from_slice(&signed);
     }
@@ -165,16 +162,11 @@ fn letter_of_text(kind: Kind) -> &'static [u8]
 }
 
 /// Writes an expression or a text.
-fn put_item(
-    alloc: Global,
-    out: &mut Vec<u8>,
-    symbols: &[Symbol],
-    item: &Item,
-) -> Result<(), AllocError>
-    ensures { OnOk result (out.new.items ≡ out.old.items ++ item_text symbols.now item.now) }
+fn put_item(alloc: Global, out: &mut Vec<u8>, scope: &Scope, item: &Item) -> Result<(), AllocError>
+    ensures { OnOk result (out.new.items ≡ out.old.items ++ item_text (names_in scope.now) item.now) }
 {
     match item {
-        Item::Sum(x) => put_sum(alloc, out, symbols, x),
+        Item::Sum(x) => put_sum(alloc, out, scope, x),
         Item::Characters(text) => put_text(out, letter_of_text(text.kind), text),
         Item::Nothing => Ok(()),
     }
@@ -184,22 +176,22 @@ fn put_item(
 fn put_width(
     alloc: Global,
     out: &mut Vec<u8>,
-    symbols: &[Symbol],
+    scope: &Scope,
     width: &Width,
 ) -> Result<(), AllocError>
-    ensures { OnOk result (out.new.items ≡ out.old.items ++ width_text symbols.now width.now) }
+    ensures { OnOk result (out.new.items ≡ out.old.items ++ width_text (names_in scope.now) width.now) }
 {
     match width {
         Width::Digits(digits, radix) => {
             out.extend_from_slice(digits)?;
             out.extend_from_slice(letter_of(*radix))
         }
-        Width::Named(index) => out.extend_from_slice(name_at(symbols, *index)),
+        Width::Named(index) => scope.put_short(out, *index),
         Width::Rest => out.extend_from_slice(b"*P"),
-        Width::Count(x) => put_sum(alloc, out, symbols, x),
+        Width::Count(x) => put_sum(alloc, out, scope, x),
         Width::Beyond(x) => {
             out.extend_from_slice(b"*P")?;
-            put_sum(alloc, out, symbols, x)
+            put_sum(alloc, out, scope, x)
         }
     }
 }
@@ -219,56 +211,56 @@ fn letter_of_name(linkage: Linkage) -> &'static [u8]
 fn put_literal(
     alloc: Global,
     out: &mut Vec<u8>,
-    symbols: &[Symbol],
+    scope: &Scope,
     item: &Item,
 ) -> Result<(), AllocError>
-    ensures { OnOk result (out.new.items ≡ out.old.items ++ literal_text symbols.now item.now) }
+    ensures { OnOk result (out.new.items ≡ out.old.items ++ literal_text (names_in scope.now) item.now) }
 {
     out.push(b'=')?;
-    put_item(alloc, out, symbols, item)
+    put_item(alloc, out, scope, item)
 }
 
 /// Writes the name of a symbol that may be one of another program.
 fn put_external(
     out: &mut Vec<u8>,
-    symbols: &[Symbol],
+    scope: &Scope,
     linkage: Linkage,
     index: usize,
 ) -> Result<(), AllocError>
-    ensures { OnOk result (out.new.items ≡ out.old.items ++ external_text symbols.now linkage index) }
+    ensures { OnOk result (out.new.items ≡ out.old.items ++ external_text (names_in scope.now) linkage index) }
 {
     out.push(b'=')?;
     out.extend_from_slice(letter_of_name(linkage))?;
-    out.extend_from_slice(name_at(symbols, index))
+    scope.put_short(out, index)
 }
 
 /// Writes an operand.
 fn put_operand(
     alloc: Global,
     out: &mut Vec<u8>,
-    symbols: &[Symbol],
+    scope: &Scope,
     operand: &Operand,
 ) -> Result<(), AllocError>
-    ensures { OnOk result (out.new.items ≡ out.old.items ++ operand_text symbols.now operand.now) }
+    ensures { OnOk result (out.new.items ≡ out.old.items ++ operand_text (names_in scope.now) operand.now) }
 {
     match operand {
-        Operand::Single(item) => put_item(alloc, out, symbols, item),
-        Operand::Literal(_, item) => put_literal(alloc, out, symbols, item),
-        Operand::External(linkage, index) => put_external(out, symbols, *linkage, *index),
+        Operand::Single(item) => put_item(alloc, out, scope, item),
+        Operand::Literal(_, item) => put_literal(alloc, out, scope, item),
+        Operand::External(linkage, index) => put_external(out, scope, *linkage, *index),
         Operand::Bits(width, item) => {
-            put_width(alloc, out, symbols, width)?;
+            put_width(alloc, out, scope, width)?;
             out.push(b'/')?;
-            put_item(alloc, out, symbols, item)
+            put_item(alloc, out, scope, item)
         }
         Operand::LiteralBits(width, _, item) => {
-            put_width(alloc, out, symbols, width)?;
+            put_width(alloc, out, scope, width)?;
             out.push(b'/')?;
-            put_literal(alloc, out, symbols, item)
+            put_literal(alloc, out, scope, item)
         }
         Operand::ExternalBits(width, linkage, index) => {
-            put_width(alloc, out, symbols, width)?;
+            put_width(alloc, out, scope, width)?;
             out.push(b'/')?;
-            put_external(out, symbols, *linkage, *index)
+            put_external(out, scope, *linkage, *index)
         }
         Operand::Word(name) => out.extend_from_slice(name),
     }
@@ -284,17 +276,14 @@ fn text_of_display(alloc: Global, text: &Text) -> Result<Vec<u8>, AllocError>
 }
 
 /// Returns operands, each after a comma.
-fn with_commas(
-    alloc: Global,
-    symbols: &[Symbol],
-    operands: &[Operand],
-) -> Result<Vec<u8>, AllocError>
-    ensures { IfOk result (λ text. text.items ≡ flat_map (λ operand. codes "," ++ operand_text symbols.now operand) operands.now) }
+fn with_commas(alloc: Global, scope: &Scope, operands: &[Operand]) -> Result<Vec<u8>, AllocError>
+    ensures { IfOk result (λ text. text.items ≡ flat_map (λ operand. codes "," ++ operand_text (names_in scope.now) operand)
+        operands.now) }
 {
     let mut out = Vec::new(alloc);
     for operand in operands {
         out.push(b',')?;
-        put_operand(alloc, &mut out, symbols, operand)?;
+        put_operand(alloc, &mut out, scope, operand)?;
     }
     Ok(out)
 }
@@ -302,12 +291,12 @@ fn with_commas(
 /// Returns operands with a comma between two.
 fn text_of_operands(
     alloc: Global,
-    symbols: &[Symbol],
+    scope: &Scope,
     operands: &[Operand],
 ) -> Result<Vec<u8>, AllocError>
-    ensures { IfOk result (λ text. text.items ≡ operands_text symbols.now operands.now) }
+    ensures { IfOk result (λ text. text.items ≡ operands_text (names_in scope.now) operands.now) }
 {
-    let all = with_commas(alloc, symbols, operands)?;
+    let all = with_commas(alloc, scope, operands)?;
     Vec::from_slice(alloc, without_first(&all))
 }
 
@@ -331,14 +320,29 @@ fn beginning(base: Base, more: u8) -> &'static [u8]
     &name[..count.min(name.len())]
 }
 
+/// Returns a qualifier with slashes before it and behind it.
+fn text_of_qualifier(
+    alloc: Global,
+    before: u8,
+    name: &[u8],
+    after: u8,
+) -> Result<Vec<u8>, AllocError>
+    ensures { IfOk result (λ text. text.items ≡ replicate before 47 ++ name.now ++ replicate after 47) }
+{
+    let mut text = vec![in alloc; b'/'; usize::from(before)]?;
+    text.extend_from_slice(name)?;
+    text.extend_from_slice(&vec![in alloc; b'/'; usize::from(after)]?)?;
+    Ok(text)
+}
+
 /// Returns what an operation has as operands.
 fn variable_of(
     alloc: Global,
-    symbols: &[Symbol],
+    scope: &Scope,
     operation: Operation,
     operands: &[Operand],
 ) -> Result<Vec<u8>, AllocError>
-    ensures { IfOk result (λ text. text.items ≡ variable symbols.now operation operands.now) }
+    ensures { IfOk result (λ text. text.items ≡ variable (names_in scope.now) operation operands.now) }
 {
     match (operation, operands) {
         (Operation::SetBase(base, more), _) => Vec::from_slice(alloc, beginning(base, more)),
@@ -346,7 +350,10 @@ fn variable_of(
         (Operation::Display, [Operand::Single(Item::Characters(text))]) => text_of_display(
             alloc, text,
         ),
-        _ => text_of_operands(alloc, symbols, operands),
+        (Operation::Qualify(before, after), [Operand::Word(name)]) => text_of_qualifier(
+            alloc, before, name, after,
+        ),
+        _ => text_of_operands(alloc, scope, operands),
     }
 }
 
@@ -379,6 +386,7 @@ pub fn name_of_operation(operation: Operation) -> Option<&'static [u8]>
         Operation::Set => Some(b"SET"),
         Operation::Choose(true) => Some(b"MAX"),
         Operation::Choose(false) => Some(b"MIN"),
+        Operation::Count(_) => Some(b"MICCNT"),
         Operation::SetBase(..) | Operation::BaseBefore => Some(b"BASE"),
         Operation::Deck => Some(b"PERIPH"),
         Operation::Display => Some(b"DIS"),
@@ -389,37 +397,38 @@ pub fn name_of_operation(operation: Operation) -> Option<&'static [u8]>
         Operation::Pool(_) => Some(b"LIT"),
         Operation::Use => Some(b"USE"),
         Operation::Synonym(_) => Some(b"OPSYN"),
+        Operation::Qualify(..) => Some(b"QUAL"),
         Operation::End => Some(b"END"),
     }
 }
 
 /// Returns the text of a label.
-fn text_of_label(symbols: &[Symbol], label: Label) -> &[u8]
-    ensures { result.now ≡ label_text symbols.now label }
+fn text_of_label<'a>(scope: &Scope<'a>, label: Label) -> &'a [u8]
+    ensures { result.now ≡ label_text (names_in scope.now) label }
 {
     match label {
         Label::Empty => b"",
         Label::Plus => b"+",
         Label::Minus => b"-",
-        Label::Named(index) => name_at(symbols, index),
+        Label::Named(index) => scope.label_at(index),
     }
 }
 
 /// Returns the line that has the fields of a statement.
 fn text_of_line(
     alloc: Global,
-    symbols: &[Symbol],
+    scope: &Scope,
     statement: &Statement,
     variable: &[u8],
 ) -> Result<Vec<u8>, AllocError>
-    ensures { IfOk result (λ line. line.items ≡ statement.now.margin.items ++ label_text symbols.now statement.now.label
-        ++ statement.now.synonym.items ++ statement.now.gap.items ++ statement.now.name.items ++ statement.now.space.items
+    ensures { IfOk result (λ line. line.items ≡ statement.now.margin.items ++ label_text (names_in scope.now) statement.now.label
+        ++ statement.now.word.items ++ statement.now.gap.items ++ statement.now.name.items ++ statement.now.space.items
         ++ variable.now ++ statement.now.comment.items) }
 {
     let mut line = Vec::new(alloc);
     line.extend_from_slice(&statement.margin)?;
-    line.extend_from_slice(text_of_label(symbols, statement.label))?;
-    line.extend_from_slice(&statement.synonym)?;
+    line.extend_from_slice(text_of_label(scope, statement.label))?;
+    line.extend_from_slice(&statement.word)?;
     line.extend_from_slice(&statement.gap)?;
     line.extend_from_slice(&statement.name)?;
     line.extend_from_slice(&statement.space)?;
@@ -465,29 +474,34 @@ fn is_wide_gap(text: &[u8]) -> bool
 
 /// Returns whether a text has no blank.
 fn has_no_blank(text: &[u8]) -> bool
-    ensures { result ≡ list_all (λ byte. not (is_blank byte)) text.now }
+    ensures { result ≡ has_no_blank text.now }
 {
     text.iter().all(|byte| *byte != b' ' && *byte != b'\t')
 }
 
-/// Returns whether what is in place of a label is a word of OPSYN, or nothing.
-fn has_synonym(operation: Operation, name: &[u8]) -> bool
-    ensures { result ≡ is_synonym operation name.now }
+/// Returns whether a word may be in place of a label.
+fn may_be_in_place(operation: Operation, word: &[u8]) -> bool
+    ensures { result ≡ is_in_place operation word.now }
 {
     match operation {
-        Operation::Synonym(_) => !name.is_empty() && has_no_blank(name),
-        _ => name.is_empty(),
+        Operation::Synonym(_) => !word.is_empty() && has_no_blank(word),
+        Operation::SetBase(..)
+        | Operation::BaseBefore
+        | Operation::Qualify(..)
+        | Operation::Deck
+        | Operation::End => has_no_blank(word),
+        _ => word.is_empty(),
     }
 }
 
 /// Returns whether the blanks round a label are right.
-fn has_gap(label: Label, operation: Operation, margin: &[u8], gap: &[u8]) -> bool
-    ensures { result ≡ is_gap label operation margin.now gap.now }
+fn has_gap(label: Label, word: &[u8], operation: Operation, margin: &[u8], gap: &[u8]) -> bool
+    ensures { result ≡ is_gap label word.now operation margin.now gap.now }
 {
-    match (label, operation) {
-        (Label::Empty, Operation::Synonym(_)) => is_narrow_margin(margin) && !gap.is_empty(),
-        (Label::Empty, _) => margin.is_empty() && is_wide_gap(gap),
-        (_, Operation::Blank) => is_narrow_margin(margin),
+    match (label, word, operation) {
+        (Label::Empty, [], _) => margin.is_empty() && is_wide_gap(gap),
+        (Label::Empty, [_, ..], _) => is_narrow_margin(margin) && !gap.is_empty(),
+        (_, _, Operation::Blank) => is_narrow_margin(margin),
         _ => is_narrow_margin(margin) && !gap.is_empty(),
     }
 }
@@ -503,55 +517,78 @@ fn has_all_symbols(count: usize, digits: &[u8]) -> bool
 }
 
 /// Returns whether a comment may follow a text of DIS.
-fn may_follow(cut: &Cut, count: usize, comment: &[u8]) -> bool
-    ensures { IsTrue result → follows_text cut.now count comment.now ≡ true }
+fn may_follow(cut: &Cut, columns: usize, count: usize, comment: &[u8]) -> bool
+    ensures { IsTrue result → follows_text cut.now columns count comment.now ≡ true }
 {
     match cut {
-        Cut::Counted(digits) => comment.is_empty() || has_all_symbols(count, digits),
-        Cut::Marked(_) => begins_with_blank(comment),
+        Cut::Counted(digits) => {
+            comment.is_empty() || columns == LAST_COLUMN || has_all_symbols(count, digits)
+        }
+        Cut::Marked(_) => true,
     }
 }
 
 /// Returns whether a comment may follow a text of DIS, or of another name of it.
-fn may_follow_display(name: &[u8], text: &Text, comment: &[u8]) -> bool
-    ensures { IsTrue result → follows_display name.now text.now comment.now ≡ true }
+fn may_follow_display(name: &[u8], columns: usize, text: &Text, comment: &[u8]) -> bool
+    ensures { IsTrue result → follows_display name.now columns text.now comment.now ≡ true }
 {
-    may_follow(&text.cut, text.codes.len(), comment)
+    may_follow(&text.cut, columns, text.codes.len(), comment)
         || name != b"DIS".as_slice() && begins_with_blank(comment) && has_no_mark(&text.codes, b' ')
 }
 
 /// Returns whether what follows the operands is a comment.
-fn has_comment(name: &[u8], operation: Operation, operands: &[Operand], comment: &[u8]) -> bool
-    ensures { IsTrue result → is_comment name.now operation operands.now comment.now ≡ true }
+fn has_comment(
+    name: &[u8],
+    columns: usize,
+    operation: Operation,
+    operands: &[Operand],
+    comment: &[u8],
+) -> bool
+    ensures { IsTrue result → is_comment name.now columns operation operands.now comment.now ≡ true }
 {
     match (operation, operands) {
         (Operation::Display, [Operand::Single(Item::Characters(text))]) => may_follow_display(
-            name, text, comment,
+            name, columns, text, comment,
         ),
         _ => begins_with_blank(comment),
     }
 }
 
-/// Returns whether blanks are where a line needs them.
-fn is_cut_so(statement: &Statement, variable: &[u8]) -> bool
+/// Returns whether a label has the present qualifier.
+fn has_label(scope: &Scope, label: Label) -> bool
+    ensures { result ≡ is_label (names_in scope.now) label }
+{
+    match label {
+        Label::Named(index) => scope.may_define(index),
+        _ => true,
+    }
+}
+
+/// Returns whether blanks are where a line needs them. So many columns are before its comment.
+fn is_cut_so(scope: &Scope, statement: &Statement, columns: usize, variable: &[u8]) -> bool
     ensures { IsTrue result → (list_all is_blank statement.now.gap.items && list_all is_blank
-        statement.now.space.items && is_comment statement.now.name.items statement.now.operation statement.now.operands.items
-        statement.now.comment.items &&
-        is_synonym statement.now.operation statement.now.synonym.items &&
-        is_gap statement.now.label statement.now.operation statement.now.margin.items statement.now.gap.items &&
+        statement.now.space.items && is_comment statement.now.name.items columns statement.now.operation
+        statement.now.operands.items statement.now.comment.items &&
+        is_in_place statement.now.operation statement.now.word.items &&
+        is_label (names_in scope.now) statement.now.label &&
+        is_gap statement.now.label statement.now.word.items statement.now.operation statement.now.margin.items
+        statement.now.gap.items &&
         (not (length statement.now.space.items == 0) || length variable.now == 0)) ≡ true }
 {
     are_blanks(&statement.gap)
         && are_blanks(&statement.space)
         && has_comment(
             &statement.name,
+            columns,
             statement.operation,
             &statement.operands,
             &statement.comment,
         )
-        && has_synonym(statement.operation, &statement.synonym)
+        && may_be_in_place(statement.operation, &statement.word)
+        && has_label(scope, statement.label)
         && has_gap(
             statement.label,
+            &statement.word,
             statement.operation,
             &statement.margin,
             &statement.gap,
@@ -573,22 +610,28 @@ fn with_lost_blanks(alloc: Global, line: &[u8], size: usize) -> Result<Vec<u8>, 
 fn is_written(alloc: Global, symbols: &[Symbol], statement: &Statement) -> Result<bool, AllocError>
     ensures { IfOk result (λ yes. IsTrue yes → IsWritten symbols.now statement.now) }
 {
-    let variable = variable_of(alloc, symbols, statement.operation, &statement.operands)?;
-    let line = text_of_line(alloc, symbols, statement, &variable)?;
+    let scope = &Scope {
+        symbols,
+        prefix: &statement.prefix,
+    };
+    let variable = variable_of(alloc, scope, statement.operation, &statement.operands)?;
+    let line = text_of_line(alloc, scope, statement, &variable)?;
     let whole = with_lost_blanks(alloc, &statement.line, line.len())?;
     if whole.as_slice() != line.as_slice() {
         return Ok(false);
     }
-    Ok(is_cut_so(statement, &variable))
+    let columns = line.len().saturating_sub(statement.comment.len());
+    Ok(is_cut_so(scope, statement, columns, &variable))
 }
 
-/// Returns that statements are written so.
+/// Returns that the statements of a unit are written so.
 ///
 /// # Errors
 /// Memory ran out, or a statement is not.
-pub fn are_written(
+fn is_unit_written(
     alloc: Global,
     symbols: &[Symbol],
+    number: usize,
     statements: &[Statement],
 ) -> Result<(), Refusal>
     ensures { OnOk result (AllByRecursion (IsWritten symbols.now) statements.now) }
@@ -596,9 +639,24 @@ pub fn are_written(
     let mut index: usize = 0;
     for statement in statements {
         if !is_written(alloc, symbols, statement)? {
-            return Err(Refusal::At(index));
+            return Err(Refusal::At(number, index));
         }
         index = index.saturating_add(1);
+    }
+    Ok(())
+}
+
+/// Returns that the statements of units are written so.
+///
+/// # Errors
+/// Memory ran out, or a statement is not.
+pub fn are_written(alloc: Global, symbols: &[Symbol], units: &[Unit]) -> Result<(), Refusal>
+    ensures { OnOk result (AllByRecursion (AreWritten symbols.now) units.now) }
+{
+    let mut number: usize = 0;
+    for unit in units {
+        is_unit_written(alloc, symbols, number, &unit.statements)?;
+        number = number.saturating_add(1);
     }
     Ok(())
 }
@@ -608,10 +666,10 @@ pub fn are_written(
 /// # Errors
 /// Memory ran out, or a statement is not.
 pub fn all_written(alloc: Global, symbols: &[Symbol], systems: &[SystemText]) -> Result<(), Refusal>
-    ensures { OnOk result (AllByRecursion (AreWritten symbols.now) systems.now) }
+    ensures { OnOk result (AllByRecursion (AreAllWritten symbols.now) systems.now) }
 {
     for text in systems {
-        if let Err(refusal) = are_written(alloc, symbols, &text.statements) {
+        if let Err(refusal) = are_written(alloc, symbols, &text.units) {
             return Err(refusal.of_system());
         }
     }

@@ -1,10 +1,12 @@
 //! The names of symbols.
-ghost use Rattle.std.specs.Prelude.{◌≡◌, ◌≢◌, ◌⊎◌, ◌<◌, ◌+◌, ℕ, IfOk, IfSome, IsTrue, length, slice_get, true};
+ghost use Rattle.std.specs.Prelude.{◌≡◌, ◌≢◌, ◌⊎◌, ◌<◌, ◌+◌, ℕ, IfOk, IsTrue, length, slice_get, true};
 ghost use Rattle.std.specs.List.{AllByRecursion, list_all};
 ghost use Rattle.pp_meaning.specs.Lines.{symbol_name};
-ghost use Rattle.pp_meaning.specs.Names.{AreNames, IsLast, begins, is_name, is_renamed, is_sign, name_number, number_from};
+ghost use Rattle.pp_meaning.specs.Names.{AreNames, IsLast, begins, has_name_behind, is_behind_slash, is_fixed, is_full_name};
+ghost use Rattle.pp_meaning.specs.Names.{is_name, is_renamed, is_sign, last_of};
 
-use crate::expressions::Symbol;
+use crate::expressions::{Symbol, Validity};
+use crate::qualifiers::may_qualify;
 use std::alloc::{AllocError, Global};
 use std::collections::BTreeMap;
 
@@ -42,65 +44,96 @@ fn is_right(name: &[u8]) -> bool
     begins_so(name) && name.len() <= LONGEST && may_have_all(name)
 }
 
+/// Returns whether the rest of a qualifier and a name are behind the first / of a text.
+fn is_name_behind(text: &[u8]) -> bool
+    ensures { result ≡ has_name_behind text.now }
+{
+    let mut rest = text;
+    while let [byte, behind @ ..] = rest {
+        if *byte == b'/' {
+            return is_right(behind);
+        }
+        if !may_qualify(*byte) {
+            return false;
+        }
+        rest = behind;
+    }
+    false
+}
+
+/// Returns whether a qualifier, / and a name are behind the first / of a text.
+fn is_right_behind_slash(text: &[u8]) -> bool
+    ensures { result ≡ is_behind_slash text.now }
+{
+    match text {
+        [] => false,
+        [byte, rest @ ..] => may_qualify(*byte) && is_name_behind(rest),
+    }
+}
+
+/// Returns whether a text is a name, which may have a qualifier.
+fn is_right_in_full(name: &[u8]) -> bool
+    ensures { result ≡ is_full_name name.now }
+{
+    match name {
+        [] => false,
+        [b'/', rest @ ..] => is_right_behind_slash(rest),
+        _ => is_right(name),
+    }
+}
+
 /// Returns whether all are names.
 fn all_right(symbols: &[Symbol]) -> bool
-    ensures { IsTrue result → AllByRecursion (λ symbol. is_name symbol.name.items ≡ true) symbols.now }
+    ensures { IsTrue result → AllByRecursion (λ symbol. is_full_name symbol.name.items ≡ true) symbols.now }
 {
     for symbol in symbols {
-        if !is_right(&symbol.name) {
+        if !is_right_in_full(&symbol.name) {
             return false;
         }
     }
     true
 }
 
-/// Returns whether the next SET of the name of a symbol is at an index, or before.
+/// Returns whether a symbol stands everywhere for its number.
+fn is_fixed(validity: Validity) -> bool
+    ensures { result ≡ is_fixed validity }
+{
+    matches!(validity, Validity::Fixed)
+}
+
+/// Returns whether the next symbol of the name of a symbol is at an index, or before.
 fn has_next(symbols: &[Symbol], one: usize, index: usize) -> bool
     ensures { result ≡ is_renamed index (slice_get symbols.now one) }
 {
     match symbols.get(one) {
-        Some(symbol) => symbol.is_set && symbol.next <= index,
+        Some(symbol) => !is_fixed(symbol.validity) && symbol.next <= index,
         None => false,
     }
 }
 
-/// Returns the number whose digits to the base 256 (decimal) are bytes.
-fn number_of_bytes(bytes: &[u8]) -> Option<u64>
-    ensures { IfSome result (λ number. number ≡ number_from 0 bytes.now) }
-{
-    let mut number: u64 = 0;
-    for byte in bytes {
-        number = number.checked_mul(0x100)?.checked_add(u64::from(*byte))?;
-    }
-    Some(number)
-}
-
-/// Returns the name of a symbol as a number.
-fn number_of(symbols: &[Symbol], index: usize) -> Option<u64>
-    ensures { IfSome result (λ number. number ≡ name_number symbols.now index) }
+/// Returns the name of the symbol at an index.
+fn name_of(symbols: &[Symbol], index: usize) -> &[u8]
+    ensures { result.now ≡ symbol_name (slice_get symbols.now index) }
 {
     match symbols.get(index) {
-        Some(symbol) => number_of_bytes(&symbol.name),
-        None => None,
+        Some(symbol) => &symbol.name,
+        None => b"",
     }
 }
 
-/// Notes that a symbol is the last one of its name. Returns whether none before it has this name, but for SET.
-fn note(
-    last: &mut BTreeMap<u64, usize>,
-    symbols: &[Symbol],
+/// Notes that a symbol is the last one of its name. Returns whether each one before it says that it is renamed by then.
+fn note<'a>(
+    last: &mut BTreeMap<&'a [u8], usize>,
+    symbols: &'a [Symbol],
     index: usize,
 ) -> Result<bool, AllocError>
-    requires { IsLast symbols.now last.old index }
-    ensures last { IfOk result (λ yes. IsTrue yes → IsLast symbols.now last.new (index + 1)) }
+    requires { IsLast symbols.now (last_of last.old) index }
+    ensures last { IfOk result (λ yes. IsTrue yes → IsLast symbols.now (last_of last.new) (index + 1)) }
     ensures different { IfOk result (λ yes. IsTrue yes → (i : ℕ) → i < index →
         (symbol_name (slice_get symbols.now i) ≢ symbol_name (slice_get symbols.now index))
         ⊎ (is_renamed index (slice_get symbols.now i) ≡ true)) }
 {
-    let Some(number) = number_of(symbols, index) else {
-        return Ok(false);
-    };
-    match last.insert(number, index)? {
+    match last.insert(name_of(symbols, index), index)? {
         None => Ok(true),
         Some(before) => Ok(has_next(symbols, before, index)),
     }
@@ -112,7 +145,7 @@ fn all_new(alloc: Global, symbols: &[Symbol]) -> Result<bool, AllocError>
         (symbol_name (slice_get symbols.now i) ≢ symbol_name (slice_get symbols.now j))
         ⊎ (is_renamed j (slice_get symbols.now i) ≡ true)) }
 {
-    let mut last: BTreeMap<u64, usize> = BTreeMap::new(alloc);
+    let mut last: BTreeMap<&[u8], usize> = BTreeMap::new(alloc);
     for index in 0..symbols.len() {
         if !note(&mut last, symbols, index)? {
             return Ok(false);

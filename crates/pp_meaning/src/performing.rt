@@ -58,6 +58,9 @@ impl State {
                 is_greatest,
                 operands,
             )),
+            (Label::Named(index), Operation::Count(number), [Operand::Word(_)]) => Ok(self.count(
+                symbols, index, number,
+            )),
             (_, Operation::Bits, _) => self.fields(alloc, symbols, label, operands),
             (_, Operation::Position, [x]) => self.position(alloc, symbols, label, x),
             (_, Operation::Pool(address), _) => Ok(self.pool(symbols, label, address, operands)),
@@ -71,6 +74,7 @@ impl State {
                 Ok(Some(()))
             }
             (Label::Empty, Operation::Synonym(_), [Operand::Word(_)]) => Ok(Some(())),
+            (Label::Empty, Operation::Qualify(..), _) => self.qualify(alloc, operands),
             (Label::Empty, Operation::End, []) => Ok(Some(())),
             (Label::Empty, Operation::End, [x]) => Ok(self.end(symbols, x)),
             (
@@ -145,7 +149,7 @@ impl State {
         ensures { IfOk result (λ made. IfSome made (λ done. follow symbols.now literals.now blocks.now (Some (standing self.old))
             statement.now ≡ Some (standing self.new))) }
     {
-        if self.is_named(statement).is_none() {
+        if self.is_in_qualifier(statement).is_none() || self.is_named(statement).is_none() {
             return Ok(None);
         }
         let operands = &statement.operands;
@@ -166,7 +170,7 @@ impl State {
         {
             return Ok(None);
         }
-        self.keep_synonym(alloc, &statement.synonym, *operation, operands)?;
+        self.keep_synonym(alloc, &statement.word, *operation, operands)?;
         self.reach_on();
         Ok(Some(()))
     }

@@ -1,9 +1,9 @@
 //! What there is between statements: the counters, symbols and words.
 ghost use Rattle.std.specs.Prelude.{◌≡◌, ◌+◌, ◌≤◌, IfOk, IfSome, Some, fold, length, slice_get};
-ghost use Rattle.pp_meaning.specs.Meaning.{define, is_symbol, labelled, store, with_words};
+ghost use Rattle.pp_meaning.specs.Meaning.{define, is_symbol, labelled, may_make, store, with_words};
 ghost use Rattle.pp_meaning.specs.Standing.{deck_base, place_of, standing};
 
-use crate::expressions::{Base, Place, Symbol};
+use crate::expressions::{Base, Place, Symbol, Validity};
 use crate::statements::{CELLS, Label, State};
 use std::alloc::AllocError;
 
@@ -21,17 +21,23 @@ fn put(memory: &mut [Option<u32>], first: usize, words: &[u32]) -> usize
     at
 }
 
-/// Returns whether a symbol at an index stands for a number.
-fn stands_for(symbols: &[Symbol], index: usize, is_set: bool, number: i64) -> bool
-    ensures { result ≡ is_symbol is_set number (slice_get symbols.now index) }
+/// Returns whether a statement may make a symbol.
+fn may_make(is_system: bool, is_set: bool, validity: Validity) -> bool
+    ensures { result ≡ may_make is_system is_set validity }
+{
+    match validity {
+        Validity::Fixed => !is_set,
+        Validity::Set => is_set || is_system,
+        Validity::Replaced => is_system,
+    }
+}
+
+/// Returns whether a symbol at an index stands for a number, and a statement may make it.
+fn stands_for(symbols: &[Symbol], index: usize, is_system: bool, is_set: bool, number: i64) -> bool
+    ensures { result ≡ is_symbol is_system is_set number (slice_get symbols.now index) }
 {
     match symbols.get(index) {
-        Some(symbol) => symbol.value == number
-            && (if is_set {
-                symbol.is_set
-            } else {
-                !symbol.is_set
-            }),
+        Some(symbol) => symbol.value == number && may_make(is_system, is_set, symbol.validity),
         None => false,
     }
 }
@@ -60,6 +66,7 @@ impl State {
                 self.base
             },
             defined: self.defined,
+            is_system: self.is_system,
         }
     }
 
@@ -76,7 +83,7 @@ impl State {
     {
         if index != self.defined
             || index >= symbols.len()
-            || !stands_for(symbols, index, is_set, number)
+            || !stands_for(symbols, index, self.is_system, is_set, number)
         {
             return None;
         }
@@ -102,6 +109,9 @@ impl State {
         ensures { IfOk result (λ made. IfSome made (λ done. with_words (standing self.old) (Some words.now) ≡ Some
             (standing self.new))) }
     {
+        if words.is_empty() {
+            return Ok(Some(()));
+        }
         let Some(location) = self.location.checked_add(words.len()) else {
             return Ok(None);
         };
@@ -114,9 +124,7 @@ impl State {
         self.words.extend_from_slice(words)?;
         self.origin = put(&mut self.memory, self.origin, words);
         self.location = location;
-        if !words.is_empty() {
-            self.used = 0;
-        }
+        self.used = 0;
         Ok(Some(()))
     }
 }

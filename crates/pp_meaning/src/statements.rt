@@ -1,5 +1,5 @@
 //! Statements.
-use crate::expressions::{Base, Operand};
+use crate::expressions::{Base, Literal, Operand};
 use std::alloc::{AllocError, AllocFailed};
 
 /// The number of cells of a memory.
@@ -12,8 +12,9 @@ pub const WORD: u32 = 12;
 pub enum Refusal {
     /// Memory ran out.
     NoMemory,
-    /// The statement at an index is not right. The symbols and the end of the source are behind the last one.
-    At(usize),
+    /// A statement is not right: that of a unit, both by their indices. The end of a unit is behind its last statement, and the
+    /// symbols are behind the last unit.
+    At(usize, usize),
     /// A statement of a system text is not right.
     System,
 }
@@ -22,7 +23,7 @@ impl Refusal {
     /// Returns why a system text is refused.
     pub fn of_system(self) -> Self {
         match self {
-            Refusal::At(_) => Refusal::System,
+            Refusal::At(..) => Refusal::System,
             refusal => refusal,
         }
     }
@@ -78,6 +79,8 @@ pub enum Operation {
     Set,
     /// MAX, or MIN.
     Choose(bool),
+    /// MICCNT, with the number of symbols of its micro.
+    Count(usize),
     /// BASE with the first letter of a base's name, and so many more.
     SetBase(Base, u8),
     /// `BASE *`.
@@ -98,6 +101,8 @@ pub enum Operation {
     Use,
     /// OPSYN of an operation by its own name, or by a synonym.
     Synonym(bool),
+    /// QUAL, with so many slashes before its qualifier, and behind it.
+    Qualify(u8, u8),
     /// END.
     End,
 }
@@ -107,11 +112,13 @@ pub enum Operation {
 pub struct Statement {
     /// The line of the listing, in capitals.
     pub line: Vec<u8>,
+    /// What is before a name with the present qualifier: `/Q/`, or nothing.
+    pub prefix: Vec<u8>,
     /// The blanks before the label.
     pub margin: Vec<u8>,
     pub label: Label,
-    /// The name that OPSYN gives to an operation, which is in place of a label.
-    pub synonym: Vec<u8>,
+    /// What is in place of a label: the name that OPSYN gives to an operation, or a word that says nothing.
+    pub word: Vec<u8>,
     /// The blanks before the operation.
     pub gap: Vec<u8>,
     /// The name of the operation, or a synonym.
@@ -124,10 +131,33 @@ pub struct Statement {
     pub comment: Vec<u8>,
 }
 
-/// The statements of a system text.
+/// A program of a source: its literals, and its blocks of USE, in the order in which they are named first, and its statements.
+#[derive(Drop)]
+pub struct Unit {
+    pub literals: Vec<Literal>,
+    pub blocks: Vec<Block>,
+    pub statements: Vec<Statement>,
+}
+
+/// A system text, which is mostly one program.
 #[derive(Drop)]
 pub struct SystemText {
-    pub statements: Vec<Statement>,
+    pub units: Vec<Unit>,
+}
+
+/// What programs leave to the next one.
+#[derive(Drop)]
+pub struct Left {
+    /// How many symbols they define.
+    pub defined: usize,
+    pub synonyms: Vec<Synonym>,
+    /// PERIPH says that the source is a deck.
+    pub is_deck: bool,
+    pub base: Option<Base>,
+    /// Those that `BASE *` goes back to, the last one at the end.
+    pub bases: Vec<Option<Base>>,
+    /// What was before a name with the qualifiers of QUAL, that of the present one at the end.
+    pub prefixes: Vec<Vec<u8>>,
 }
 
 /// A block of USE, and the cell at which it begins.
@@ -155,6 +185,8 @@ pub struct Counters {
 /// What there is so far.
 #[derive(Drop)]
 pub struct State {
+    /// A system text is performed.
+    pub is_system: bool,
     pub location: usize,
     pub origin: usize,
     /// PERIPH says that the source is a deck.
@@ -179,4 +211,6 @@ pub struct State {
     /// The counters of the blocks as USE has left them.
     pub blocks: Vec<Counters>,
     pub synonyms: Vec<Synonym>,
+    /// What was before a name with the qualifiers of QUAL, that of the present one at the end.
+    pub prefixes: Vec<Vec<u8>>,
 }

@@ -1,6 +1,7 @@
 //! The directives that name numbers, move the counters or say how the rest is meant.
 use crate::encoding::bits_of;
 use crate::scope::{CELLS, Scope};
+use crate::units::NAME_OF_LITERALS;
 use crate::values::{Base, Value};
 use pp_source::{
     Argument, Definition, Fault, Field, Here, Operation, Order, Outcome, Parts, Statement, Stop,
@@ -54,8 +55,12 @@ impl Scope {
         let operand = the_only(here, statement)?;
         let count = self.count(here, operand, -(CELLS as i64))?;
         self.plain_row(here, true)?;
+        let origin = self.counters.origin.wrapping_add(count);
         let location = self.counters.location.wrapping_add(count);
-        self.move_to(self.counters.origin.wrapping_add(count), location);
+        if origin < 0 || location < 0 {
+            return Err(Fault::new(Wording::BelowFirstCell).at(operand.first));
+        }
+        self.move_to(origin, location);
         if count < 0 {
             let fault = Fault::new(Wording::SpaceGoesBack);
             let fault = fault.octal(count.wrapping_neg());
@@ -90,9 +95,12 @@ impl Scope {
         self.label(here, statement)
     }
 
-    /// USE goes on with a block: 0 or none is the nominal one, * the one before.
+    /// USE goes on with a block: 0 or none is the nominal one, * the one before. That of the literals has no statements.
     pub fn set_block(&mut self, here: &Here, statement: Statement) -> Outcome {
         let name = statement.operand.of(here.text);
+        if name == NAME_OF_LITERALS.as_slice() {
+            return Err(Stop::of(Wording::BlockOfLiterals, statement.operand));
+        }
         self.use_block(if matches!(name, b"0") { b"" } else { name })?;
         self.plain_row(here, true)?;
         self.label(here, statement)
@@ -101,6 +109,10 @@ impl Scope {
     /// QUAL qualifies the names that are defined from here on; * goes back, and without a name they have no qualifier.
     pub fn set_qualifier(&mut self, here: &Here, statement: Statement) -> Outcome {
         let name = without_marks(statement.operand.of(here.text));
+        // A name with its qualifier could not be read.
+        if name.iter().any(|symbol| b"/,".contains(symbol)) {
+            return Err(Stop::of(Wording::WrongSymbol, statement.operand));
+        }
         self.symbols.qualify(name)?;
         self.plain_row(here, false)
     }

@@ -10,10 +10,11 @@ mod units;
 mod values;
 
 pub use directives::{base_of, the_only, wants_operand};
+pub use makers::end_of_size;
 pub use performing::is_known;
 pub use scope::{
     CELLS, Counters, Cut, MOST_STATEMENTS, Named, Output, Programs, Row, Scope, SystemRows,
     count_one, too_many_statements,
 };
-pub use units::{Blocks, NamedBlock, Unit};
-pub use values::Base;
+pub use units::{Blocks, Layout, Unit};
+pub use values::{Base, size_of_name};

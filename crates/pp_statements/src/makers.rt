@@ -92,8 +92,7 @@ impl Scope {
             let symbols = before_mark(tail(rest, 1), mark, column)?;
             DisplayText::new(b'C', symbols, symbols.len(), 0)
         };
-        let is_blank = |symbol: &u8| digits > 0 && *symbol == b'\t';
-        let is_wrong = |symbol: &&u8| code_of(**symbol).is_none() && !is_blank(*symbol);
+        let is_wrong = |symbol: &&u8| code_of(**symbol).is_none();
         if let Some(symbol) = text.symbols.iter().find(is_wrong) {
             self.report(here, column, no_code(*symbol))?;
             return Ok(vec![in self.alloc; 0; text.size_in_words() / 2]?);
@@ -239,7 +238,7 @@ fn bits_left(used: u32) -> u32 {
 }
 
 /// Returns the column of the / after the size of a field, which may be a name with its qualifier.
-fn end_of_size(field: &[u8]) -> Option<usize> {
+pub fn end_of_size(field: &[u8]) -> Option<usize> {
     let first = match field {
         [b'/', ..] => find(field, 1, b'/')?.saturating_add(1),
         _ => 0,

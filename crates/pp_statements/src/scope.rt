@@ -1,5 +1,5 @@
 //! What a pass knows at a line, and what it has made: its counters, its names, its cells, and the rows of the listing.
-use crate::units::{Blocks, Literals, Unit};
+use crate::units::{Blocks, Layout, Literals, Unit};
 use crate::values::{Base, Expression, Value};
 use pp_decks::Span;
 use pp_notation::Slot;
@@ -63,10 +63,11 @@ pub struct Row {
     pub named: Span,
 }
 
-/// What the listing would have of the lines of a system text.
+/// What the listing would have of the lines of a system text, and the layouts of its programs.
 #[derive(Drop)]
 pub struct SystemRows {
     pub rows: Vec<Row>,
+    pub layouts: Vec<Layout>,
 }
 
 /// A word of VFD that is not full: its cell, and how many bits are used.
@@ -123,6 +124,8 @@ pub struct Programs {
     pub has_more: bool,
     pub has_name: bool,
     pub ended: Vec<Unit>,
+    /// The layouts of those that have ended.
+    pub layouts: Vec<Layout>,
 }
 
 /// What a pass knows at a line, and what it has made.
@@ -181,14 +184,14 @@ impl Output {
     }
 
     /// Forgets the words of a system text. The listing has no row of it, and it has no warnings.
-    fn forget_words(&mut self, alloc: Global) -> Result<(), AllocError> {
+    fn forget_words(&mut self, alloc: Global, layouts: Vec<Layout>) -> Result<(), AllocError> {
         self.wrong_from = None;
         self.over_from = None;
         self.made = 0;
         self.words.clear();
         self.warnings.clear();
         let rows = replace(&mut self.rows, Vec::new(alloc));
-        Ok(self.systems.push(SystemRows { rows })?)
+        Ok(self.systems.push(SystemRows { rows, layouts })?)
     }
 }
 
@@ -201,6 +204,7 @@ impl Programs {
             has_more: false,
             has_name: false,
             ended: Vec::new(alloc),
+            layouts: Vec::new(alloc),
         }
     }
 }
@@ -229,6 +233,10 @@ impl Scope {
 
     /// Ends a system text, of which the names stay and no words.
     pub fn end_system(&mut self) -> Result<(), AllocError> {
+        if !self.programs.has_ended {
+            self.keep_layout()?;
+        }
+        let layouts = replace(&mut self.programs.layouts, Vec::new(self.alloc));
         self.symbols.end_system();
         self.restart_blocks()?;
         self.counters.base = None;
@@ -238,7 +246,7 @@ impl Scope {
         self.programs.has_ended = false;
         self.programs.has_more = false;
         self.programs.ended.clear();
-        self.output.forget_words(self.alloc)
+        self.output.forget_words(self.alloc, layouts)
     }
 
     /// Returns whether each name and each block is as in the pass before.

@@ -1,4 +1,5 @@
 //! The programs of a source, with the blocks of USE and the literals of each.
+use crate::encoding::index_of;
 use crate::scope::{Named, Scope};
 use pp_decks::Span;
 use pp_notation::{Program, Slot, program_of};
@@ -12,7 +13,8 @@ const NOMINAL: usize = 0;
 /// The index of the first block that USE names.
 const FIRST_NAMED: usize = 2;
 
-const NAME_OF_LITERALS: &[u8; 9] = b"LITERALS*";
+/// The name of the block of the literals.
+pub const NAME_OF_LITERALS: &[u8; 9] = b"LITERALS*";
 
 /// The counters of a block of USE, and the cell after its last one.
 #[derive(Clone, Copy)]
@@ -52,6 +54,13 @@ pub struct Blocks {
 pub struct Unit {
     pub name: Vec<u8>,
     pub program: Program,
+}
+
+/// The literals and the blocks of USE of a program, in the order in which they are named first.
+#[derive(Drop)]
+pub struct Layout {
+    pub literals: Vec<pp_meaning::Literal>,
+    pub blocks: Vec<pp_meaning::Block>,
 }
 
 /// Words that are named by what they are, from an address on.
@@ -117,8 +126,13 @@ impl Literals {
                 all.end
             }
         };
+        Ok(self.address_at(index))
+    }
+
+    /// Returns the address of the literal at an index.
+    fn address_at(&self, index: usize) -> i64 {
         let first = self.all.get(index).map_or(0, |literal| literal.first);
-        Ok(self.first.wrapping_add(i64::try_from(first).unwrap_or(0)))
+        self.first.wrapping_add(i64::try_from(first).unwrap_or(0))
     }
 
     /// Returns the words of the literal at an index.
@@ -135,22 +149,40 @@ impl Placed {
     }
 }
 
-/// A block of a program, as USE names it, and the cell at which it begins.
-#[derive(Clone, Copy)]
-pub struct NamedBlock<'a> {
-    pub name: &'a [u8],
-    pub base: i64,
-}
-
 impl Scope {
-    /// Returns the block of the first program with an index, behind the nominal one and that of the literals.
-    pub fn named_block_of_first(&self, index: usize) -> Option<NamedBlock<'_>> {
-        let at = index.checked_add(FIRST_NAMED)?;
-        let placed = self.blocks.placed.get(at)?;
-        (placed.unit == 0).then_some(NamedBlock {
-            name: self.symbols.text_of(placed.name),
-            base: placed.base,
-        })
+    /// Keeps the layout of the present program, in the last pass.
+    pub fn keep_layout(&mut self) -> Result<(), AllocError> {
+        if !self.is_last {
+            return Ok(());
+        }
+        let literals = self.literals_kept()?;
+        let blocks = self.blocks_kept()?;
+        Ok(self.programs.layouts.push(Layout { literals, blocks })?)
+    }
+
+    /// Returns the literals of the present program.
+    fn literals_kept(&self) -> Result<Vec<pp_meaning::Literal>, AllocError> {
+        let mut literals = Vec::new(self.alloc);
+        for index in 0..self.literals.all.len() {
+            let mut words = Vec::new(self.alloc);
+            for word in self.literals.words_at(index) {
+                words.push(u32::from(*word))?;
+            }
+            let address = index_of(self.literals.address_at(index));
+            literals.push(pp_meaning::Literal { address, words })?;
+        }
+        Ok(literals)
+    }
+
+    /// Returns the blocks of the present program that USE has named.
+    fn blocks_kept(&self) -> Result<Vec<pp_meaning::Block>, AllocError> {
+        let mut blocks = Vec::new(self.alloc);
+        for block in self.blocks.all.iter().skip(FIRST_NAMED) {
+            let name = Vec::from_slice(self.alloc, self.symbols.text_of(block.name))?;
+            let base = index_of(block.base);
+            blocks.push(pp_meaning::Block { name, base })?;
+        }
+        Ok(blocks)
     }
 
     /// Begins a program, whose blocks are where the pass before has found room for them.
@@ -182,6 +214,7 @@ impl Scope {
         self.leave_block();
         self.put_literals(here)?;
         self.place_blocks()?;
+        self.keep_layout()?;
         let name = Vec::from_slice(self.alloc, &self.programs.name)?;
         let program = program_of(self.alloc, &self.output.cells, self.programs.start)?;
         self.programs.ended.push(Unit { name, program })?;

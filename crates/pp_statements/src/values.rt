@@ -237,7 +237,7 @@ impl<'a> Expression<'a> {
 }
 
 /// Returns how many symbols the name has that a text begins with, if it does. It may have its qualifier before it.
-fn size_of_name(text: &[u8]) -> Option<usize> {
+pub fn size_of_name(text: &[u8]) -> Option<usize> {
     if text.first() != Some(&b'/') {
         return end_of_name(text, 0);
     }

@@ -1,17 +1,17 @@
 //! Words of the command line, and the options that they ask for.
 
+use crate::rows::check_rows;
+use crate::words::words_of;
 use pp_arguments::*;
 use pp_machine::CentralSize;
-use std::alloc::{AllocError, Global};
-use std::test::Fail;
+use std::alloc::Global;
 
 /// Reads the words of a line. No word contains a blank.
-fn read(alloc: Global, line: &str) -> Result<Result<Options, ArgFault>, AllocError> {
-    let mut words = Vec::new(alloc);
-    for word in line.split_whitespace() {
-        words.push(String::from_str(alloc, word)?)?;
+fn read(alloc: Global, line: &str) -> Result<Options, ArgFault> {
+    match words_of(alloc, line) {
+        Ok(words) => read_arguments(alloc, words),
+        Err(_) => Err(ArgFault::NoMemory),
     }
-    Ok(read_arguments(alloc, words))
 }
 
 /// The numbers that a line asks for: the actions of the undo history, the size of central memory, and the channels of the card
@@ -67,44 +67,19 @@ fn are_names(options: &Options, wanted: Names) -> bool {
 }
 
 /// Returns whether a line asks for these numbers and files.
-fn asks(alloc: Global, line: &str, numbers: Numbers, names: Names) -> Result<bool, AllocError> {
-    match read(alloc, line)? {
-        Ok(options) => Ok(are_numbers(&options, numbers) && are_names(&options, names)),
-        Err(_) => Ok(false),
+fn asks(alloc: Global, line: &str, numbers: Numbers, names: Names) -> bool {
+    match read(alloc, line) {
+        Ok(options) => are_numbers(&options, numbers) && are_names(&options, names),
+        Err(_) => false,
     }
 }
 
 /// Returns whether a line is rejected for this reason.
-fn is_rejected(alloc: Global, line: &str, wanted: ArgFault) -> Result<bool, AllocError> {
-    match read(alloc, line)? {
-        Ok(_) => Ok(false),
-        Err(fault) => Ok(fault == wanted),
+fn is_rejected(alloc: Global, line: &str, wanted: ArgFault) -> bool {
+    match read(alloc, line) {
+        Ok(_) => false,
+        Err(fault) => fault == wanted,
     }
-}
-
-#[test]
-fn no_word_asks_for_the_usual_options(rt: HostRuntime) -> Result<(), Fail> {
-    assert!(rt; asks(rt.alloc(), "pp6600", USUAL, NO_NAMES)?);
-    Ok(())
-}
-
-#[test]
-fn each_option_is_its_own(rt: HostRuntime) -> Result<(), Fail> {
-    let line =
-        "pp6600 --deck cards --printer 0 --history 7 lines --panel dead --reader 13 --central 64";
-    let numbers = Numbers {
-        history: 7,
-        central: CentralSize::K64,
-        reader: 0o13,
-        printer: 0,
-    };
-    let names = Names {
-        deck: Some("cards"),
-        panel: Some("dead"),
-        script: Some("lines"),
-    };
-    assert!(rt; asks(rt.alloc(), line, numbers, names)?);
-    Ok(())
 }
 
 fn text(name: &Option<String>) -> Option<&str> {
@@ -114,50 +89,78 @@ fn text(name: &Option<String>) -> Option<&str> {
     }
 }
 
-/// The example of the crate's page.
-#[test]
-fn a_value_may_follow_an_equals_sign(rt: HostRuntime) -> Result<(), Fail> {
-    let options = read(rt.alloc(), "pp6600 --deck=F --history=00005 --reader=0012")??;
-    assert!(rt; text(&options.deck) == Some("F"));
-    assert!(rt; options.history == 5);
-    assert!(rt; options.reader == 0o12);
-    drop(options);
-    Ok(())
+/// Returns whether these are the options of the example of the crate's page.
+fn are_the_example(options: &Options) -> bool {
+    text(&options.deck) == Some("F") && options.history == 5 && options.reader == 0o12
 }
 
-/// Lines, and the scripts that they name.
-const SCRIPTS: [(&str, &str); 2] = [("pp6600 -- --help", "--help"), ("pp6600 help", "help")];
+fn reads_the_example(alloc: Global) -> bool {
+    match read(alloc, "pp6600 --deck=F --history=00005 --reader=0012") {
+        Ok(options) => are_the_example(&options),
+        Err(_) => false,
+    }
+}
 
-fn names_script(alloc: Global, line: &str, name: &str) -> Result<bool, AllocError> {
+/// A line with each option.
+const EACH: &str =
+    "pp6600 --deck cards --printer 0 --history 7 lines --panel dead --reader 13 --central 64";
+
+const EACH_NUMBER: Numbers = Numbers {
+    history: 7,
+    central: CentralSize::K64,
+    reader: 0o13,
+    printer: 0,
+};
+
+const EACH_NAME: Names<'static> = Names {
+    deck: Some("cards"),
+    panel: Some("dead"),
+    script: Some("lines"),
+};
+
+const LEAST: Numbers = Numbers {
+    history: 1,
+    central: CentralSize::K32,
+    reader: 0,
+    printer: 0o13,
+};
+
+/// Returns whether a line asks for the usual options, and names a script.
+fn names_script(alloc: Global, line: &str, name: &str) -> bool {
     let names = Names {
+        deck: None,
+        panel: None,
         script: Some(name),
-        ..NO_NAMES
     };
     asks(alloc, line, USUAL, names)
 }
 
 #[test]
-fn a_script_may_be_named_as_an_option(rt: HostRuntime) -> Result<(), Fail> {
-    for i in 0..SCRIPTS.len() {
-        let (line, name) = SCRIPTS[i];
-        assert!(rt; names_script(rt.alloc(), line, name)?, "{line}");
-    }
-    Ok(())
-}
-
-#[test]
-fn both_ends_of_each_range(rt: HostRuntime) -> Result<(), Fail> {
-    let least = Numbers {
-        history: 1,
-        central: CentralSize::K32,
-        reader: 0,
-        printer: 0o13,
-    };
-    let line = "pp6600 --history 1 --central 32 --reader 0";
-    assert!(rt; asks(rt.alloc(), line, least, NO_NAMES)?);
-    let line = "pp6600 --history 10000 --central 0128 --printer 013";
-    assert!(rt; asks(rt.alloc(), line, USUAL, NO_NAMES)?);
-    Ok(())
+fn words_that_are_accepted(rt: HostRuntime) {
+    let alloc = rt.alloc();
+    let rows = [
+        asks(alloc, "pp6600", USUAL, NO_NAMES),
+        asks(alloc, EACH, EACH_NUMBER, EACH_NAME),
+        // A value may follow an equals sign.
+        reads_the_example(alloc),
+        // A script may be named as an option.
+        names_script(alloc, "pp6600 -- --help", "--help"),
+        names_script(alloc, "pp6600 help", "help"),
+        // Both ends of each range.
+        asks(
+            alloc,
+            "pp6600 --history 1 --central 32 --reader 0",
+            LEAST,
+            NO_NAMES,
+        ),
+        asks(
+            alloc,
+            "pp6600 --history 10000 --central 0128 --printer 013",
+            USUAL,
+            NO_NAMES,
+        ),
+    ];
+    check_rows(&rt, &rows);
 }
 
 const REJECTED: [(&str, ArgFault); 21] = [
@@ -185,9 +188,8 @@ const REJECTED: [(&str, ArgFault); 21] = [
 ];
 
 #[test]
-fn words_that_are_refused(rt: HostRuntime) -> Result<(), Fail> {
+fn words_that_are_refused(rt: HostRuntime) {
     for (line, fault) in REJECTED {
-        assert!(rt; is_rejected(rt.alloc(), line, fault)?, "{line}");
+        assert!(rt; is_rejected(rt.alloc(), line, fault), "{line}");
     }
-    Ok(())
 }

@@ -1,4 +1,5 @@
 //! Lines, and why they are rejected.
+use crate::rows::check_rows;
 use pp_command::*;
 use std::process::Abort;
 
@@ -153,25 +154,26 @@ fn accepts_every_command_in_letters_of_either_case(rt: HostRuntime) {
     }
 }
 
+/// The length is checked first. Notes and lines without words are ignored.
 #[test]
-fn checks_the_length_first(rt: HostRuntime) {
-    assert!(rt; is_rejected(&[b'X'; 255], LineFault::NotACommand));
-    assert!(rt; is_rejected(&[b'X'; 256], LineFault::TooLong));
+fn long_lines_and_ignored_lines(rt: HostRuntime) {
     let mut line = [b'X'; 257];
     line[255] = b'\r';
-    assert!(rt; is_rejected(&line[..256], LineFault::NotACommand));
+    let is_short = is_rejected(&line[..256], LineFault::NotACommand);
     line[256] = b'\r';
-    assert!(rt; is_rejected(&line, LineFault::TooLong));
     let mut note = [b' '; 256];
     note[0] = b'*';
-    assert!(rt; is_rejected(&note, LineFault::TooLong));
-}
-
-const IGNORED: [&[u8]; 5] = [b"", b"\r", b" \t", b"* note", b"\t *GO"];
-
-#[test]
-fn ignores_notes_and_lines_without_words(rt: HostRuntime) {
-    for i in 0..IGNORED.len() {
-        assert!(rt; is_ignored(IGNORED[i]), "row {i}");
-    }
+    let rows = [
+        is_rejected(&[b'X'; 255], LineFault::NotACommand),
+        is_rejected(&[b'X'; 256], LineFault::TooLong),
+        is_short,
+        is_rejected(&line, LineFault::TooLong),
+        is_rejected(&note, LineFault::TooLong),
+        is_ignored(b""),
+        is_ignored(b"\r"),
+        is_ignored(b" \t"),
+        is_ignored(b"* note"),
+        is_ignored(b"\t *GO"),
+    ];
+    check_rows(&rt, &rows);
 }

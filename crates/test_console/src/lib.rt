@@ -15,6 +15,10 @@ mod lines;
 #[cfg(test)]
 mod programs;
 #[cfg(test)]
+mod rows;
+#[cfg(test)]
 mod sessions;
 #[cfg(test)]
 mod troubles;
+#[cfg(test)]
+mod words;

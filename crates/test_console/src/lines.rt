@@ -1,4 +1,5 @@
 //! Tests of the devices, the lines and the words.
+use crate::rows::check_rows;
 use arrayvec::ArrayVec;
 use pp_lines::{
     Counted, Endless, Failed, Feed, IoFault, LineCutter, Log, Sink, Source, Terminal, Tray,
@@ -7,8 +8,6 @@ use pp_lines::{
 use std::alloc::Global;
 use std::collections::VecDeque;
 use std::io::{self, Error, ErrorKind, Read, Write};
-use std::process::Abort;
-use std::test::Fail;
 
 /// A device whose first call fails with an error of this kind. After that it reads the byte `x`, and writes nothing.
 #[derive(Drop)]
@@ -65,25 +64,15 @@ fn reads<R: Source>(source: &mut R, into: &mut [u8], bytes: Option<&[u8]>) -> bo
     }
 }
 
-/// Reads as often as there are rows, and compares each call.
-fn reads_each<R: Source>(rt: &impl Abort, source: &mut R, into: &mut [u8], rows: &[Option<&[u8]>]) {
-    for i in 0..rows.len() {
-        assert!(rt; reads(source, into, rows[i]), "call {i}");
-    }
-}
-
 /// Writes once, and returns whether this many bytes are taken, or whether the call fails if there is no number.
-fn writes<W: Sink>(sink: &mut W, text: &[u8], count: Option<usize>) -> bool {
+fn writes(sink: &mut Counted<Uneasy>, text: &[u8], count: Option<usize>) -> bool {
     sink.put(text).ok() == count
 }
 
 /// Writes a text, and returns whether all of it is taken.
-fn takes_all<W: Sink>(sink: &mut W, text: &[u8]) -> bool {
-    put_all(sink, text).is_ok()
+fn takes_all(tray: &mut Tray, text: &[u8]) -> bool {
+    put_all(tray, text).is_ok()
 }
-
-/// What is read after the first two bytes.
-const COUNTED: [Option<&[u8]>; 2] = [Some(b"c"), Some(b"")];
 
 #[test]
 fn a_counted_device_passes_bytes_on(rt: HostRuntime) {
@@ -93,105 +82,110 @@ fn a_counted_device_passes_bytes_on(rt: HostRuntime) {
     let mut piece = [0; 2];
     assert!(rt; queue.take(&mut piece) == Ok(2));
     assert!(rt; piece == [b'a', b'b']);
-    reads_each(&rt, &mut queue, &mut piece, &COUNTED);
+    let rows = [
+        reads(&mut queue, &mut piece, Some(b"c")),
+        reads(&mut queue, &mut piece, Some(b"")),
+    ];
+    check_rows(&rt, &rows);
     assert!(rt; Source::failures(&queue) == 0);
     drop(queue);
 }
 
-/// Errors after which a device may be asked again, and one after which it may not.
-const ERRORS: [ErrorKind; 4] = [
-    ErrorKind::Interrupted,
-    ErrorKind::WouldBlock,
-    ErrorKind::TimedOut,
-    ErrorKind::Other,
-];
-
-const FAILED: [Option<&[u8]>; 2] = [None, Some(b"x")];
-
-#[test]
-fn a_failed_read_is_not_repeated(rt: HostRuntime) {
-    for kind in ERRORS {
-        let mut source = Counted::new(Uneasy::new(kind));
-        reads_each(&rt, &mut source, &mut [0; 2], &FAILED);
-        assert!(rt; Source::failures(&source) == 1);
-    }
+fn a_failed_read_is_not_repeated(kind: ErrorKind) -> bool {
+    let mut source = Counted::new(Uneasy::new(kind));
+    let mut piece = [0; 2];
+    reads(&mut source, &mut piece, None)
+        && reads(&mut source, &mut piece, Some(b"x"))
+        && Source::failures(&source) == 1
 }
 
-#[test]
-fn a_failed_write_is_not_repeated(rt: HostRuntime) {
-    for kind in ERRORS {
-        let mut sink = Counted::new(Uneasy::new(kind));
-        assert!(rt; writes(&mut sink, b"", None));
-        assert!(rt; writes(&mut sink, b"", Some(0)));
-        assert!(rt; Sink::failures(&sink) == 1);
-    }
+fn a_failed_write_is_not_repeated(kind: ErrorKind) -> bool {
+    let mut sink = Counted::new(Uneasy::new(kind));
+    writes(&mut sink, b"", None) && writes(&mut sink, b"", Some(0)) && Sink::failures(&sink) == 1
 }
 
-#[test]
-fn a_write_that_takes_nothing_is_a_failure(rt: HostRuntime) {
+fn a_write_that_takes_nothing_is_a_failure() -> bool {
     let mut sink = Counted::new(Uneasy::new(ErrorKind::Interrupted));
-    assert!(rt; writes(&mut sink, b"a", None));
-    assert!(rt; writes(&mut sink, b"a", None));
-    assert!(rt; Sink::failures(&sink) == 2);
+    writes(&mut sink, b"a", None) && writes(&mut sink, b"a", None) && Sink::failures(&sink) == 2
 }
 
-const FEED: [Option<&[u8]>; 4] = [Some(b"ab"), None, Some(b"c"), Some(b"")];
-
+/// Errors after which a device may be asked again, and one after which it may not.
 #[test]
-fn a_feed_fails_once_and_goes_on(rt: HostRuntime) {
+fn a_failed_call_is_not_repeated(rt: HostRuntime) {
+    let rows = [
+        a_failed_read_is_not_repeated(ErrorKind::Interrupted),
+        a_failed_read_is_not_repeated(ErrorKind::WouldBlock),
+        a_failed_read_is_not_repeated(ErrorKind::TimedOut),
+        a_failed_read_is_not_repeated(ErrorKind::Other),
+        a_failed_write_is_not_repeated(ErrorKind::Interrupted),
+        a_failed_write_is_not_repeated(ErrorKind::WouldBlock),
+        a_failed_write_is_not_repeated(ErrorKind::TimedOut),
+        a_failed_write_is_not_repeated(ErrorKind::Other),
+        a_write_that_takes_nothing_is_a_failure(),
+    ];
+    check_rows(&rt, &rows);
+}
+
+fn a_feed_fails_once_and_goes_on() -> bool {
     let mut feed = Feed::failing(b"abc", 2, 2);
-    reads_each(&rt, &mut feed, &mut [0; 8], &FEED);
-    assert!(rt; feed.failures() == 1);
+    let mut piece = [0; 8];
+    reads(&mut feed, &mut piece, Some(b"ab"))
+        && reads(&mut feed, &mut piece, None)
+        && reads(&mut feed, &mut piece, Some(b"c"))
+        && reads(&mut feed, &mut piece, Some(b""))
+        && feed.failures() == 1
 }
 
-#[test]
-fn a_feed_reads_pieces(rt: HostRuntime) {
-    let mut feed = Feed::new(b"abc", 2);
-    assert!(rt; reads(&mut feed, &mut [0; 8], Some(b"ab")));
-}
-
-#[test]
-fn an_endless_source_fills_the_room(rt: HostRuntime) {
+fn an_endless_source_fills_the_room() -> bool {
     let mut endless = Endless {
         byte: b'\n',
         log: Log::new(),
     };
-    assert!(rt; reads(&mut endless, &mut [0; 8], Some(&[b'\n'; 8])));
+    reads(&mut endless, &mut [0; 8], Some(&[b'\n'; 8]))
 }
 
-#[test]
-fn a_tray_fails_once(rt: HostRuntime) {
+fn a_tray_fails_once() -> bool {
     let mut tray = Tray::failing(2, 3);
-    assert!(rt; !takes_all(&mut tray, b"abcde"));
-    assert!(rt; tray.text() == b"abcd".as_slice());
-    assert!(rt; takes_all(&mut tray, b"e"));
-    drop(tray);
+    !takes_all(&mut tray, b"abcde")
+        && tray.text() == b"abcd".as_slice()
+        && takes_all(&mut tray, b"e")
 }
 
-#[test]
-fn a_terminal_reads_and_writes(rt: HostRuntime) {
+fn a_tray_fails_when_it_is_full() -> bool {
+    let mut tray = Tray::new(4096);
+    takes_all(&mut tray, &[b'a'; 4095])
+        && !takes_all(&mut tray, b"bc")
+        && tray.text().len() == 4096
+        && Sink::failures(&tray) == 1
+}
+
+/// Reads and writes in turn at a terminal, whose second read fails.
+fn uses_terminal(terminal: &mut Terminal<Feed, Tray>) -> bool {
+    let mut piece = [0; 4];
+    terminal.take(&mut piece) == Ok(2)
+        && takes_all(terminal.output, b"xyz")
+        && terminal.take(&mut piece) == Err(Failed)
+        && terminal.take(&mut piece) == Ok(1)
+}
+
+fn a_terminal_reads_and_writes() -> bool {
     let mut feed = Feed::failing(b"abc", 2, 2);
     let mut tray = Tray::new(8);
-    let mut terminal = Terminal::new(&mut feed, &mut tray);
-    let mut piece = [0; 4];
-    assert!(rt; terminal.take(&mut piece) == Ok(2));
-    assert!(rt; takes_all(terminal.output, b"xyz"));
-    assert!(rt; terminal.take(&mut piece) == Err(Failed));
-    assert!(rt; terminal.take(&mut piece) == Ok(1));
-    drop(terminal);
-    assert!(rt; tray.text() == b"xyz".as_slice());
-    assert!(rt; Source::failures(&feed) == 1);
-    drop(tray);
+    let is_used = uses_terminal(&mut Terminal::new(&mut feed, &mut tray));
+    is_used && tray.text() == b"xyz".as_slice() && Source::failures(&feed) == 1
 }
 
 #[test]
-fn a_tray_fails_when_it_is_full(rt: HostRuntime) {
-    let mut tray = Tray::new(4096);
-    assert!(rt; takes_all(&mut tray, &[b'a'; 4095]));
-    assert!(rt; !takes_all(&mut tray, b"bc"));
-    assert!(rt; tray.text().len() == 4096);
-    assert!(rt; Sink::failures(&tray) == 1);
-    drop(tray);
+fn devices_for_tests(rt: HostRuntime) {
+    let rows = [
+        a_feed_fails_once_and_goes_on(),
+        reads(&mut Feed::new(b"abc", 2), &mut [0; 8], Some(b"ab")),
+        an_endless_source_fills_the_room(),
+        a_tray_fails_once(),
+        a_tray_fails_when_it_is_full(),
+        a_terminal_reads_and_writes(),
+    ];
+    check_rows(&rt, &rows);
 }
 
 /// Returns whether a line has this first word, and this rest after it.
@@ -202,59 +196,20 @@ fn begins(line: &[u8], word: &[u8], rest: &[u8]) -> bool {
     }
 }
 
+/// Words stand between blanks and tabs. Blank lines and notes are ignored.
 #[test]
-fn words_stand_between_blanks_and_tabs(rt: HostRuntime) {
-    assert!(rt; begins(b" \tSET  M\t0 ", b"SET", b"  M\t0 "));
-    assert!(rt; next_word(b" \t ").is_none());
-}
-
-const IGNORED: [(&[u8], bool); 4] = [
-    (b"", true),
-    (b"\t ", true),
-    (b" * note", true),
-    (b"A *", false),
-];
-
-#[test]
-fn blank_lines_and_notes_are_ignored(rt: HostRuntime) {
-    for i in 0..IGNORED.len() {
-        let (line, ignored) = IGNORED[i];
-        assert!(rt; is_ignored(line) == ignored, "row {i}");
-    }
-}
-
-#[test]
-fn octal_words_stand_between_blanks_and_tabs(rt: HostRuntime) {
-    assert!(rt; are_octal(b" 17\t0"));
-    assert!(rt; !are_octal(b"17 8"));
-}
-
-/// Returns whether a cutter has kept this line.
-fn keeps(cutter: &LineCutter<3>, line: &[u8]) -> bool {
-    cutter.line() == line
-}
-
-#[test]
-fn a_cutter_keeps_the_front_of_a_line(rt: HostRuntime) {
-    let mut cutter = LineCutter::<3>::new();
-    for i in 0..4 {
-        cutter.take_byte(b"abcd"[i]);
-    }
-    assert!(rt; keeps(&cutter, b"abc"));
-    cutter.end_line();
-    assert!(rt; keeps(&cutter, b""));
-    drop(cutter);
-}
-
-#[test]
-fn a_cutter_takes_a_text_up_to_its_room(rt: HostRuntime) {
-    let mut cutter = LineCutter::<3>::new();
-    cutter.take_byte(b'a');
-    cutter.take_text(b"b");
-    assert!(rt; keeps(&cutter, b"ab"));
-    cutter.take_text(b"cd");
-    assert!(rt; keeps(&cutter, b"abc"));
-    drop(cutter);
+fn words(rt: HostRuntime) {
+    let rows = [
+        begins(b" \tSET  M\t0 ", b"SET", b"  M\t0 "),
+        next_word(b" \t ").is_none(),
+        is_ignored(b""),
+        is_ignored(b"\t "),
+        is_ignored(b" * note"),
+        !is_ignored(b"A *"),
+        are_octal(b" 17\t0"),
+        !are_octal(b"17 8"),
+    ];
+    check_rows(&rt, &rows);
 }
 
 /// Returns whether a text is cut into this line and this rest.
@@ -265,53 +220,69 @@ fn cuts(text: &[u8], line: &[u8], rest: &[u8]) -> bool {
     }
 }
 
-#[test]
-fn a_text_is_cut_at_its_first_line_feed(rt: HostRuntime) {
-    assert!(rt; cuts(b"a\n\nb", b"a", b"\nb"));
-    assert!(rt; cuts(b"\n", b"", b""));
-    assert!(rt; next_line(b"ab").is_none());
+/// Returns whether this is left of a text without a return at its end.
+fn leaves(text: &[u8], rest: &[u8]) -> bool {
+    without_return(text) == rest
 }
 
-/// Texts, and what is left of them.
-const RETURNS: [(&[u8], &[u8]); 4] = [
-    (b"a\r\r", b"a\r"),
-    (b"a\rb", b"a\rb"),
-    (b"\r", b""),
-    (b"", b""),
-];
-
+/// A text is cut at its first line feed. One return is dropped.
 #[test]
-fn one_return_is_dropped(rt: HostRuntime) {
-    for i in 0..RETURNS.len() {
-        let (text, rest) = RETURNS[i];
-        assert!(rt; without_return(text) == rest, "row {i}");
+fn lines(rt: HostRuntime) {
+    let rows = [
+        cuts(b"a\n\nb", b"a", b"\nb"),
+        cuts(b"\n", b"", b""),
+        next_line(b"ab").is_none(),
+        leaves(b"a\r\r", b"a\r"),
+        leaves(b"a\rb", b"a\rb"),
+        leaves(b"\r", b""),
+        leaves(b"", b""),
+    ];
+    check_rows(&rt, &rows);
+}
+
+fn a_cutter_keeps_the_front_of_a_line() -> bool {
+    let mut cutter = LineCutter::<3>::new();
+    for i in 0..4 {
+        cutter.take_byte(b"abcd"[i]);
     }
+    let is_kept = cutter.line() == b"abc".as_slice();
+    cutter.end_line();
+    is_kept && cutter.line().is_empty()
 }
 
-#[test]
-fn a_row_grows(rt: HostRuntime) {
+fn a_cutter_takes_a_text_up_to_its_room() -> bool {
+    let mut cutter = LineCutter::<3>::new();
+    cutter.take_byte(b'a');
+    cutter.take_text(b"b");
+    let is_kept = cutter.line() == b"ab".as_slice();
+    cutter.take_text(b"cd");
+    is_kept && cutter.line() == b"abc".as_slice()
+}
+
+fn a_row_grows() -> bool {
     let mut row = ArrayVec::<u8, 4>::new();
     push_text(&mut row, b"P ");
     push_text(&mut row, b"01");
-    assert!(rt; row.as_slice() == b"P 01".as_slice());
+    row.as_slice() == b"P 01".as_slice()
 }
 
-const FAULTS: [(IoFault, &str); 3] = [
-    (IoFault::ReadFailed, "READ FAILED"),
-    (IoFault::WriteFailed, "WRITE FAILED"),
-    (IoFault::LineLimit, "LINE LIMIT"),
-];
-
-fn is_text(alloc: Global, fault: IoFault, text: &str) -> Result<bool, Fail> {
-    let found = format!(in alloc; "{fault}")?;
-    Ok(found.as_str() == text)
+fn is_text(alloc: Global, fault: IoFault, text: &str) -> bool {
+    match format!(in alloc; "{fault}") {
+        Ok(found) => found.as_str() == text,
+        Err(_) => false,
+    }
 }
 
 #[test]
-fn texts_of_faults(rt: HostRuntime) -> Result<(), Fail> {
-    for i in 0..FAULTS.len() {
-        let (fault, text) = FAULTS[i];
-        assert!(rt; is_text(rt.alloc(), fault, text)?, "{text}");
-    }
-    Ok(())
+fn texts(rt: HostRuntime) {
+    let alloc = rt.alloc();
+    let rows = [
+        a_cutter_keeps_the_front_of_a_line(),
+        a_cutter_takes_a_text_up_to_its_room(),
+        a_row_grows(),
+        is_text(alloc, IoFault::ReadFailed, "READ FAILED"),
+        is_text(alloc, IoFault::WriteFailed, "WRITE FAILED"),
+        is_text(alloc, IoFault::LineLimit, "LINE LIMIT"),
+    ];
+    check_rows(&rt, &rows);
 }

@@ -1,18 +1,9 @@
 //! The whole program, over a host in memory.
 
+use crate::words::words_of;
 use pp_lines::{Feed, Terminal, Tray};
 use pp_program::*;
-use std::alloc::{AllocError, Global};
-use std::test::Fail;
-
-/// Returns the words of a line. No word contains a blank.
-fn words(alloc: Global, line: &str) -> Result<Vec<String>, AllocError> {
-    let mut words = Vec::new(alloc);
-    for word in line.split_whitespace() {
-        words.push(String::from_str(alloc, word)?)?;
-    }
-    Ok(words)
-}
+use std::alloc::Global;
 
 const FILES: [StoredFile<'static>; 5] = [
     StoredFile {
@@ -125,11 +116,16 @@ fn is_right(alloc: Global, words: Result<Vec<String>, WordsFault>, run: &Run) ->
         && errors.text() == run.errors.as_bytes()
 }
 
-fn run_is_right(alloc: Global, run: &Run) -> Result<bool, Fail> {
-    match run.words {
-        Ok(line) => Ok(is_right(alloc, Ok(words(alloc, line)?), run)),
-        Err(fault) => Ok(is_right(alloc, Err(fault), run)),
+/// Returns the words of a run.
+fn words_of_run(alloc: Global, run: &Run) -> Result<Vec<String>, WordsFault> {
+    match words_of(alloc, run.words?) {
+        Ok(words) => Ok(words),
+        Err(_) => Err(WordsFault::NoMemory),
     }
+}
+
+fn run_is_right(alloc: Global, run: &Run) -> bool {
+    is_right(alloc, words_of_run(alloc, run), run)
 }
 
 const USAGE: &str =
@@ -246,17 +242,16 @@ const RUNS: [Run; 11] = [
 ];
 
 #[test]
-fn runs(rt: HostRuntime) -> Result<(), Fail> {
+fn runs(rt: HostRuntime) {
     for i in 0..RUNS.len() {
-        assert!(rt; run_is_right(rt.alloc(), &RUNS[i])?, "row {i}");
+        assert!(rt; run_is_right(rt.alloc(), &RUNS[i]), "row {i}");
     }
-    Ok(())
 }
 
 /// The words of a run that prints only the line of a trouble, that line, the exit status, and how many files were asked for.
 type Rejected = (&'static str, &'static str, u8, u32);
 
-fn is_rejected(alloc: Global, row: &Rejected) -> Result<bool, Fail> {
+fn is_rejected(alloc: Global, row: &Rejected) -> bool {
     let (line, errors, status, asked) = *row;
     let run = Run {
         words: Ok(line),
@@ -306,9 +301,8 @@ const TROUBLES: [Rejected; 10] = [
 ];
 
 #[test]
-fn troubles_end_a_run(rt: HostRuntime) -> Result<(), Fail> {
+fn troubles_end_a_run(rt: HostRuntime) {
     for i in 0..TROUBLES.len() {
-        assert!(rt; is_rejected(rt.alloc(), &TROUBLES[i])?, "row {i}");
+        assert!(rt; is_rejected(rt.alloc(), &TROUBLES[i]), "row {i}");
     }
-    Ok(())
 }

@@ -5,15 +5,14 @@ ghost use Rattle.std.specs.Prelude.{◌≤◌};
 
 use pp_history::*;
 use std::alloc::Global;
-use std::test::Fail;
 
 mod dials;
 mod gauge;
 
-fn session_of<T: Reversible>(alloc: Global, machine: T, capacity: u32) -> Result<Session<T>, Fail>
+fn session_of<T: Reversible>(alloc: Global, machine: T, capacity: u32) -> Option<Session<T>>
     requires { (1 ≤ capacity) × (capacity ≤ 10000) }
 {
-    Ok(Session::new(alloc, machine, capacity).map_err(|_| "no memory")?)
+    Session::new(alloc, machine, capacity).ok()
 }
 
 /// Returns the number that a place had before the newest action.

@@ -3,11 +3,11 @@
 ghost use Rattle.std.specs.Prelude.{◌≤◌};
 
 use super::{before_newest, session_of};
+use crate::rows::check_rows;
 use pp_history::*;
 use std::alloc::Global;
 use std::marker::Model;
 use std::process::Abort;
-use std::test::Fail;
 
 /// Three numbers, each of which can be set.
 #[derive(Drop)]
@@ -117,23 +117,37 @@ fn three_dials() -> Dials {
 
 /// A call, and what it returns.
 enum Call {
+    /// Whether the machine admits that a dial is set.
+    Admits(usize, bool),
     Act(usize, u64),
     Back(u32, Result<(), BackFault>),
     Forward(u32, Result<(), BackFault>),
     /// Goes back to the latest change of one dial.
     BackTo(usize, Result<u32, BackFault>),
+    /// Finds the latest change of several dials.
+    Find,
     /// Returns the number of a dial before the newest action.
     Before(usize, Option<u64>),
 }
 
-use Call::{Act, Back, BackTo, Before, Forward};
+use Call::{Act, Admits, Back, BackTo, Before, Find, Forward};
 
 /// A call, and afterwards the numbers, how many actions are kept, and how many are ahead.
 type Row = (Call, [u64; 3], u32, u32);
 
+/// Returns whether the changes are found: of two dials in the third action, of the last dial in none, and of no dial in none.
+fn finds_changes(session: &mut Session<Dials>) -> bool {
+    let mut looks = Looks::new();
+    let of_two = session.find_change(&[0, 2], &mut looks);
+    let of_one = session.find_change(&[2], &mut looks);
+    let of_none = session.back_to_change(&[]);
+    of_two == Some(3) && of_one.is_none() && of_none == Err(BackFault::NoChange { kept: 3 })
+}
+
 /// Makes a call of a dial, 0 to 2. Returns whether the result is the expected one.
 fn returns(session: &mut Session<Dials>, call: &Call) -> bool {
     match *call {
+        Admits(dial, admitted) => session.machine().admits(&Set { dial, to: 1 }) == admitted,
         Act(dial, to) if dial < 3 => {
             session.act(Set { dial, to });
             true
@@ -141,6 +155,7 @@ fn returns(session: &mut Session<Dials>, call: &Call) -> bool {
         Back(n, result) => session.back(n) == result,
         Forward(n, result) => session.forward(n) == result,
         BackTo(dial, result) if dial < 3 => session.back_to_change(&[dial]) == result,
+        Find => finds_changes(session),
         Before(dial, number) if dial < 3 => before_newest(session, &dial) == number,
         _ => false,
     }
@@ -158,15 +173,16 @@ fn follow(rt: &impl Abort, session: &mut Session<Dials>, rows: &[Row]) {
     }
 }
 
-/// Follows rows in a new session whose undo history holds this many actions, 1 to 10,000 (decimal).
-fn follow_anew(rt: &impl Abort, alloc: Global, capacity: u32, rows: &[Row]) -> Result<(), Fail>
+/// Follows rows in a new session whose undo history holds this many actions, 1 to 10,000 (decimal). Returns whether there is
+/// memory for it, and whether it says that it holds so many.
+fn follow_anew(rt: &impl Abort, alloc: Global, capacity: u32, rows: &[Row]) -> bool
     requires { (1 ≤ capacity) × (capacity ≤ 10000) }
 {
-    let mut session = session_of(alloc, three_dials(), capacity)?;
+    let Some(mut session) = session_of(alloc, three_dials(), capacity) else {
+        return false;
+    };
     follow(rt, &mut session, rows);
-    assert!(rt; session.capacity() == capacity);
-    drop(session);
-    Ok(())
+    session.capacity() == capacity
 }
 
 const BY_ACTIONS: [Row; 12] = [
@@ -194,18 +210,11 @@ const BY_ACTIONS: [Row; 12] = [
     (Forward(3, Ok(())), [5, 6, 8], 3, 0),
 ];
 
-#[test]
-fn goes_back_and_forward_by_its_actions(rt: HostRuntime) -> Result<(), Fail> {
-    follow_anew(&rt, rt.alloc(), 4, &BY_ACTIONS)
-}
-
-const SAME_NUMBER_AGAIN: [Row; 3] = [
+const LATEST_CHANGE: [Row; 6] = [
     (Act(0, 5), [5, 0, 0], 1, 0),
     (Act(1, 6), [5, 6, 0], 2, 0),
     (Act(0, 5), [5, 6, 0], 3, 0),
-];
-
-const LATEST_CHANGE: [Row; 2] = [
+    (Find, [5, 6, 0], 3, 0),
     (
         BackTo(2, Err(BackFault::NoChange { kept: 3 })),
         [5, 6, 0],
@@ -215,25 +224,6 @@ const LATEST_CHANGE: [Row; 2] = [
     (BackTo(0, Ok(3)), [0, 0, 0], 0, 3),
 ];
 
-/// Returns whether the changes are found.
-fn finds_changes(session: &mut Session<Dials>) -> bool {
-    let mut looks = Looks::new();
-    let of_two = session.find_change(&[0, 2], &mut looks);
-    let of_one = session.find_change(&[2], &mut looks);
-    let of_none = session.back_to_change(&[]);
-    of_two == Some(3) && of_one.is_none() && of_none == Err(BackFault::NoChange { kept: 3 })
-}
-
-#[test]
-fn goes_back_to_the_latest_change(rt: HostRuntime) -> Result<(), Fail> {
-    let mut session = session_of(rt.alloc(), three_dials(), 4)?;
-    follow(&rt, &mut session, &SAME_NUMBER_AGAIN);
-    assert!(rt; finds_changes(&mut session));
-    follow(&rt, &mut session, &LATEST_CHANGE);
-    drop(session);
-    Ok(())
-}
-
 const NEWEST_ALONE: [Row; 6] = [
     (Back(1, Err(BackFault::TooFew { kept: 0 })), [0, 0, 0], 0, 0),
     (Act(0, 1), [1, 0, 0], 1, 0),
@@ -242,11 +232,6 @@ const NEWEST_ALONE: [Row; 6] = [
     (Back(1, Ok(())), [1, 0, 0], 0, 1),
     (Back(1, Err(BackFault::TooFew { kept: 0 })), [1, 0, 0], 0, 1),
 ];
-
-#[test]
-fn keeps_the_newest_action_alone(rt: HostRuntime) -> Result<(), Fail> {
-    follow_anew(&rt, rt.alloc(), 1, &NEWEST_ALONE)
-}
 
 const UNDONE_IN_PART: [Row; 9] = [
     (Act(0, 1), [1, 0, 0], 1, 0),
@@ -260,11 +245,6 @@ const UNDONE_IN_PART: [Row; 9] = [
     (BackTo(0, Ok(2)), [1, 2, 0], 1, 2),
 ];
 
-#[test]
-fn performs_again_what_was_undone_in_part(rt: HostRuntime) -> Result<(), Fail> {
-    follow_anew(&rt, rt.alloc(), 3, &UNDONE_IN_PART)
-}
-
 const BEFORE_THE_NEWEST: [Row; 6] = [
     (Act(1, 3), [0, 3, 0], 1, 0),
     (Act(1, 4), [0, 4, 0], 2, 0),
@@ -274,27 +254,25 @@ const BEFORE_THE_NEWEST: [Row; 6] = [
     (Before(1, Some(0)), [0, 3, 0], 1, 1),
 ];
 
-#[test]
-fn names_the_number_before_the_newest_action(rt: HostRuntime) -> Result<(), Fail> {
-    follow_anew(&rt, rt.alloc(), 2, &BEFORE_THE_NEWEST)
-}
-
-fn admits(session: &Session<Dials>, set: Set) -> bool {
-    session.machine().admits(&set)
-}
+/// What the machine admits.
+const ADMITTED: [Row; 2] = [
+    (Admits(2, true), [0, 0, 0], 0, 0),
+    (Admits(3, false), [0, 0, 0], 0, 0),
+];
 
 #[test]
-fn admits_what_the_machine_admits(rt: HostRuntime) -> Result<(), Fail> {
-    let session = session_of(rt.alloc(), three_dials(), 1)?;
-    assert!(rt; admits(&session, Set { dial: 2, to: 1 }));
-    assert!(rt; !admits(&session, Set { dial: 3, to: 1 }));
-    drop(session);
-    Ok(())
-}
-
-#[test]
-fn a_place_has_no_mark(rt: HostRuntime) -> Result<(), Fail> {
-    assert!(rt; !Marks::of::<Dials>(&[]).has_unmarked());
-    assert!(rt; Marks::of::<Dials>(&[2]).has_unmarked());
-    Ok(())
+fn sessions(rt: HostRuntime) {
+    let alloc = rt.alloc();
+    let rows = [
+        follow_anew(&rt, alloc, 4, &BY_ACTIONS),
+        follow_anew(&rt, alloc, 4, &LATEST_CHANGE),
+        follow_anew(&rt, alloc, 1, &NEWEST_ALONE),
+        follow_anew(&rt, alloc, 3, &UNDONE_IN_PART),
+        follow_anew(&rt, alloc, 2, &BEFORE_THE_NEWEST),
+        follow_anew(&rt, alloc, 1, &ADMITTED),
+        // A place has no mark.
+        !Marks::of::<Dials>(&[]).has_unmarked(),
+        Marks::of::<Dials>(&[2]).has_unmarked(),
+    ];
+    check_rows(&rt, &rows);
 }

@@ -3,10 +3,10 @@
 ghost use Rattle.std.specs.Prelude.{◌≤◌};
 
 use super::{before_newest, session_of};
+use crate::rows::check_rows;
 use pp_history::*;
 use std::alloc::Global;
 use std::process::Abort;
-use std::test::Fail;
 
 /// One number, which can be set.
 #[derive(Drop)]
@@ -124,12 +124,27 @@ enum Call {
     Before(Option<u64>),
     /// Finds the latest change.
     Find(Option<u32>),
+    /// Repeats the action n times.
+    Repeat(u32),
+    /// Repeats it n times up to a change of the number, in as many calls as that takes.
+    RepeatMarked(u32, u32),
 }
 
-use Call::{Act, Back, BackTo, Before, Find, Forward};
+use Call::{Act, Back, BackTo, Before, Find, Forward, Repeat, RepeatMarked};
 
 /// A call, and afterwards the number, how many actions are kept, and how many are ahead.
 type Row = (Call, u64, u32, u32);
+
+/// Repeats the action n times, in as many calls as that takes.
+fn repeat(session: &mut Session<Gauge>, n: u32, marks: &Marks) -> u32 {
+    let mut left = n;
+    let mut calls = 0;
+    while left > 0 {
+        left -= session.repeat(left, marks);
+        calls += 1;
+    }
+    calls
+}
 
 /// Makes a call. Returns whether the result is the expected one.
 fn returns(session: &mut Session<Gauge>, call: &Call) -> bool {
@@ -143,6 +158,11 @@ fn returns(session: &mut Session<Gauge>, call: &Call) -> bool {
         BackTo(result) => session.back_to_change(&[()]) == result,
         Before(number) => before_newest(session, &()) == number,
         Find(change) => session.find_change(&[()], &mut Looks::new()) == change,
+        Repeat(n) => {
+            repeat(session, n, &Marks::of::<Gauge>(&[]));
+            true
+        }
+        RepeatMarked(n, calls) => repeat(session, n, &Marks::of::<Gauge>(&[()])) == calls,
     }
 }
 
@@ -158,14 +178,16 @@ fn follow(rt: &impl Abort, session: &mut Session<Gauge>, rows: &[Row]) {
     }
 }
 
-/// Follows rows in a new session whose undo history holds this many actions, 1 to 10,000 (decimal).
-fn follow_anew(rt: &impl Abort, alloc: Global, capacity: u32, rows: &[Row]) -> Result<(), Fail>
+/// Follows rows in a new session of a gauge at a number. Its undo history holds this many actions, 1 to 10,000 (decimal).
+/// Returns whether there is memory for it.
+fn follow_anew(rt: &impl Abort, alloc: Global, number: u64, capacity: u32, rows: &[Row]) -> bool
     requires { (1 ≤ capacity) × (capacity ≤ 10000) }
 {
-    let mut session = session_of(alloc, Gauge { number: 0 }, capacity)?;
+    let Some(mut session) = session_of(alloc, Gauge { number }, capacity) else {
+        return false;
+    };
     follow(rt, &mut session, rows);
-    drop(session);
-    Ok(())
+    true
 }
 
 const IN_PLACE: [Row; 14] = [
@@ -184,11 +206,6 @@ const IN_PLACE: [Row; 14] = [
     (BackTo(Ok(2)), 5, 0, 3),
     (BackTo(Err(BackFault::NoChange { kept: 0 })), 5, 0, 3),
 ];
-
-#[test]
-fn goes_back_and_forward_in_place(rt: HostRuntime) -> Result<(), Fail> {
-    follow_anew(&rt, rt.alloc(), 3, &IN_PLACE)
-}
 
 const SHORT_AND_LONG: [Row; 21] = [
     (Act(5), 5, 1, 0),
@@ -214,11 +231,6 @@ const SHORT_AND_LONG: [Row; 21] = [
     (Forward(3, Ok(())), 10, 3, 0),
 ];
 
-#[test]
-fn keeps_short_and_long_records_in_order(rt: HostRuntime) -> Result<(), Fail> {
-    follow_anew(&rt, rt.alloc(), 3, &SHORT_AND_LONG)
-}
-
 const SEARCHED: [Row; 13] = [
     (Act(300), 300, 1, 0),
     (Act(400), 400, 2, 0),
@@ -235,44 +247,27 @@ const SEARCHED: [Row; 13] = [
     (BackTo(Ok(1)), 400, 3, 2),
 ];
 
-#[test]
-fn searches_short_and_long_records(rt: HostRuntime) -> Result<(), Fail> {
-    follow_anew(&rt, rt.alloc(), 5, &SEARCHED)
-}
-
-/// Repeats the action n times, in as many calls as that takes.
-fn repeat(session: &mut Session<Gauge>, n: u32, marks: &Marks) -> u32 {
-    let mut left = n;
-    let mut calls = 0;
-    while left > 0 {
-        left -= session.repeat(left, marks);
-        calls += 1;
-    }
-    calls
-}
+const REPEATED: [Row; 10] = [
+    (Act(5), 5, 1, 0),
+    (Act(6), 6, 2, 0),
+    (Back(1, Ok(())), 5, 1, 1),
+    (Repeat(2), 7, 3, 0),
+    (Back(2, Ok(())), 5, 1, 2),
+    (Forward(2, Ok(())), 7, 3, 0),
+    (Repeat(5), 7, 3, 0),
+    (Back(3, Ok(())), 7, 0, 3),
+    (RepeatMarked(4, 4), 7, 3, 0),
+    (Find(None), 7, 3, 0),
+];
 
 #[test]
-fn repeats_an_action(rt: HostRuntime) -> Result<(), Fail> {
-    let mut session = session_of(rt.alloc(), Gauge { number: 300 }, 3)?;
-    follow(
-        &rt,
-        &mut session,
-        &[
-            (Act(5), 5, 1, 0),
-            (Act(6), 6, 2, 0),
-            (Back(1, Ok(())), 5, 1, 1),
-        ],
-    );
-    repeat(&mut session, 2, &Marks::of::<Gauge>(&[]));
-    follow(
-        &rt,
-        &mut session,
-        &[(Back(2, Ok(())), 5, 1, 2), (Forward(2, Ok(())), 7, 3, 0)],
-    );
-    repeat(&mut session, 5, &Marks::of::<Gauge>(&[]));
-    follow(&rt, &mut session, &[(Back(3, Ok(())), 7, 0, 3)]);
-    assert!(rt; repeat(&mut session, 4, &Marks::of::<Gauge>(&[()])) == 4);
-    follow(&rt, &mut session, &[(Find(None), 7, 3, 0)]);
-    drop(session);
-    Ok(())
+fn sessions(rt: HostRuntime) {
+    let alloc = rt.alloc();
+    let rows = [
+        follow_anew(&rt, alloc, 0, 3, &IN_PLACE),
+        follow_anew(&rt, alloc, 0, 3, &SHORT_AND_LONG),
+        follow_anew(&rt, alloc, 0, 5, &SEARCHED),
+        follow_anew(&rt, alloc, 300, 3, &REPEATED),
+    ];
+    check_rows(&rt, &rows);
 }

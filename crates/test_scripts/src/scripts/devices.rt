@@ -1,6 +1,5 @@
 //! Channels, devices and dead start.
 use super::{With, follows_each};
-use std::test::Fail;
 
 const SESSIONS: [(With, &str); 10] = [
     // A card is read into cells.
@@ -222,6 +221,6 @@ H 14 F 0000
 ];
 
 #[test]
-fn devices(rt: HostRuntime) -> Result<(), Fail> {
-    follows_each(&rt, rt.alloc(), &SESSIONS)
+fn devices(rt: HostRuntime) {
+    follows_each(&rt, rt.alloc(), &SESSIONS);
 }

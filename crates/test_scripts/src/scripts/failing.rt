@@ -1,15 +1,11 @@
 //! Devices that fail, and input without end.
 ghost use Rattle.std.specs.Prelude.{◌<◌};
 
-use super::{With, ends, session_of};
-use pp_console::{Summary, serve};
-use pp_history::{Reversible, Session};
-use pp_lines::{Endless, Feed, IoFault, Log, Tray};
-use pp_machine::Place;
-use pp_rig::Rig;
-use std::alloc::Global;
+use super::{Fails, Run, With, check_rows, runs_end};
+use pp_console::Summary;
+use pp_lines::IoFault;
+use std::alloc::{AllocError, Global};
 use std::process::Abort;
-use std::test::Fail;
 
 /// A line with its line end, its answer, and the length of the undo history after it.
 type Exchange = (&'static [u8], &'static [u8], u32);
@@ -65,7 +61,7 @@ XXXXXXXXXXXXXXXXXXXXXXXXXXXXXXXXXXXXXXXXXXXXXXXXXXXXXXXXXXXXXXXX\n",
     (b"STEP", b"TURNS 1 SLOT 01\n", 1),
 ];
 
-fn lines_of(alloc: Global, exchanges: &[Exchange]) -> Result<Vec<u8>, Fail> {
+fn lines_of(alloc: Global, exchanges: &[Exchange]) -> Result<Vec<u8>, AllocError> {
     let mut script = Vec::new(alloc);
     for i in 0..exchanges.len() {
         script.extend_from_slice(exchanges[i].0)?;
@@ -73,7 +69,7 @@ fn lines_of(alloc: Global, exchanges: &[Exchange]) -> Result<Vec<u8>, Fail> {
     Ok(script)
 }
 
-fn answers_of(alloc: Global, exchanges: &[Exchange]) -> Result<Vec<u8>, Fail> {
+fn answers_of(alloc: Global, exchanges: &[Exchange]) -> Result<Vec<u8>, AllocError> {
     let mut text = Vec::new(alloc);
     for i in 0..exchanges.len() {
         text.extend_from_slice(exchanges[i].1)?;
@@ -114,39 +110,36 @@ fn finished_within(exchanges: &[Exchange], bytes: usize) -> &[Exchange] {
     exchanges
 }
 
-fn kept_is(rt: &impl Abort, session: &Session<Rig>, kept: u32) {
-    assert!(rt; session.kept() == kept, "not {kept} kept");
+/// Performs a run on a new machine, and returns whether it ends so.
+fn run_ends_anew(alloc: Global, run: Run) -> bool {
+    runs_end(alloc, With::LittleMemory, 100, &[run])
 }
 
-/// Performs a script on a new machine, and compares the result, what is written, and the length of the undo history.
-fn script_stops(
-    rt: &impl Abort,
-    alloc: Global,
-    source: &mut Feed,
-    out: &mut Tray,
-    expected: Result<Summary, IoFault>,
-    text: &[u8],
-    kept: u32,
-) -> Result<(), Fail> {
-    let mut session = session_of(alloc, With::LittleMemory, 100)?;
-    ends(rt, &mut session, source, out, expected, text);
-    kept_is(rt, &session, kept);
-    drop(session);
-    Ok(())
-}
-
-/// Performs the lines of a source, and compares the result and the answers: those of the exchanges.
+/// Makes the source of a script fail at one call, or at none. Returns whether this is the result, and the answers are those
+/// of the exchanges.
 fn source_stops(
-    rt: &impl Abort,
     alloc: Global,
-    source: &mut Feed,
+    script: &[u8],
+    piece: usize,
+    call: u64,
     exchanges: &[Exchange],
     expected: Result<Summary, IoFault>,
-) -> Result<(), Fail> {
-    let text = answers_of(alloc, exchanges)?;
-    let (text, kept) = (text.as_slice(), kept_after(exchanges));
-    let mut out = Tray::new(4096);
-    script_stops(rt, alloc, source, &mut out, expected, text, kept)
+) -> bool {
+    match answers_of(alloc, exchanges) {
+        Ok(text) => {
+            let run = Run {
+                script,
+                pieces: (piece, 4096),
+                fails: Fails::Reading(call),
+                expected,
+                text: text.as_slice(),
+                kept: Some(kept_after(exchanges)),
+                a: None,
+            };
+            run_ends_anew(alloc, run)
+        }
+        Err(_) => false,
+    }
 }
 
 /// Makes the source of a script fail at each of its calls in turn, and then at none.
@@ -156,58 +149,78 @@ fn script_fails_at_each_take(
     exchanges: &[Exchange],
     script: &[u8],
     piece: usize,
-) -> Result<(), Fail>
+)
     requires { 0 < piece }
 {
     let calls = script.len().div_ceil(piece).saturating_add(1) as u64;
+    let failed = Err(IoFault::ReadFailed);
     let mut taken = 0usize;
     for call in 1..calls.saturating_add(1) {
         let finished = finished_within(exchanges, taken);
-        let mut source = Feed::failing(script, piece, call);
-        source_stops(rt, alloc, &mut source, finished, Err(IoFault::ReadFailed))?;
+        assert!(rt;
+            source_stops(alloc, script, piece, call, finished, failed),
+            "read {call}"
+        );
         taken = taken.saturating_add(piece);
     }
-    let mut source = Feed::failing(script, piece, calls.saturating_add(1));
-    let summary = summary_of(exchanges);
-    source_stops(rt, alloc, &mut source, exchanges, Ok(summary))
+    let later = calls.saturating_add(1);
+    let summary = Ok(summary_of(exchanges));
+    assert!(rt;
+        source_stops(alloc, script, piece, later, exchanges, summary),
+        "no failed read"
+    );
 }
 
-/// Makes the sink fail at one call, or at none, and compares what is written before.
+/// The text that is written before a call of a sink, and the number of the call.
+#[derive(Drop)]
+struct Written {
+    text: Vec<u8>,
+    call: u64,
+}
+
+/// Makes the sink fail at one call, or at none, and returns whether this is the end, and the text is written before.
 fn sink_stops(
-    rt: &impl Abort,
     alloc: Global,
     script: &[u8],
-    out: &mut Tray,
+    piece: usize,
+    written: &Written,
     expected: Result<Summary, IoFault>,
-    text: &[u8],
     kept: u32,
-) -> Result<(), Fail> {
-    let mut source = Feed::new(script, 4096);
-    script_stops(rt, alloc, &mut source, out, expected, text, kept)
+) -> bool {
+    let run = Run {
+        script,
+        pieces: (4096, piece),
+        fails: Fails::Writing(written.call),
+        expected,
+        text: written.text.as_slice(),
+        kept: Some(kept),
+        a: None,
+    };
+    run_ends_anew(alloc, run)
 }
 
-/// Makes the sink fail at each call that writes a part of one answer. Returns the number of the next call.
+/// Makes the sink fail at each call that writes a part of one answer.
 fn fails_in_answer(
     rt: &impl Abort,
     alloc: Global,
     script: &[u8],
     piece: usize,
-    first: u64,
-    text: &mut Vec<u8>,
+    written: &mut Written,
     exchange: &Exchange,
-) -> Result<u64, Fail>
+)
     requires { 0 < piece }
 {
     let (_, answer, kept) = *exchange;
     let failed = Err(IoFault::WriteFailed);
-    let mut call = first;
     for part in answer.chunks(piece) {
-        let mut out = Tray::failing(piece, call);
-        sink_stops(rt, alloc, script, &mut out, failed, text.as_slice(), kept)?;
-        text.extend_from_slice(part)?;
-        call = call.saturating_add(1);
+        let call = written.call;
+        assert!(rt;
+            sink_stops(alloc, script, piece, written, failed, kept),
+            "write {call}"
+        );
+        assert!(rt; written.text.extend_from_slice(part).is_ok());
+        written.call = written.call.saturating_add(1);
     }
-    Ok(call)
 }
 
 /// Makes the sink of a script fail at each of its calls in turn, and then at none.
@@ -217,141 +230,45 @@ fn script_fails_at_each_put(
     exchanges: &[Exchange],
     script: &[u8],
     piece: usize,
-    text: &mut Vec<u8>,
-) -> Result<(), Fail>
+)
     requires { 0 < piece }
 {
-    let mut call = 1u64;
+    let mut written = Written {
+        text: Vec::new(alloc),
+        call: 1,
+    };
     for i in 0..exchanges.len() {
-        let exchange = &exchanges[i];
-        call = fails_in_answer(rt, alloc, script, piece, call, text, exchange)?;
+        fails_in_answer(rt, alloc, script, piece, &mut written, &exchanges[i]);
     }
-    let mut out = Tray::failing(piece, call);
-    let summary = Ok(summary_of(exchanges));
-    let kept = kept_after(exchanges);
-    sink_stops(rt, alloc, script, &mut out, summary, text.as_slice(), kept)
+    let (summary, kept) = (Ok(summary_of(exchanges)), kept_after(exchanges));
+    assert!(rt;
+        sink_stops(alloc, script, piece, &written, summary, kept),
+        "no failed write"
+    );
 }
 
 const SCRIPTS: [&[Exchange]; 3] = [&LOAD, &CHANGE, &REFUSED];
 
-/// The side of a program that fails.
-#[derive(Clone, Copy)]
-enum Side {
-    Source,
-    Sink,
-}
-
-/// Makes a side fail at each of its calls in turn. Each call takes at most `piece` bytes.
-fn fails_at_each_call(
-    rt: &impl Abort,
-    alloc: Global,
-    exchanges: &[Exchange],
-    side: Side,
-    piece: usize,
-) -> Result<(), Fail>
+/// Makes the source, and then the sink, fail at each of its calls in turn. Each call takes at most `piece` bytes.
+fn fails_at_each_call(rt: &impl Abort, alloc: Global, exchanges: &[Exchange], piece: usize)
     requires { 0 < piece }
 {
-    let lines = lines_of(alloc, exchanges)?;
-    let script = lines.as_slice();
-    match side {
-        Side::Source => script_fails_at_each_take(rt, alloc, exchanges, script, piece),
-        Side::Sink => {
-            let mut text = Vec::new(alloc);
-            script_fails_at_each_put(rt, alloc, exchanges, script, piece, &mut text)
+    match lines_of(alloc, exchanges) {
+        Ok(lines) => {
+            let script = lines.as_slice();
+            script_fails_at_each_take(rt, alloc, exchanges, script, piece);
+            script_fails_at_each_put(rt, alloc, exchanges, script, piece);
         }
+        Err(_) => assert!(rt; false, "no memory"),
     }
 }
 
-fn each_script_fails(rt: &impl Abort, alloc: Global, side: Side) -> Result<(), Fail> {
+#[test]
+fn each_call_fails(rt: HostRuntime) {
     for i in 0..SCRIPTS.len() {
-        fails_at_each_call(rt, alloc, SCRIPTS[i], side, 1)?;
-        fails_at_each_call(rt, alloc, SCRIPTS[i], side, 4096)?;
+        fails_at_each_call(&rt, rt.alloc(), SCRIPTS[i], 1);
+        fails_at_each_call(&rt, rt.alloc(), SCRIPTS[i], 4096);
     }
-    Ok(())
-}
-
-#[test]
-fn source_fails_at_each_call(rt: HostRuntime) -> Result<(), Fail> {
-    each_script_fails(&rt, rt.alloc(), Side::Source)
-}
-
-#[test]
-fn sink_fails_at_each_call(rt: HostRuntime) -> Result<(), Fail> {
-    each_script_fails(&rt, rt.alloc(), Side::Sink)
-}
-
-/// The call that fails, counted from 1.
-#[derive(Clone, Copy)]
-enum Fails {
-    Never,
-    Reading(u64),
-    /// Each call writes one byte.
-    Writing(u64),
-}
-
-fn source_of<'a>(script: &'a [u8], fails: Fails) -> Feed<'a> {
-    match fails {
-        Fails::Reading(call) => Feed::failing(script, 4096, call),
-        _ => Feed::new(script, 4096),
-    }
-}
-
-fn sink_of(fails: Fails) -> Tray {
-    match fails {
-        Fails::Writing(call) => Tray::failing(1, call),
-        _ => Tray::new(1),
-    }
-}
-
-/// Performs a script on devices of its own, and compares its end.
-fn script_ends(
-    rt: &impl Abort,
-    session: &mut Session<Rig>,
-    script: &[u8],
-    fails: Fails,
-    expected: Result<Summary, IoFault>,
-    text: &[u8],
-) {
-    let mut source = source_of(script, fails);
-    let mut out = sink_of(fails);
-    ends(rt, session, &mut source, &mut out, expected, text);
-}
-
-/// A script, the call that fails, and the end. Afterwards the length of the undo history, and A of processor 0.
-struct Part {
-    script: &'static [u8],
-    fails: Fails,
-    expected: Result<Summary, IoFault>,
-    text: &'static [u8],
-    kept: u32,
-    a: u64,
-}
-
-fn part_ends(rt: &impl Abort, session: &mut Session<Rig>, part: &Part) {
-    script_ends(
-        rt,
-        session,
-        part.script,
-        part.fails,
-        part.expected,
-        part.text,
-    );
-    kept_is(rt, session, part.kept);
-    assert!(rt; session.machine().value(&Place::RegA { pp: 0 }) == part.a);
-}
-
-fn each_part_ends(rt: &impl Abort, session: &mut Session<Rig>, parts: &[Part]) {
-    for i in 0..parts.len() {
-        part_ends(rt, session, &parts[i]);
-    }
-}
-
-/// Performs scripts one after the other in one session.
-fn parts_end(rt: &impl Abort, alloc: Global, parts: &[Part]) -> Result<(), Fail> {
-    let mut session = session_of(alloc, With::LittleMemory, 100)?;
-    each_part_ends(rt, &mut session, parts);
-    drop(session);
-    Ok(())
 }
 
 const ONE_LINE: Summary = Summary {
@@ -360,142 +277,144 @@ const ONE_LINE: Summary = Summary {
 };
 
 /// An unfinished line is performed at the end of the source, but not after a failure.
-const UNFINISHED: [Part; 3] = [
-    Part {
+const UNFINISHED: [Run<'static>; 3] = [
+    Run {
         script: b"SET A 0 5\nSTEP",
+        pieces: (4096, 1),
         fails: Fails::Reading(2),
         expected: Err(IoFault::ReadFailed),
         text: b"OK\n",
-        kept: 1,
-        a: 5,
+        kept: Some(1),
+        a: Some(5),
     },
-    Part {
+    Run {
         script: b"BACK",
+        pieces: (4096, 1),
         fails: Fails::Reading(2),
         expected: Err(IoFault::ReadFailed),
         text: b"",
-        kept: 1,
-        a: 5,
+        kept: Some(1),
+        a: Some(5),
     },
-    Part {
+    Run {
         script: b"BACK",
-        fails: Fails::Never,
+        pieces: (4096, 1),
+        fails: Fails::Nothing,
         expected: Ok(ONE_LINE),
         text: b"BACK 1 SLOT 00\n",
-        kept: 0,
-        a: 0,
+        kept: Some(0),
+        a: Some(0),
     },
 ];
 
 /// A command is performed even if its answer can't be written.
-const UNANSWERED: [Part; 2] = [
-    Part {
+const UNANSWERED: [Run<'static>; 2] = [
+    Run {
         script: b"SET A 0 5\nSET A 0 6\nSET A 0 7\n",
+        pieces: (4096, 1),
         fails: Fails::Writing(5),
         expected: Err(IoFault::WriteFailed),
         text: b"OK\nO",
-        kept: 2,
-        a: 6,
+        kept: Some(2),
+        a: Some(6),
     },
-    Part {
+    Run {
         script: b"SET A 0 7",
+        pieces: (4096, 1),
         fails: Fails::Writing(1),
         expected: Err(IoFault::WriteFailed),
         text: b"",
-        kept: 3,
-        a: 7,
+        kept: Some(3),
+        a: Some(7),
     },
 ];
 
-#[test]
-fn unfinished_line_waits_for_the_end(rt: HostRuntime) -> Result<(), Fail> {
-    parts_end(&rt, rt.alloc(), &UNFINISHED)
-}
-
-#[test]
-fn command_stands_without_its_answer(rt: HostRuntime) -> Result<(), Fail> {
-    parts_end(&rt, rt.alloc(), &UNANSWERED)
-}
-
-/// Performs line feeds without end.
-fn endless_lines_end(rt: &impl Abort, session: &mut Session<Rig>) {
-    let mut out = Tray::new(100);
-    let mut endless = Endless {
-        byte: b'\n',
-        log: Log::new(),
-    };
-    let ended = serve(session, &mut endless, &mut out);
-    assert!(rt; ended == Err(IoFault::LineLimit));
-    assert!(rt; out.text().is_empty());
+/// Returns a run whose script is read at once, and whose answers are written byte by byte.
+fn run_of<'a>(
+    script: &'a [u8],
+    fails: Fails,
+    expected: Result<Summary, IoFault>,
+    text: &'a [u8],
+) -> Run<'a> {
+    Run {
+        script,
+        pieces: (4096, 1),
+        fails,
+        expected,
+        text,
+        kept: Some(0),
+        a: None,
+    }
 }
 
 /// Returns a script of blank lines and an end.
-fn blank_lines(alloc: Global, lines: usize, end: &[u8]) -> Result<Vec<u8>, Fail> {
+fn blank_lines(alloc: Global, lines: usize, end: &[u8]) -> Result<Vec<u8>, AllocError> {
     let mut script = vec![in alloc; b'\n'; lines]?;
     script.extend_from_slice(end)?;
     Ok(script)
 }
 
-/// Performs a script of a million blank lines and an end.
-fn blank_lines_end(
-    rt: &impl Abort,
-    alloc: Global,
-    session: &mut Session<Rig>,
-    end: &[u8],
-    expected: Result<Summary, IoFault>,
-) -> Result<(), Fail> {
-    let script = blank_lines(alloc, 1_000_000, end)?;
-    script_ends(rt, session, script.as_slice(), Fails::Never, expected, b"");
-    Ok(())
+const MILLION: Summary = Summary {
+    lines: 1_000_000,
+    refused: 0,
+};
+
+/// Performs line feeds without end, a script without its last byte, and the whole script, which has one line too many.
+fn lines_end(alloc: Global, script: &[u8]) -> bool {
+    let Some((_, lines)) = script.split_last() else {
+        return false;
+    };
+    let limit = Err(IoFault::LineLimit);
+    let runs = [
+        run_of(b"", Fails::End, limit, b""),
+        run_of(lines, Fails::Nothing, Ok(MILLION), b""),
+        run_of(script, Fails::Nothing, limit, b""),
+    ];
+    runs_end(alloc, With::LittleMemory, 1, &runs)
 }
 
-/// Performs a script of a million lines, and then with one byte more.
-fn million_lines_end(
-    rt: &impl Abort,
-    alloc: Global,
-    session: &mut Session<Rig>,
-) -> Result<(), Fail> {
-    let summary = Summary {
-        lines: 1_000_000,
-        refused: 0,
-    };
-    blank_lines_end(rt, alloc, session, b"", Ok(summary))?;
-    blank_lines_end(rt, alloc, session, b"X", Err(IoFault::LineLimit))
+/// Performs a script whose last answer can't be written, and again with that answer.
+fn last_line_ends(alloc: Global, script: &[u8]) -> bool {
+    let failed = Err(IoFault::WriteFailed);
+    let limit = Err(IoFault::LineLimit);
+    let runs = [
+        run_of(script, Fails::Writing(1), failed, b""),
+        run_of(script, Fails::Nothing, limit, b"ERR 01 NOT A COMMAND\n"),
+    ];
+    runs_end(alloc, With::LittleMemory, 1, &runs)
 }
 
 /// A script has at most a million lines, and any further byte begins one more.
-#[test]
-fn lines_are_limited(rt: HostRuntime) -> Result<(), Fail> {
-    let mut session = session_of(rt.alloc(), With::LittleMemory, 1)?;
-    endless_lines_end(&rt, &mut session);
-    let ended = million_lines_end(&rt, rt.alloc(), &mut session);
-    kept_is(&rt, &session, 0);
-    drop(session);
-    ended
+fn lines_are_limited(alloc: Global) -> bool {
+    match blank_lines(alloc, 1_000_000, b"X") {
+        Ok(script) => lines_end(alloc, script.as_slice()),
+        Err(_) => false,
+    }
 }
 
 /// Lines are performed in order: an answer that can't be written is reported before a limit in the same piece.
-fn last_line_ends(rt: &impl Abort, alloc: Global, script: &[u8]) -> Result<(), Fail> {
-    let mut session = session_of(alloc, With::LittleMemory, 1)?;
-    let failed = Err(IoFault::WriteFailed);
-    script_ends(rt, &mut session, script, Fails::Writing(1), failed, b"");
-    let limit = Err(IoFault::LineLimit);
-    let text = b"ERR 01 NOT A COMMAND\n";
-    script_ends(rt, &mut session, script, Fails::Never, limit, text);
-    drop(session);
-    Ok(())
-}
-
-#[test]
-fn answers_come_before_limits(rt: HostRuntime) -> Result<(), Fail> {
-    let script = blank_lines(rt.alloc(), 999_999, b"GO\nX")?;
-    last_line_ends(&rt, rt.alloc(), script.as_slice())
+fn answers_come_before_limits(alloc: Global) -> bool {
+    match blank_lines(alloc, 999_999, b"GO\nX") {
+        Ok(script) => last_line_ends(alloc, script.as_slice()),
+        Err(_) => false,
+    }
 }
 
 /// The status of a run that ended without a fault shows whether a line was rejected.
+fn status_is(lines: u32, refused: u32, status: u8) -> bool {
+    Summary { lines, refused }.status() == status
+}
+
 #[test]
-fn status_shows_rejected_lines(rt: HostRuntime) {
-    for (lines, refused, status) in [(6, 0, 0), (7, 1, 1)] {
-        assert!(rt; Summary { lines, refused }.status() == status);
-    }
+fn runs_that_end(rt: HostRuntime) {
+    let alloc = rt.alloc();
+    let rows = [
+        runs_end(alloc, With::LittleMemory, 100, &UNFINISHED),
+        runs_end(alloc, With::LittleMemory, 100, &UNANSWERED),
+        lines_are_limited(alloc),
+        answers_come_before_limits(alloc),
+        status_is(6, 0, 0),
+        status_is(7, 1, 1),
+    ];
+    check_rows(&rt, &rows);
 }

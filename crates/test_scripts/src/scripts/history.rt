@@ -1,8 +1,5 @@
 //! Runs, watches, back and forward.
 use super::{With, follows, follows_all};
-use std::alloc::Global;
-use std::process::Abort;
-use std::test::Fail;
 
 const MOVES: [&str; 5] = [
     // An undo history of ten thousand actions.
@@ -95,8 +92,8 @@ ERR 16 TOO FEW AHEAD
 ];
 
 #[test]
-fn goes_back_and_forward(rt: HostRuntime) -> Result<(), Fail> {
-    follows_all(&rt, rt.alloc(), &MOVES)
+fn goes_back_and_forward(rt: HostRuntime) {
+    follows_all(&rt, rt.alloc(), &MOVES);
 }
 
 const WATCHES: [&str; 9] = [
@@ -278,8 +275,8 @@ W Q 00
 ];
 
 #[test]
-fn watches(rt: HostRuntime) -> Result<(), Fail> {
-    follows_all(&rt, rt.alloc(), &WATCHES)
+fn watches(rt: HostRuntime) {
+    follows_all(&rt, rt.alloc(), &WATCHES);
 }
 
 /// The length of the undo history, and a session.
@@ -386,15 +383,13 @@ BACK 4 SLOT 00
     ),
 ];
 
-fn short_history_follows(rt: &impl Abort, alloc: Global, row: &ShortHistory) -> Result<(), Fail> {
-    let (capacity, session) = *row;
-    follows(rt, alloc, With::Nothing, capacity, session)
-}
-
 #[test]
-fn short_histories(rt: HostRuntime) -> Result<(), Fail> {
+fn short_histories(rt: HostRuntime) {
     for i in 0..SHORT_HISTORIES.len() {
-        short_history_follows(&rt, rt.alloc(), &SHORT_HISTORIES[i])?;
+        let (capacity, session) = SHORT_HISTORIES[i];
+        assert!(rt;
+            follows(rt.alloc(), With::Nothing, capacity, session),
+            "session {i}"
+        );
     }
-    Ok(())
 }

@@ -1,12 +1,10 @@
 //! Lines and words.
-use super::{Case, With, compare, follows_each, session_of};
+use super::{Case, With, check_rows, compare, follows_each, session_of};
 use pp_console::{IoFault, Summary, parse, perform, serve};
 use pp_history::Session;
 use pp_lines::{Feed, Tray};
 use pp_rig::Rig;
-use std::alloc::Global;
-use std::process::Abort;
-use std::test::Fail;
+use std::alloc::{AllocError, Global};
 
 const SESSIONS: [(With, &str); 3] = [
     // A word that is not a number is reported before a number out of range, and an unknown word before the word count.
@@ -89,8 +87,8 @@ OK
 ];
 
 #[test]
-fn words_and_ranges(rt: HostRuntime) -> Result<(), Fail> {
-    follows_each(&rt, rt.alloc(), &SESSIONS)
+fn words_and_ranges(rt: HostRuntime) {
+    follows_each(&rt, rt.alloc(), &SESSIONS);
 }
 
 /// A script, its answers, its number of lines, and how many of them are rejected.
@@ -144,13 +142,7 @@ ERR 01 NOT A COMMAND\nTURNS 1 SLOT 01\n",
 ];
 
 /// Performs a script without a deck and a panel, and compares it.
-fn script_follows(
-    rt: &impl Abort,
-    alloc: Global,
-    script: &[u8],
-    answers: &[u8],
-    summary: Summary,
-) -> Result<(), Fail> {
+fn script_follows(alloc: Global, script: &[u8], answers: &[u8], summary: Summary) -> bool {
     let case = Case {
         with: With::Nothing,
         capacity: 10000,
@@ -158,20 +150,19 @@ fn script_follows(
         answers,
         summary,
     };
-    compare(rt, alloc, &case)
+    compare(alloc, &case)
 }
 
-fn row_follows(rt: &impl Abort, alloc: Global, row: &Script) -> Result<(), Fail> {
+fn row_follows(alloc: Global, row: &Script) -> bool {
     let (script, answers, lines, refused) = *row;
-    script_follows(rt, alloc, script, answers, Summary { lines, refused })
+    script_follows(alloc, script, answers, Summary { lines, refused })
 }
 
 #[test]
-fn scripts(rt: HostRuntime) -> Result<(), Fail> {
+fn scripts(rt: HostRuntime) {
     for i in 0..SCRIPTS.len() {
-        row_follows(&rt, rt.alloc(), &SCRIPTS[i])?;
+        assert!(rt; row_follows(rt.alloc(), &SCRIPTS[i]), "row {i}");
     }
-    Ok(())
 }
 
 const NOT_A_COMMAND: &[u8] = b"ERR 01 NOT A COMMAND\n";
@@ -191,7 +182,7 @@ const LONG_LINES: [LongLine; 6] = [
 ];
 
 /// Returns a line with its end.
-fn line_of(alloc: Global, line: &LongLine) -> Result<Vec<u8>, Fail> {
+fn line_of(alloc: Global, line: &LongLine) -> Result<Vec<u8>, AllocError> {
     let (first, others, length, end, _, _) = *line;
     let mut script = vec![in alloc; others; length]?;
     if let Some(byte) = script.first_mut() {
@@ -201,20 +192,27 @@ fn line_of(alloc: Global, line: &LongLine) -> Result<Vec<u8>, Fail> {
     Ok(script)
 }
 
-fn long_line_follows(rt: &impl Abort, alloc: Global, line: &LongLine) -> Result<(), Fail> {
-    let script = line_of(alloc, line)?;
+fn long_line_follows(alloc: Global, line: &LongLine) -> bool {
     let (_, _, _, _, answer, refused) = *line;
-    let summary = Summary { lines: 1, refused };
-    script_follows(rt, alloc, script.as_slice(), answer, summary)
+    match line_of(alloc, line) {
+        Ok(script) => {
+            script_follows(
+                alloc,
+                script.as_slice(),
+                answer,
+                Summary { lines: 1, refused },
+            )
+        }
+        Err(_) => false,
+    }
 }
 
 /// The longest line has 255 bytes before its carriage return.
 #[test]
-fn long_lines(rt: HostRuntime) -> Result<(), Fail> {
+fn long_lines(rt: HostRuntime) {
     for i in 0..LONG_LINES.len() {
-        long_line_follows(&rt, rt.alloc(), &LONG_LINES[i])?;
+        assert!(rt; long_line_follows(rt.alloc(), &LONG_LINES[i]), "row {i}");
     }
-    Ok(())
 }
 
 /// A command, its result, all that is written so far, and the length of the undo history after it.
@@ -252,57 +250,40 @@ fn is_performed(session: &mut Session<Rig>, out: &mut Tray, row: &Performed) -> 
     performs(session, line, out, expected) && out.text() == text && session.kept() == kept
 }
 
-/// Performs commands in one session.
-fn performs_each(rt: &impl Abort, session: &mut Session<Rig>) {
+/// Performs the commands in one session, and returns whether all is right.
+fn performs_each(alloc: Global) -> bool {
+    let Some(mut session) = session_of(alloc, With::LittleMemory, 100) else {
+        return false;
+    };
     let mut out = Tray::failing(100, 3);
-    for i in 0..COMMANDS.len() {
-        assert!(rt; is_performed(session, &mut out, &COMMANDS[i]), "row {i}");
-    }
+    is_performed(&mut session, &mut out, &COMMANDS[0])
+        && is_performed(&mut session, &mut out, &COMMANDS[1])
+        && is_performed(&mut session, &mut out, &COMMANDS[2])
 }
 
-/// `perform` returns whether the command was rejected.
-#[test]
-fn performs_single_commands(rt: HostRuntime) -> Result<(), Fail> {
-    let mut session = session_of(rt.alloc(), With::LittleMemory, 100)?;
-    performs_each(&rt, &mut session);
-    drop(session);
-    Ok(())
-}
-
-/// Lines, how many calls of a sink of 4096 bytes write their answers, and how many bytes these have. The second dump is longer than
-/// a piece: the second call takes 7 bytes, and the third fails.
-const WRITES: [(&[u8], u64, usize); 4] = [
-    (b"DUMP M 0 0 777\n", 1, 2880),
-    (b"DUMP C 0 215\n", 3, 4118),
-    (b"DUMP LP\n", 1, 44),
-    (b"DUMP PP 0\nDUMP H\n", 2, 204),
-];
-
-/// Performs a script, and checks how many calls of the sink were made, and how many bytes were written before it was full.
-fn writes_in_pieces(
-    rt: &impl Abort,
-    alloc: Global,
-    script: &[u8],
-    calls: u64,
-    bytes: usize,
-) -> Result<(), Fail> {
-    let mut session = session_of(alloc, With::LittleMemory, 1)?;
+/// Performs lines. Returns whether this many calls of a sink of 4096 bytes write their answers, and these have this many bytes.
+fn writes_in_pieces(alloc: Global, script: &[u8], calls: u64, bytes: usize) -> bool {
+    let Some(mut session) = session_of(alloc, With::LittleMemory, 1) else {
+        return false;
+    };
     let mut out = Tray::new(4096);
     let ended = serve(&mut session, &mut Feed::new(script, 4096), &mut out);
-    assert!(rt; ended.is_ok() == (bytes <= 4096));
-    assert!(rt; out.text().len() == bytes.min(4096));
-    let made = out.calls.made;
-    assert!(rt; made == calls, "{made} calls");
-    drop(out);
-    drop(session);
-    Ok(())
+    ended.is_ok() == (bytes <= 4096)
+        && out.text().len() == bytes.min(4096)
+        && out.calls.made == calls
 }
 
+/// `perform` returns whether the command was rejected. The second dump is longer than a piece: the second call takes 7 bytes,
+/// and the third fails.
 #[test]
-fn answers_take_few_calls(rt: HostRuntime) -> Result<(), Fail> {
-    for i in 0..WRITES.len() {
-        let (script, calls, bytes) = WRITES[i];
-        writes_in_pieces(&rt, rt.alloc(), script, calls, bytes)?;
-    }
-    Ok(())
+fn single_commands_and_few_calls(rt: HostRuntime) {
+    let alloc = rt.alloc();
+    let rows = [
+        performs_each(alloc),
+        writes_in_pieces(alloc, b"DUMP M 0 0 777\n", 1, 2880),
+        writes_in_pieces(alloc, b"DUMP C 0 215\n", 3, 4118),
+        writes_in_pieces(alloc, b"DUMP LP\n", 1, 44),
+        writes_in_pieces(alloc, b"DUMP PP 0\nDUMP H\n", 2, 204),
+    ];
+    check_rows(&rt, &rows);
 }

@@ -11,8 +11,9 @@ without_messages P messages None none meant = meant
 without_messages P messages (Some performed) none meant = (meant, none)
 
 pub returns-clause-meaning : goal.returns-clause-meaning
-returns-clause-meaning c found =
-    elim c.match-made.branch [
-      | in-Some w ↦ without_messages _ _ _ (search rules) (c.in_ok-made.ensures.meaning found)
+returns-clause-meaning c found = (
+    (elim c.match-made.branch [
+      | in-Some w ↦ without_messages _ _ _ (search rules) (c.without_messages-made.ensures.meaning found)
       | in-None+in_ok-messages-in-None w ↦ rw w.in-None.is (search rules)
-    ]
+    ]),
+    c.without_messages-made.ensures.nothing)

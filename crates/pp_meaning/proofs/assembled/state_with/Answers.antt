@@ -3,4 +3,4 @@ use Rattle.pp_meaning.proofs.assembled.state_with.Goals as goal
 
 pub returns : goal.returns
 returns c =
-    rw (c.new.ensures.items, c.new-2.ensures.items, c.new-3.ensures.items, c.in_ok-counters.ensures, c.in_ok-memory.ensures) refl
+    rw (c.new.ensures.items, c.new-2.ensures.items, c.in_ok-counters.ensures, c.in_ok-memory.ensures) refl

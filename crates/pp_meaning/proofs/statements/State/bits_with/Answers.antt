@@ -1,7 +1,7 @@
 use Rattle.std.proofs.Common.{◌≡◌, ◌∙◌, IfOk, IfSome, Some, fold, rules, subst}
 use Rattle.pp_meaning.specs.Bits.{with_bits}
 use Rattle.pp_meaning.specs.Meaning.{bits_before}
-use Rattle.pp_meaning.specs.Standing.{place_of, standing}
+use Rattle.pp_meaning.specs.Standing.{standing}
 use Rattle.pp_meaning.proofs.statements.State.bits_with.Goals as goal
 
 pub returns-in-Some : goal.returns-in-Some

@@ -1,6 +1,6 @@
 use Rattle.pp_assembler.specs.Meaning.{AreOfSystem}
 use Rattle.pp_assembler.proofs.Pairs.{push_taken}
-use Rattle.pp_assembler.proofs.systems.system_texts.Goals as goal
+use Rattle.pp_assembler.proofs.units.system_texts.Goals as goal
 
 pub loop-text-preserved : goal.loop-text-preserved
 loop-text-preserved c =
