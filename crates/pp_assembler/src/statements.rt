@@ -159,7 +159,8 @@ fn is_comment(
 ) -> bool {
     match (operation, operands) {
         (Meant::Display, [Operand::Single(Item::Characters(text))]) => {
-            may_follow(text, columns, comment) || !matches!(name, b"DIS") && begins_with_blank(comment)
+            may_follow(text, columns, comment)
+                || !matches!(name, b"DIS") && begins_with_blank(comment)
         }
         _ => begins_with_blank(comment),
     }

@@ -234,7 +234,7 @@ impl<'a> Reader<'a> {
         let Some((symbols, rest)) = after.split_at_checked(count as usize) else {
             return Ok(None);
         };
-        if count == 0 {
+        if size == 0 {
             return Ok(None);
         }
         self.rest = rest;

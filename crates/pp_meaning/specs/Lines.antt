@@ -273,7 +273,7 @@ abbrev pub is_cut : Names → Statement → Bool
 is_cut names statement =
     list_all is_blank statement.gap.items && list_all is_blank statement.space.items
     && is_comment statement.name.items (columns_before names statement) statement.operation statement.operands.items
-       statement.comment.items
+    statement.comment.items
     && is_in_place statement.operation statement.word.items
     && is_label names statement.label
     && is_gap statement.label statement.word.items statement.operation statement.margin.items statement.gap.items

@@ -53,9 +53,9 @@ abbrev pub number_from_codes : ℕ → List ℕ → ℕ
 number_from_codes number [] = number
 number_from_codes number (code ∷ items) = number_from_codes (number * 0o100 + code) items
 
--- R in a sum: a count of at least 1, and the symbols as a number.
+-- R in a sum: a count, and so many symbols as a number. No symbol at all is 0.
 abbrev pub is_exact : Option ℤ → ℕ → Bool
-is_exact (Some (pos n)) count = count == n && not (n == 0)
+is_exact (Some (pos n)) count = count == n
 is_exact _ count = false
 
 abbrev pub text_number : List ℕ → List ℕ → Option ℤ

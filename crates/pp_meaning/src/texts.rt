@@ -257,7 +257,7 @@ pub fn number_of_text(digits: &[u8], codes: &[u8]) -> Option<i64>
     ensures { IfSome result (λ number. text_number digits.now codes.now ≡ Some number) }
 {
     let count = decimal_value(digits)?;
-    if count <= 0 || count as usize != codes.len() || !has_codes(codes) {
+    if count < 0 || count as usize != codes.len() || !has_codes(codes) {
         return None;
     }
     i64::try_from(number_of_codes(0, codes)?).ok()

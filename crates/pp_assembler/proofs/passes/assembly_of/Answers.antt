@@ -12,8 +12,9 @@ without_messages P messages (Some performed) none meant = (meant, none)
 
 pub returns-clause-meaning : goal.returns-clause-meaning
 returns-clause-meaning c found = (
-    (elim c.match-made.branch [
-      | in-Some w ↦ without_messages _ _ _ (search rules) (c.without_messages-made.ensures.meaning found)
-      | in-None+in_ok-messages-in-None w ↦ rw w.in-None.is (search rules)
-    ]),
-    c.without_messages-made.ensures.nothing)
+  (elim c.match-made.branch [
+    | in-Some w ↦ without_messages _ _ _ (search rules) (c.without_messages-made.ensures.meaning found)
+    | in-None+in_ok-messages-in-None w ↦ rw w.in-None.is (search rules)
+  ]),
+  c.without_messages-made.ensures.nothing,
+)
