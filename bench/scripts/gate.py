@@ -8,12 +8,11 @@ import collections
 import glob
 import os
 import re
-import resource
 import subprocess
 import sys
 import time
 
-TOP = os.path.dirname(os.path.dirname(os.path.dirname(os.path.abspath(__file__))))
+CRATES = os.path.join(os.path.dirname(os.path.dirname(os.path.dirname(os.path.abspath(__file__)))), "crates")
 
 
 def read(path):
@@ -21,53 +20,47 @@ def read(path):
         return file.read()
 
 
-def edited(crate, edit):
-    """Returns the texts by path that a mutant of a crate changes."""
-    texts, path, old = {}, "", ""
-    for key, value in re.findall(r"^(file|old|new): ?(.*)$", read(edit), re.M):
-        if key == "file":
-            path, texts[value] = value, texts.get(value, read(f"{TOP}/crates/{crate}/{value}"))
-        elif key == "old":
-            old = value
-        else:
-            texts[path] = texts[path].replace(old, value)
-    return texts
+def mutant_in(room, crate):
+    """Returns the mutant of a crate that is tried in a folder, or "" for the crate itself, over which all are tried."""
+    for edit in glob.glob(f"{CRATES}/{crate}/must-fail/*.edit"):
+        path, texts = "", {}
+        for file, old, new in re.findall(r"^(?:file: (.*)\n)?old: (.*)\nnew: ?(.*)$", read(edit), re.M):
+            path = file or path
+            texts[path] = texts.get(path, read(f"{CRATES}/{crate}/{path}")).replace(old, new)
+        if all(read(f"{room}/{path}") == text for path, text in texts.items()):
+            return os.path.basename(edit)[:-5]
+    return ""
 
 
 def work_of(pid):
-    """Returns the crate, the part of the gate and the mutant that a process works for, or None."""
+    """Returns the crate and the part of the gate that a process works for, and the mutant, or None."""
     words, room = read(f"/proc/{pid}/cmdline").split("\0"), os.readlink(f"/proc/{pid}/cwd")
     if not words[0].endswith("/rattle") or "--crate-name" not in words:
         return None
     crate = words[words.index("--crate-name") + 1]
-    if "rt-edit-" not in room:
-        return crate, "tests" if "--test" in words else "proof", ""
-    rows = {edit: edited(crate, edit) for edit in glob.glob(f"{TOP}/crates/{crate}/must-fail/*.edit")}
-    found = [edit for edit, texts in rows.items() if all(read(f"{room}/{path}") == text for path, text in texts.items())]
-    return crate, "mutants", os.path.basename(found[0])[:-5] if found else "(the crate itself)"
+    return (crate, "mutants", mutant_in(room, crate)) if "rt-edit-" in room else (crate, "tests" if "--test" in words else "proof", "")
 
 
 def main():
-    began, works, spent = time.time(), {}, {}
-    run = subprocess.Popen(["rt", "ci", *sys.argv[1:], "--anew"], cwd=TOP, stdout=sys.stderr, start_new_session=True)
+    began, works, spent, sums = time.time(), {}, {}, collections.defaultdict(collections.Counter)
+    run = subprocess.Popen(["rt", "ci", *sys.argv[1:], "--anew"], cwd=CRATES, stdout=sys.stderr, start_new_session=True)
     while run.poll() is None:
         for pid in filter(str.isdigit, os.listdir("/proc")):
             try:
                 numbers = read(f"/proc/{pid}/stat").rpartition(")")[2].split()
-                works[pid] = works.get(pid) or (work_of(pid) if int(numbers[3]) == run.pid else None)
-                spent[pid] = (int(numbers[11]) + int(numbers[12])) / os.sysconf("SC_CLK_TCK")
+                process = pid, numbers[19]  # and when it began, since the system gives a number again
+                works[process] = works.get(process) or (work_of(pid) if int(numbers[3]) == run.pid else None)
+                spent[process] = (int(numbers[11]) + int(numbers[12])) / os.sysconf("SC_CLK_TCK")
             except (OSError, ValueError):
                 continue
         time.sleep(0.2)
-    parts, mutants = collections.defaultdict(collections.Counter), collections.defaultdict(collections.Counter)
-    for pid, (crate, part, mutant) in ((pid, work) for pid, work in works.items() if work):
-        parts[crate][part] += spent[pid]
-        mutants[crate][mutant] += spent[pid] * (part == "mutants")
+    for process, (crate, part, mutant) in filter(lambda row: row[1], works.items()):
+        sums[crate][part] += spent[process]
+        sums[f"{crate}: "][mutant] += spent[process] * bool(mutant)
     print("| Crate | Proof | Tests | Mutants |\n|---|---|---|---|")
-    for crate, row in sorted(parts.items(), key=lambda item: -sum(item[1].values())):
-        print(f"| {crate} | {row['proof']:.0f} | {row['tests']:.0f} | {row['mutants']:.0f} |")
-    whole = resource.getrusage(resource.RUSAGE_CHILDREN)
-    print(f"\nIn all {(whole.ru_utime + whole.ru_stime) / 60:.0f} minutes of processor time, in {(time.time() - began) / 60:.0f} minutes")
-    for crate, row in sorted(mutants.items()):
-        print(f"{crate}: " + ", ".join(f"{mutant} {seconds:.0f}" for mutant, seconds in row.most_common(10) if mutant))
+    for crate in sorted(filter(str.isidentifier, sums), key=lambda crate: -sum(sums[crate].values())):
+        print(f"| {crate} | {sums[crate]['proof']:.0f} | {sums[crate]['tests']:.0f} | {sums[crate]['mutants']:.0f} |")
+    print(f"\nIn all {sum(os.times()[2:4]) / 60:.0f} minutes of processor time, in {(time.time() - began) / 60:.0f} minutes")
+    for crate in sorted(sums.keys() - set(filter(str.isidentifier, sums))):
+        print(crate + ", ".join(f"{mutant} {seconds:.0f}" for mutant, seconds in sums[crate].most_common(10) if seconds))
     return run.returncode

@@ -10,6 +10,7 @@ returns c = inl (
     assembly = record {
       program = c.in-Ok.ensures.cells;
       start = c.in-Ok.ensures.start;
+      meaning = c.in-Ok.ensures.meaning;
       messages = c.in-Ok.ensures.messages;
       warnings = c.in-Ok.ensures.warnings;
       decks = c.in-Ok.ensures.decks;
