@@ -1,5 +1,5 @@
 -- The words of a program are those of its statements.
-use Rattle.std.specs.Prelude.{◌≡◌, ℕ, true, List, [], ◌∷◌, Option, Some, None, IfSome, map, slice_get}
+use Rattle.std.specs.Prelude.{◌≡◌, ◌<◌, ℕ, true, List, [], ◌∷◌, Option, Some, None, IfSome, length, map, slice_get}
 use Rattle.std.specs.List.{AllByRecursion, AllZip, flat_map}
 use Rattle.pp_notation.specs.Columns.{between}
 use Rattle.pp_notation.specs.declared.program.Program.{Program}
@@ -14,6 +14,7 @@ use Rattle.pp_meaning.specs.declared.statements.SystemText.{SystemText}
 use Rattle.pp_meaning.specs.declared.statements.Unit.{Unit as Statements}
 use Rattle.pp_decks.specs.declared.lines.Line.{Line}
 use Rattle.pp_decks.specs.declared.lines.Lines.{Lines}
+use Rattle.pp_decks.specs.declared.places.Complaint.{Complaint}
 use Rattle.pp_assembler.specs.declared.meaning.Found.{Found}
 use Rattle.pp_assembler.specs.declared.meaning.Found.TheVariants.{Words}
 use Rattle.pp_statements.specs.declared.scope.Row.{Row}
@@ -101,6 +102,14 @@ pub record IsNothing (program : Program) (others : List Named) : Type 0 where
 abbrev pub IsNothingWithout : Option Performed → Program → List Named → Type 0
 IsNothingWithout None program others = IsNothing program others
 IsNothingWithout (Some performed) program others = Unit {0}
+
+-- A source that has a line, and whose statements have no meaning, has a message.
+abbrev pub IsSaidWithout : Option Performed → List ℕ → List Complaint → Type 0
+IsSaidWithout None lengths messages = 0 < length lengths → 0 < length messages
+IsSaidWithout (Some performed) lengths messages = Unit {0}
+
+abbrev pub IsSaid : List ℕ → Assembly → Type 0
+IsSaid lengths made = IsSaidWithout made.meaning lengths made.messages.items
 
 -- The programs of a source have the words that its statements mean, and no others.
 abbrev pub IsMeant : Assembly → Type 0

@@ -1,9 +1,9 @@
 //! A source in two passes: the first one finds what its names stand for, the second one makes its words and reports what is wrong.
-ghost use Rattle.std.specs.Prelude.{◌∷◌, [], All, IfOk, IfSome, List, map};
+ghost use Rattle.std.specs.Prelude.{◌<◌, ◌∷◌, [], All, IfOk, IfSome, List, length, map};
 ghost use Rattle.std.specs.List.{AllByRecursion};
 ghost use Rattle.pp_notation.specs.Cells.{IsProgram, IsStart};
 ghost use Rattle.pp_assembler.specs.Decks.{AreRead, IsRead, IsReading};
-ghost use Rattle.pp_assembler.specs.Meaning.{AreMeant, IsFound, IsMeant, IsNothingWithout, programs_of};
+ghost use Rattle.pp_assembler.specs.Meaning.{AreMeant, IsFound, IsMeant, IsNothingWithout, IsSaid, programs_of};
 ghost use Rattle.pp_decks.specs.Decks.{AreOf};
 ghost use Rattle.pp_decks.specs.declared.decks.Text.{Text as DeckText};
 ghost use Rattle.pp_decks.specs.declared.lines.Lines.{Lines as AllLines};
@@ -35,8 +35,9 @@ pub fn assemble(alloc: Global, source: &[u8]) -> Result<Assembly, AllocError>
     ensures start { IfOk result (λ made. IsStart made.program.start) }
     ensures messages { IfOk result (λ made. All (IsOfLine (line_lengths source.now)) made.messages.items) }
     ensures warnings { IfOk result (λ made. All (IsOfLine (line_lengths source.now)) made.warnings.items) }
-    // The words are what the statements mean.
+    // The words are what the statements mean, and without a meaning there is a message.
     ensures meaning { IfOk result IsMeant }
+    ensures said { IfOk result (IsSaid (line_lengths source.now)) }
     // No deck is read.
     ensures decks { IfOk result (AreRead []) }
 {
@@ -53,8 +54,9 @@ pub fn assemble_with(alloc: Global, source: &[u8], texts: &[Text]) -> Result<Ass
     ensures start { IfOk result (λ made. IsStart made.program.start) }
     ensures messages { IfOk result (λ made. All (IsOfLine (line_lengths source.now)) made.messages.items) }
     ensures warnings { IfOk result (λ made. All (IsOfLine (line_lengths source.now)) made.warnings.items) }
-    // The words are what the statements mean.
+    // The words are what the statements mean, and without a meaning there is a message.
     ensures meaning { IfOk result IsMeant }
+    ensures said { IfOk result (IsSaid (line_lengths source.now)) }
     // Each line that reads a deck has taken the lines of the first one with its name.
     ensures decks { IfOk result (AreRead texts.now) }
 {
@@ -166,6 +168,7 @@ fn assembly_of(
     ensures messages { IfOk result (λ made. All (IsOfLine (map length_of spans.now)) made.messages.items) }
     ensures warnings { IfOk result (λ made. All (IsOfLine (map length_of spans.now)) made.warnings.items) }
     ensures meaning { IsFound read.lines scope.output.rows.items scope.output.systems.items found → IfOk result IsMeant }
+    ensures said { IfOk result (IsSaid (map length_of spans.now)) }
     ensures decks { (texts : List DeckText) → AreOf texts read.decks.all.items →
         AllByRecursion (IsReading read.lines read.decks.all.items) read.readings.items →
         AllByRecursion (IsRead read.lines read.decks.all.items read.vocabulary read.readings.items) scope.output.rows.items →
@@ -176,7 +179,7 @@ fn assembly_of(
     let made = without_messages(alloc, read, scope, found);
     let messages = match made.meaning {
         Some(_) => Vec::new(alloc),
-        None => complaints_at(alloc, &made, &wrong, spans)?,
+        None => wrong_at(alloc, &made, &wrong, spans)?,
     };
     let warnings = complaints_at(alloc, &made, &noticed, spans)?;
     Ok(Assembly {
@@ -222,6 +225,28 @@ fn without_messages(alloc: Global, read: Read, scope: Scope, found: Found) -> As
         messages: Vec::new(alloc),
         warnings: Vec::new(alloc),
     }
+}
+
+/// Returns what is wrong with a source that has no meaning: if no message says it, a message asks for a report.
+fn wrong_at(
+    alloc: Global,
+    made: &Assembly,
+    messages: &[Message],
+    spans: &[Span],
+) -> Result<Vec<Complaint>, AllocError>
+    ensures places { IfOk result (λ wrong. All (IsOfLine (map length_of spans.now)) wrong.items) }
+    ensures some { IfOk result (λ wrong. 0 < length spans.now → 0 < length wrong.items) }
+{
+    let mut wrong = complaints_at(alloc, made, messages, spans)?;
+    if wrong.is_empty() && !spans.is_empty() {
+        let text = Vec::from_slice(alloc, Wording::NotEncoded.text().as_bytes())?;
+        wrong.push(Complaint {
+            line: 1,
+            column: 1,
+            text,
+        })?;
+    }
+    Ok(wrong)
 }
 
 /// Returns what messages say, each at its place in a source with these lines.

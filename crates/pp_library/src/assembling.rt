@@ -1,6 +1,6 @@
 //! The assembler and the disassembler for C.
 ghost use Rattle.pp_assembler.specs.Decks.{AreRead};
-ghost use Rattle.pp_assembler.specs.Meaning.{IsMeant};
+ghost use Rattle.pp_assembler.specs.Meaning.{IsMeant, IsSaid};
 ghost use Rattle.pp_library.specs.Assembling.{Assembles, Disassembles, LoadsLines, form_text, text_of};
 ghost use Rattle.pp_notation.specs.Cells.{IsProgram, IsStart};
 ghost use Rattle.pp_decks.specs.Places.{IsOfLine, line_lengths};
@@ -82,6 +82,7 @@ fn assembled_with(
     ensures cells { IfOk result (λ made. IsProgram made.program.cells.items) }
     ensures start { IfOk result (λ made. IsStart made.program.start) }
     ensures meaning { IfOk result IsMeant }
+    ensures said { IfOk result (IsSaid (line_lengths source.now)) }
     ensures messages { IfOk result (λ made. All (IsOfLine (line_lengths source.now)) made.messages.items) }
     ensures warnings { IfOk result (λ made. All (IsOfLine (line_lengths source.now)) made.warnings.items) }
     ensures decks { IfOk result (AreRead (map text_of decks.now)) }

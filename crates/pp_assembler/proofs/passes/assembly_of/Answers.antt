@@ -18,3 +18,9 @@ returns-clause-meaning c found = (
   ]),
   c.without_messages-made.ensures.nothing,
 )
+
+pub returns-clause-said : goal.returns-clause-said
+returns-clause-said c = elim c.match-made.branch [
+  | in-Some w ↦ search rules
+  | in-None+in_ok-messages-in-None w ↦ rw w.in-None.is (search rules)
+]

@@ -11,6 +11,7 @@ returns c = inl (
       program = c.in-Ok.ensures.cells;
       start = c.in-Ok.ensures.start;
       meaning = c.in-Ok.ensures.meaning;
+      said = c.in-Ok.ensures.said;
       messages = c.in-Ok.ensures.messages;
       warnings = c.in-Ok.ensures.warnings;
       decks = c.in-Ok.ensures.decks;
