@@ -9,7 +9,7 @@ import re
 
 TOP = os.path.dirname(os.path.dirname(os.path.dirname(os.path.abspath(__file__))))
 PACKAGE = os.path.join(TOP, "tools", "pp6600")
-FOR_TESTS = re.compile("test_|pp_worked$|pp_mnemonics$")
+FOR_TESTS = re.compile("test_|pp_worked$|pp_mnemonics$|pp_meaning_laws$")
 
 
 def crates():

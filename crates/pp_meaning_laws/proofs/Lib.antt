@@ -1,0 +1,11 @@
+pub mod Assemblies
+pub mod BitLengths
+pub mod Both
+pub mod Images
+pub mod Lengths
+pub mod Standings
+pub mod Statements
+pub mod Steps
+pub mod Tables
+pub mod Values
+pub mod Words

@@ -1,0 +1,6 @@
+//! What the definition of the words of statements says of each source.
+#![tactic(auto)]
+
+mod laws;
+
+pub use laws::statements_have_one_table;
