@@ -103,13 +103,13 @@ abbrev pub IsNothingWithout : Option Performed → Program → List Named → Ty
 IsNothingWithout None program others = IsNothing program others
 IsNothingWithout (Some performed) program others = Unit {0}
 
--- A source that has a line, and whose statements have no meaning, has a message.
-abbrev pub IsSaidWithout : Option Performed → List ℕ → List Complaint → Type 0
-IsSaidWithout None lengths messages = 0 < length lengths → 0 < length messages
-IsSaidWithout (Some performed) lengths messages = Unit {0}
+-- There is no message if the statements have a meaning, and else there is one if the source has a line.
+abbrev pub AreMessages : Option Performed → List ℕ → List Complaint → Type 0
+AreMessages None lengths messages = 0 < length lengths → 0 < length messages
+AreMessages (Some performed) lengths messages = messages ≡ []
 
 abbrev pub IsSaid : List ℕ → Assembly → Type 0
-IsSaid lengths made = IsSaidWithout made.meaning lengths made.messages.items
+IsSaid lengths made = AreMessages made.meaning lengths made.messages.items
 
 -- The programs of a source have the words that its statements mean, and no others.
 abbrev pub IsMeant : Assembly → Type 0

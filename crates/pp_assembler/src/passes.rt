@@ -1,9 +1,9 @@
 //! A source in two passes: the first one finds what its names stand for, the second one makes its words and reports what is wrong.
-ghost use Rattle.std.specs.Prelude.{◌<◌, ◌∷◌, [], All, IfOk, IfSome, List, length, map};
+ghost use Rattle.std.specs.Prelude.{◌∷◌, [], All, IfOk, IfSome, List, None, map};
 ghost use Rattle.std.specs.List.{AllByRecursion};
 ghost use Rattle.pp_notation.specs.Cells.{IsProgram, IsStart};
 ghost use Rattle.pp_assembler.specs.Decks.{AreRead, IsRead, IsReading};
-ghost use Rattle.pp_assembler.specs.Meaning.{AreMeant, IsFound, IsMeant, IsNothingWithout, IsSaid, programs_of};
+ghost use Rattle.pp_assembler.specs.Meaning.{AreMeant, AreMessages, IsFound, IsMeant, IsNothingWithout, IsSaid, programs_of};
 ghost use Rattle.pp_decks.specs.Decks.{AreOf};
 ghost use Rattle.pp_decks.specs.declared.decks.Text.{Text as DeckText};
 ghost use Rattle.pp_decks.specs.declared.lines.Lines.{Lines as AllLines};
@@ -177,10 +177,7 @@ fn assembly_of(
     let wrong = Vec::from_slice(alloc, &scope.output.messages)?;
     let noticed = Vec::from_slice(alloc, &scope.output.warnings)?;
     let made = without_messages(alloc, read, scope, found);
-    let messages = match made.meaning {
-        Some(_) => Vec::new(alloc),
-        None => wrong_at(alloc, &made, &wrong, spans)?,
-    };
+    let messages = messages_of(alloc, &made, &wrong, spans)?;
     let warnings = complaints_at(alloc, &made, &noticed, spans)?;
     Ok(Assembly {
         messages,
@@ -227,6 +224,22 @@ fn without_messages(alloc: Global, read: Read, scope: Scope, found: Found) -> As
     }
 }
 
+/// Returns what is wrong with a source: nothing, if its statements have a meaning.
+fn messages_of(
+    alloc: Global,
+    made: &Assembly,
+    messages: &[Message],
+    spans: &[Span],
+) -> Result<Vec<Complaint>, AllocError>
+    ensures places { IfOk result (λ wrong. All (IsOfLine (map length_of spans.now)) wrong.items) }
+    ensures said { IfOk result (λ wrong. AreMessages made.now.meaning (map length_of spans.now) wrong.items) }
+{
+    match made.meaning {
+        Some(_) => Ok(Vec::new(alloc)),
+        None => wrong_at(alloc, made, messages, spans),
+    }
+}
+
 /// Returns what is wrong with a source that has no meaning: if no message says it, a message asks for a report.
 fn wrong_at(
     alloc: Global,
@@ -235,7 +248,7 @@ fn wrong_at(
     spans: &[Span],
 ) -> Result<Vec<Complaint>, AllocError>
     ensures places { IfOk result (λ wrong. All (IsOfLine (map length_of spans.now)) wrong.items) }
-    ensures some { IfOk result (λ wrong. 0 < length spans.now → 0 < length wrong.items) }
+    ensures some { IfOk result (λ wrong. AreMessages None (map length_of spans.now) wrong.items) }
 {
     let mut wrong = complaints_at(alloc, made, messages, spans)?;
     if wrong.is_empty() && !spans.is_empty() {
