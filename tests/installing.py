@@ -58,7 +58,7 @@ def checkout(folder):
     checksum = alone("share/which-build", "--checksum", cwd=folder).out
     write(os.path.join(folder, "dist", "sources"), f"{sums}sources {checksum}kit of these tests\n")
     fixed = {"GIT_COMMITTER_DATE": "2026-01-02T03:04:05Z", "GIT_AUTHOR_DATE": "2026-01-02T03:04:05Z"}
-    for words in (("init", "-q"), ("add", "-A"), ("-c", "user.name=tests", "-c", "user.email=tests@localhost", "commit", "-q", "-m", "tests")):
+    for words in (("init", "-q"), ("-c", "core.looseCompression=0", "add", "-A"), ("-c", "user.name=tests", "-c", "user.email=tests@localhost", "commit", "-q", "-m", "tests")):
         subprocess.run(["git", *words], cwd=folder, env={**os.environ, **fixed}, check=True)
 
 

@@ -72,8 +72,6 @@ class Commands(Case):
 class Transcripts(TranscriptCase):
     """The transcripts of tests/sessions."""
 
-    commands = staticmethod(quick_path)
-
 
 class Exercises(Case):
     """An exercise is not solved before its solution, and its solution solves it; docs/EXERCISES.md shows how to try it."""

@@ -16,7 +16,7 @@ import shutil
 import subprocess
 
 from tests.cases import part
-from tests.support import PATIENCE, TOP, Case, program, read, tool_here, write
+from tests.support import PATIENCE, TOP, Case, program, quick_path, read, tool_here, write
 
 AT_TERMINAL = """#!/bin/sh
 exec python3 -c 'import pty, sys; sys.exit(pty.spawn(sys.argv[1:]) >> 8)' "$@" </dev/null | tr -d '\\r'
@@ -120,14 +120,9 @@ class TranscriptCase(Case):
             os.symlink(os.path.join(TOP, name), self.path(name))
         os.symlink(program(), self.path("pp6600"))
         write(self.path("bin", "at-terminal"), AT_TERMINAL, 0o755)
-        shell = Shell(self.folder, self.commands())
+        shell = Shell(self.folder, quick_path())
         self.addCleanup(shell.end)
         return shell
-
-    @staticmethod
-    def commands():
-        """Returns the path of the commands."""
-        return os.environ["PATH"]
 
     def written(self, shell, command):
         """Returns what a command writes, without empty lines and names of folders."""

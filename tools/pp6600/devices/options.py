@@ -1,7 +1,7 @@
 """The option --device: a device of one's own on a channel, by its name, or by its file and its class."""
 
 import importlib
-import pkgutil
+import os
 import sys
 import types
 from argparse import Namespace
@@ -18,8 +18,8 @@ from ..shell.script import Refusals, performed
 from ..shell.text_files import bytes_of, lines_of, script_lines
 
 FORM = "NAME[:WORD,..]@CHANNEL"
-NAMES = sorted({module.name for module in pkgutil.iter_modules(devices.__path__)} - {"controller", "converter", "options", "pictures", "tape_file"})
-
+OTHERS = {"__init__", "controller", "converter", "options", "pictures", "tape_file"}  # modules that are no device
+NAMES = sorted({name[:-len(".py")] for name in os.listdir(os.path.dirname(__file__)) if name.endswith(".py")} - OTHERS)
 
 DEVICE_OPTIONS: Arguments = [("--device", {
     "metavar": FORM, "action": "append", "default": [],
@@ -28,6 +28,8 @@ DEVICE_OPTIONS: Arguments = [("--device", {
 
 def devices_of(asked: Namespace) -> List[Device]:
     """Returns the devices that a command line names. Equipments on one channel are behind one controller."""
+    if not asked.device:
+        return []
     from .controller import Controller  # few command lines name a device
     from .converter import Converter
     on_channels: Dict[int, List[Device]] = {}
