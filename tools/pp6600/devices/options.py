@@ -29,8 +29,8 @@ DEVICE_OPTIONS: Arguments = [("--device", {
 def devices_of(asked: Namespace) -> List[Device]:
     """Returns the devices that a command line names. Equipments on one channel are behind one controller."""
     if not asked.device:
-        return []
-    from .controller import Controller  # few command lines name a device
+        return []  # as most command lines do, for which these need not be read
+    from .controller import Controller
     from .converter import Converter
     on_channels: Dict[int, List[Device]] = {}
     for device in map(device_of, asked.device):
