@@ -131,8 +131,11 @@ fn last_pass(alloc: Global, lines: &mut Lines, decks: &Decks) -> Result<Pass, Al
             pass = next_pass(alloc, pass)?;
         }
         match pass.run(lines, decks) {
-            Ok(()) if number > 0 && pass.scope.has_settled() => return Ok(pass),
-            Ok(()) => {}
+            Ok(()) => {
+                if number > 0 && is_done(&mut pass) {
+                    return Ok(pass);
+                }
+            }
             Err(Ending::NoMemory) => return Err(AllocError),
             Err(Ending::At(message)) => {
                 pass.scope.output.messages.clear();
@@ -144,6 +147,15 @@ fn last_pass(alloc: Global, lines: &mut Lines, decks: &Decks) -> Result<Pass, Al
     let message = Message::new(1, 1, usize::MAX, Fault::new(Wording::Unsettled));
     pass.scope.output.messages.push(message)?;
     Ok(pass)
+}
+
+/// Returns whether a pass has found what there is to find. A name that only lines have that are left out is no fault of its own. But
+/// an IF may ask for a name of its own lines, and leave them out for that: if there is no message, they are forgotten, and the next
+/// pass says what is wrong.
+fn is_done(pass: &mut Pass) -> bool {
+    let scope = &mut pass.scope;
+    let is_silent = scope.output.messages.is_empty() && scope.symbols.forget_passed_over();
+    !is_silent && scope.has_settled()
 }
 
 /// Returns the pass after one, which knows what this one has found.

@@ -169,6 +169,13 @@ impl Symbols {
         Ok(self.passed_over.push(label)?)
     }
 
+    /// Forgets the labels of lines that are left out. Returns whether there were any.
+    pub fn forget_passed_over(&mut self) -> bool {
+        let had_any = !self.passed_over.is_empty();
+        self.passed_over.clear();
+        had_any
+    }
+
     /// Returns whether a name is the label of a line that is left out, or that label and an X, as of a subroutine's exit.
     pub fn is_passed_over(&self, name: &[u8]) -> bool {
         self.passed_over.iter().any(|label| {
