@@ -1,11 +1,14 @@
 pub mod Assemblies
 pub mod BitLengths
 pub mod Both
+pub mod Cuts
 pub mod Images
 pub mod Lengths
+pub mod Readings
 pub mod Standings
 pub mod Statements
 pub mod Steps
 pub mod Tables
+pub mod Valued
 pub mod Values
 pub mod Words

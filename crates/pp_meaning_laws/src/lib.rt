@@ -3,4 +3,4 @@
 
 mod laws;
 
-pub use laws::statements_have_one_table;
+pub use laws::{statements_have_one_table, text_is_cut_in_one_way};
