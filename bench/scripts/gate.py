@@ -43,7 +43,7 @@ def work_of(pid):
 
 def main():
     began, works, spent, sums = time.time(), {}, {}, collections.defaultdict(collections.Counter)
-    run = subprocess.Popen(["rt", "ci", *sys.argv[1:], "--anew"], cwd=CRATES, stdout=sys.stderr, start_new_session=True)
+    run = subprocess.Popen(["rt", "ci", *sys.argv[1:], "--anew"], cwd=os.path.dirname(CRATES), stdout=sys.stderr, start_new_session=True)
     while run.poll() is None:
         for pid in filter(str.isdigit, os.listdir("/proc")):
             try:
