@@ -7,7 +7,7 @@ use Rattle.std.proofs.lemmas.Option.{slice_get-get_or}
 use Rattle.pp_meaning.specs.declared.statements.Statement.{Statement}
 use Rattle.pp_decks.specs.declared.lines.Lines.{Lines}
 use Rattle.pp_statements.specs.declared.scope.Row.{Row}
-use Rattle.pp_meaning.specs.declared.assembled.Image.{Image}
+use Rattle.pp_meaning.specs.declared.statements.Image.{Image}
 use Rattle.pp_statements.specs.declared.units.Unit.{Unit}
 use Rattle.pp_assembler.specs.Meaning.{IsPerformed, IsProgramOf, read_at, unit_programs}
 

@@ -8,7 +8,7 @@ use Rattle.pp_meaning.specs.Lines.{AreAllWritten, AreWritten}
 use Rattle.pp_meaning.specs.Names.{AreNames}
 use Rattle.pp_meaning.specs.Units.{IsAssembled}
 use Rattle.pp_meaning.specs.declared.expressions.Symbol.{Symbol}
-use Rattle.pp_meaning.specs.declared.assembled.Image.{Image}
+use Rattle.pp_meaning.specs.declared.statements.Image.{Image}
 use Rattle.pp_meaning.specs.declared.statements.Statement.{Statement}
 use Rattle.pp_meaning.specs.declared.statements.SystemText.{SystemText}
 use Rattle.pp_meaning.specs.declared.statements.Unit.{Unit as Statements}

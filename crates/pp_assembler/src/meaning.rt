@@ -1,4 +1,4 @@
-//! The words that `pp_meaning` gives to the statements of a source, if it has the meaning of them all.
+//! The words that `pp_encoder` makes of the statements of a source, if `pp_meaning` has the meaning of them all.
 ghost use Rattle.std.specs.Prelude.{◌≡◌, ◌∷◌, IfOk, IfSome, map};
 ghost use Rattle.std.specs.List.{AllZip, flat_map};
 ghost use Rattle.pp_assembler.specs.Meaning.{ArePerformedAll, AreWordsOf, IsFound, IsProgramOf};
@@ -8,8 +8,9 @@ use crate::rows::{Part, index_of_statement, part_of};
 use crate::terms::Names;
 use crate::units::{Lack, add_all_names, add_names, system_texts, units_of};
 use pp_decks::Lines;
+use pp_encoder::{encode, program_of};
 use pp_expansion::Pass;
-use pp_meaning::{Image, Refusal, Symbol, SystemText, Unit as Statements, encode, program_of};
+use pp_meaning::{Image, Refusal, Symbol, SystemText, Unit as Statements};
 use pp_notation::{Cell, Program};
 use pp_source::{Fault, Here, Message, Wording};
 use pp_statements::{CELLS, Unit};

@@ -3,7 +3,7 @@ use Rattle.std.specs.Prelude.{◌≡◌, ℕ, Bool, true, false, Option, Some, N
 use Rattle.pp_meaning.specs.Blocks.{closed}
 use Rattle.pp_meaning.specs.Meaning.{follow, with_blocks, with_literals}
 use Rattle.pp_meaning.specs.Standing.{Standing, first_counters, prefix_text, synonym_pair}
-use Rattle.pp_meaning.specs.declared.assembled.Image.{Image}
+use Rattle.pp_meaning.specs.declared.statements.Image.{Image}
 use Rattle.pp_meaning.specs.declared.expressions.Base.{Base}
 use Rattle.pp_meaning.specs.declared.expressions.Symbol.{Symbol}
 use Rattle.pp_meaning.specs.declared.statements.Block.{Block}

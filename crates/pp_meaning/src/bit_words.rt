@@ -11,7 +11,7 @@ use crate::statements::{Label, State, WORD};
 use std::alloc::{AllocError, Global};
 
 impl State {
-    /// Returns whether a VFD goes on in the last word.
+    /// Returns whether a VFD continues in the last word.
     fn goes_on(&self, label: Label) -> bool
         ensures { result ≡ goes_on (standing self.now) label }
     {
@@ -47,7 +47,7 @@ impl State {
         Some(())
     }
 
-    /// Goes back to the last word, if a VFD goes on in it.
+    /// Goes back to the last word, if a VFD continues in it.
     fn go_back(&mut self, label: Label) -> Option<()>
         ensures { IfSome result (λ done. (if goes_on (standing self.old) label then without_last (standing self.old) else standing
             self.old) ≡ standing self.new) }

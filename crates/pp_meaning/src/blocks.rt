@@ -69,7 +69,7 @@ impl State {
         Some(())
     }
 
-    /// Goes on with a block.
+    /// Enters a block where it was left.
     fn enter(&mut self, index: usize) -> Option<()>
         ensures { IfSome result (λ done. entered (standing self.old) index ≡ Some (standing self.new)) }
     {
@@ -174,16 +174,16 @@ impl State {
         self.use_block(0)
     }
 
-    /// Goes on with the nominal block, behind the last statement.
-    pub(crate) fn close(&mut self) -> Option<()>
+    /// Leaves the present block for the nominal one, behind the last statement. Returns `None` if the state has no such blocks.
+    pub fn close(&mut self) -> Option<()>
         ensures { IfSome result (λ done. closed (Some (standing self.old)) ≡ Some (standing self.new)) }
     {
         self.leave()?;
         self.enter(0)
     }
 
-    /// Returns whether USE has named each block, and they lie one behind another, behind the nominal one and its literals.
-    pub(crate) fn has_blocks(&self, literals: &[Literal], blocks: &[Block]) -> Option<()>
+    /// Returns `Some` if USE has named each block, and they are one behind another, behind the nominal one and its literals.
+    pub fn has_blocks(&self, literals: &[Literal], blocks: &[Block]) -> Option<()>
         ensures { IfSome result (λ done. with_blocks literals.now blocks.now (Some (standing self.now)) ≡ Some
             (standing self.now)) }
     {

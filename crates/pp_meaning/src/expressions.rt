@@ -1,4 +1,4 @@
-//! Expressions and what they stand for.
+//! Expressions and their values.
 ghost use Rattle.std.specs.Prelude.{◌≡◌, IfSome, Some, pos, fold, slice_get, take};
 ghost use Rattle.std.specs.List.{list_all};
 ghost use Rattle.pp_meaning.specs.declared.expressions.Base.TheVariants.{Decimal};
@@ -29,7 +29,7 @@ pub enum Radix {
     Plain,
 }
 
-/// Where a symbol stands for its number.
+/// Where a symbol has its number.
 #[derive(Clone, Copy)]
 pub enum Validity {
     /// Everywhere.
@@ -40,7 +40,7 @@ pub enum Validity {
     Replaced,
 }
 
-/// A name, and the number that it stands for.
+/// A name and its number.
 #[derive(Drop)]
 pub struct Symbol {
     pub name: Vec<u8>,
@@ -80,7 +80,7 @@ pub struct Factor {
     pub atom: Atom,
 }
 
-/// How a term goes on with those before it.
+/// How a term is combined with those before it.
 #[derive(Clone, Copy)]
 pub enum Sign {
     Plus,
@@ -136,7 +136,7 @@ pub enum Linkage {
     Y,
 }
 
-/// What stands between two commas of the operand field.
+/// One operand: what is between two commas of the variable field.
 #[derive(Drop)]
 pub enum Operand {
     Single(Item),
@@ -197,7 +197,7 @@ fn is_current_at(place: Place, index: usize, symbol: &Symbol) -> bool
     }
 }
 
-/// Returns what the name at an index stands for.
+/// Returns the value of the name at an index.
 pub fn name_value(symbols: &[Symbol], place: Place, index: usize) -> Option<i64>
     ensures { IfSome result (λ number. named_value place index (slice_get symbols.now index) ≡ Some number) }
 {
@@ -207,7 +207,7 @@ pub fn name_value(symbols: &[Symbol], place: Place, index: usize) -> Option<i64>
     }
 }
 
-/// Returns what an atom stands for.
+/// Returns the value of an atom.
 fn value_of_atom(symbols: &[Symbol], place: Place, atom: &Atom) -> Option<i64>
     ensures { IfSome result (λ number. atom_value symbols.now place atom.now ≡ Some number) }
 {

@@ -1,9 +1,9 @@
 //! How statements are written.
 ghost use Rattle.std.specs.Prelude.{◌≡◌, ◌∷◌, ◌++◌, [], codes, drop, slice_get, IfOk, IfSome, IsTrue, OnOk, ◌&&◌, ◌==◌, ◌||◌, not};
 ghost use Rattle.std.specs.Prelude.{length, map, replicate, take, ◌+◌, true};
-ghost use Rattle.std.specs.List.{AllByRecursion, flat_map, list_all};
+ghost use Rattle.std.specs.List.{flat_map, list_all};
 ghost use Rattle.pp_meaning.specs.declared.statements.Operation.TheVariants.{Instruction};
-ghost use Rattle.pp_meaning.specs.Lines.{AreAllWritten, AreWritten, IsWritten, atom_text, base_name, begins_blank, external_letter};
+ghost use Rattle.pp_meaning.specs.Lines.{IsWritten, atom_text, base_name, begins_blank, external_letter};
 ghost use Rattle.pp_meaning.specs.Lines.{external_text, factor_text, follows_display, item_text, literal_text, up_to};
 ghost use Rattle.pp_meaning.specs.Lines.{follows_text, has_no_blank, is_blank, is_comment, is_cut, is_gap, is_in_place};
 ghost use Rattle.pp_meaning.specs.Lines.{is_label, is_margin, is_wide};
@@ -19,7 +19,7 @@ use crate::expressions::{
 };
 use crate::numbers::decimal_value;
 use crate::qualifiers::Scope;
-use crate::statements::{Label, Operation, Refusal, Statement, SystemText, Unit};
+use crate::statements::{Label, Operation, Statement};
 use crate::texts::{Cut, Kind, Text, has_no_mark, put_codes, put_text};
 use pp_notation::name_of;
 use std::alloc::{AllocError, Global};
@@ -606,8 +606,16 @@ fn with_lost_blanks(alloc: Global, line: &[u8], size: usize) -> Result<Vec<u8>, 
     Ok(whole)
 }
 
-/// Returns whether a statement is written so.
-fn is_written(alloc: Global, symbols: &[Symbol], statement: &Statement) -> Result<bool, AllocError>
+/// Returns whether the line of a statement has its fields and nothing else, with blanks between them. Its operands are written by their
+/// terms. The line may have lost blanks at its end.
+///
+/// # Errors
+/// Memory ran out.
+pub fn is_written(
+    alloc: Global,
+    symbols: &[Symbol],
+    statement: &Statement,
+) -> Result<bool, AllocError>
     ensures { IfOk result (λ yes. IsTrue yes → IsWritten symbols.now statement.now) }
 {
     let scope = &Scope {
@@ -622,56 +630,4 @@ fn is_written(alloc: Global, symbols: &[Symbol], statement: &Statement) -> Resul
     }
     let columns = line.len().saturating_sub(statement.comment.len());
     Ok(is_cut_so(scope, statement, columns, &variable))
-}
-
-/// Returns that the statements of a unit are written so.
-///
-/// # Errors
-/// Memory ran out, or a statement is not.
-fn is_unit_written(
-    alloc: Global,
-    symbols: &[Symbol],
-    number: usize,
-    statements: &[Statement],
-) -> Result<(), Refusal>
-    ensures { OnOk result (AllByRecursion (IsWritten symbols.now) statements.now) }
-{
-    let mut index: usize = 0;
-    for statement in statements {
-        if !is_written(alloc, symbols, statement)? {
-            return Err(Refusal::At(number, index));
-        }
-        index = index.saturating_add(1);
-    }
-    Ok(())
-}
-
-/// Returns that the statements of units are written so.
-///
-/// # Errors
-/// Memory ran out, or a statement is not.
-pub fn are_written(alloc: Global, symbols: &[Symbol], units: &[Unit]) -> Result<(), Refusal>
-    ensures { OnOk result (AllByRecursion (AreWritten symbols.now) units.now) }
-{
-    let mut number: usize = 0;
-    for unit in units {
-        is_unit_written(alloc, symbols, number, &unit.statements)?;
-        number = number.saturating_add(1);
-    }
-    Ok(())
-}
-
-/// Returns that the statements of system texts are written so.
-///
-/// # Errors
-/// Memory ran out, or a statement is not.
-pub fn all_written(alloc: Global, symbols: &[Symbol], systems: &[SystemText]) -> Result<(), Refusal>
-    ensures { OnOk result (AllByRecursion (AreAllWritten symbols.now) systems.now) }
-{
-    for text in systems {
-        if let Err(refusal) = are_written(alloc, symbols, &text.units) {
-            return Err(refusal.of_system());
-        }
-    }
-    Ok(())
 }

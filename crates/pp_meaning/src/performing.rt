@@ -32,8 +32,54 @@ impl State {
         }
     }
 
-    /// Does what a statement says.
-    fn perform(
+    /// Moves the counters: BSS, ORG and LOC.
+    fn move_counters(
+        &mut self,
+        symbols: &[Symbol],
+        label: Label,
+        operation: Operation,
+        operands: &[Operand],
+    ) -> Result<Option<()>, AllocError>
+        ensures { IfOk result (λ made. IfSome made (λ done. after symbols.now (standing self.old) label operation operands.now
+            ≡ Some (standing self.new))) }
+    {
+        match (operation, operands) {
+            (Operation::Space, [x]) => Ok(self.space(symbols, label, x)),
+            (Operation::Origin, [x]) => self.set_origin(symbols, label, x),
+            (Operation::Location, [x]) => Ok(self.set_location(symbols, label, x)),
+            _ => Ok(None),
+        }
+    }
+
+    /// Defines the symbol of a number that is not the location: EQU, SET, MAX, MIN, MICCNT and LIT.
+    fn name_number(
+        &mut self,
+        symbols: &[Symbol],
+        label: Label,
+        operation: Operation,
+        operands: &[Operand],
+    ) -> Option<()>
+        ensures { IfSome result (λ done. after symbols.now (standing self.old) label operation operands.now ≡ Some
+            (standing self.new)) }
+    {
+        match (label, operation, operands) {
+            (Label::Named(index), Operation::Equate(_), [x]) => {
+                self.equate(symbols, index, false, x)
+            }
+            (Label::Named(index), Operation::Set, [x]) => self.equate(symbols, index, true, x),
+            (Label::Named(index), Operation::Choose(is_greatest), _) => {
+                self.choose(symbols, index, is_greatest, operands)
+            }
+            (Label::Named(index), Operation::Count(number), [Operand::Word(_)]) => {
+                self.count(symbols, index, number)
+            }
+            (_, Operation::Pool(address), _) => self.pool(symbols, label, address, operands),
+            _ => None,
+        }
+    }
+
+    /// Performs a statement without a label that makes no words: BASE, PERIPH, OPSYN, QUAL and END.
+    fn directive(
         &mut self,
         alloc: Global,
         symbols: &[Symbol],
@@ -45,25 +91,6 @@ impl State {
             ≡ Some (standing self.new))) }
     {
         match (label, operation, operands) {
-            (_, Operation::Space, [x]) => Ok(self.space(symbols, label, x)),
-            (_, Operation::Origin, [x]) => self.set_origin(symbols, label, x),
-            (_, Operation::Location, [x]) => Ok(self.set_location(symbols, label, x)),
-            (Label::Named(index), Operation::Equate(_), [x]) => Ok(self.equate(
-                symbols, index, false, x,
-            )),
-            (Label::Named(index), Operation::Set, [x]) => Ok(self.equate(symbols, index, true, x)),
-            (Label::Named(index), Operation::Choose(is_greatest), _) => Ok(self.choose(
-                symbols,
-                index,
-                is_greatest,
-                operands,
-            )),
-            (Label::Named(index), Operation::Count(number), [Operand::Word(_)]) => Ok(self.count(
-                symbols, index, number,
-            )),
-            (_, Operation::Bits, _) => self.fields(alloc, symbols, label, operands),
-            (_, Operation::Position, [x]) => self.position(alloc, symbols, label, x),
-            (_, Operation::Pool(address), _) => Ok(self.pool(symbols, label, address, operands)),
             (Label::Empty, Operation::SetBase(base, more), []) => {
                 self.set_base(base, more)?;
                 Ok(Some(()))
@@ -77,18 +104,67 @@ impl State {
             (Label::Empty, Operation::Qualify(..), _) => self.qualify(alloc, operands),
             (Label::Empty, Operation::End, []) => Ok(Some(())),
             (Label::Empty, Operation::End, [x]) => Ok(self.end(symbols, x)),
-            (
-                _,
-                Operation::Blank
-                | Operation::Instruction(_)
-                | Operation::Constants
-                | Operation::Data
-                | Operation::Zeros
-                | Operation::Display
-                | Operation::Shortest(_),
-                _,
-            ) => { self.fill(alloc, symbols, label, operation, operands) }
             _ => Ok(None),
+        }
+    }
+
+    /// Puts bits into words: VFD and POS.
+    fn perform_fields(
+        &mut self,
+        alloc: Global,
+        symbols: &[Symbol],
+        label: Label,
+        operation: Operation,
+        operands: &[Operand],
+    ) -> Result<Option<()>, AllocError>
+        ensures { IfOk result (λ made. IfSome made (λ done. after symbols.now (standing self.old) label operation operands.now
+            ≡ Some (standing self.new))) }
+    {
+        match (operation, operands) {
+            (Operation::Bits, _) => self.fields(alloc, symbols, label, operands),
+            (Operation::Position, [x]) => self.position(alloc, symbols, label, x),
+            _ => Ok(None),
+        }
+    }
+
+    /// Does what a statement says.
+    fn perform(
+        &mut self,
+        alloc: Global,
+        symbols: &[Symbol],
+        label: Label,
+        operation: Operation,
+        operands: &[Operand],
+    ) -> Result<Option<()>, AllocError>
+        ensures { IfOk result (λ made. IfSome made (λ done. after symbols.now (standing self.old) label operation operands.now
+            ≡ Some (standing self.new))) }
+    {
+        match operation {
+            Operation::Space | Operation::Origin | Operation::Location => {
+                self.move_counters(symbols, label, operation, operands)
+            }
+            Operation::Equate(_)
+            | Operation::Set
+            | Operation::Choose(_)
+            | Operation::Count(_)
+            | Operation::Pool(_) => Ok(self.name_number(symbols, label, operation, operands)),
+            Operation::SetBase(..)
+            | Operation::BaseBefore
+            | Operation::Deck
+            | Operation::Synonym(_)
+            | Operation::Qualify(..)
+            | Operation::End => self.directive(alloc, symbols, label, operation, operands),
+            Operation::Bits | Operation::Position => {
+                self.perform_fields(alloc, symbols, label, operation, operands)
+            }
+            Operation::Use => Ok(None),
+            Operation::Blank
+            | Operation::Instruction(_)
+            | Operation::Constants
+            | Operation::Data
+            | Operation::Zeros
+            | Operation::Display
+            | Operation::Shortest(_) => self.fill(alloc, symbols, label, operation, operands),
         }
     }
 
@@ -137,8 +213,12 @@ impl State {
         }
     }
 
-    /// Does what a statement says, and notes its literals.
-    pub(crate) fn follow(
+    /// Performs a statement: notes the literals that it names, does what it says, and keeps the name that it gives to an operation.
+    /// Returns `None` if the statement is not right, and then the state is of no use.
+    ///
+    /// # Errors
+    /// Memory ran out.
+    pub fn follow(
         &mut self,
         alloc: Global,
         symbols: &[Symbol],
@@ -175,8 +255,12 @@ impl State {
         Ok(Some(()))
     }
 
-    /// Puts the literals behind the highest cell.
-    pub(crate) fn put_literals(
+    /// Puts the words of the literals into the cells behind the highest one of the present block. Returns `None` if the statements
+    /// have not named them all, one is at another address, or their words do not fit, and then the state is of no use.
+    ///
+    /// # Errors
+    /// Memory ran out.
+    pub fn put_literals(
         &mut self,
         alloc: Global,
         literals: &[Literal],

@@ -121,7 +121,7 @@ impl<'a> Scope<'a> {
     }
 }
 
-/// Returns whether a qualifier may have a byte.
+/// Returns whether a byte may be one of a qualifier: no blank, comma or `/`, and nothing below a blank.
 pub fn may_qualify(byte: u8) -> bool
     ensures { result ≡ is_in_qualifier byte }
 {
@@ -177,7 +177,7 @@ impl State {
             .truncate(self.prefixes.len().saturating_sub(1));
     }
 
-    /// Goes on with a qualifier, or with the one before.
+    /// Makes a qualifier the present one, or the one before.
     fn use_qualifier(&mut self, alloc: Global, name: &[u8]) -> Result<(), AllocError>
         ensures { OnOk result (record (standing self.old) { prefixes = prefixes_after (standing self.old).prefixes name.now }
             ≡ standing self.new) }

@@ -32,7 +32,7 @@ fn may_make(is_system: bool, is_set: bool, validity: Validity) -> bool
     }
 }
 
-/// Returns whether a symbol at an index stands for a number, and a statement may make it.
+/// Returns whether the symbol at an index has this number, and a statement may make it.
 fn stands_for(symbols: &[Symbol], index: usize, is_system: bool, is_set: bool, number: i64) -> bool
     ensures { result ≡ is_symbol is_system is_set number (slice_get symbols.now index) }
 {
@@ -70,7 +70,7 @@ impl State {
         }
     }
 
-    /// Defines a symbol. Returns whether it stands for this number.
+    /// Defines a symbol. Returns `None` if it is not the next one with this number.
     pub(crate) fn define(
         &mut self,
         symbols: &[Symbol],

@@ -41,7 +41,7 @@ impl<T: Drop> From<AllocFailed<T>> for Refusal {
     }
 }
 
-/// What stands in the label field.
+/// The label of a statement.
 #[derive(Clone, Copy)]
 pub enum Label {
     /// Nothing.
@@ -160,7 +160,15 @@ pub struct Left {
     pub prefixes: Vec<Vec<u8>>,
 }
 
-/// A block of USE, and the cell at which it begins.
+/// What a program makes: a word or none for each cell, the words in the order of their statements, and where a processor begins.
+#[derive(Drop)]
+pub struct Image {
+    pub memory: Vec<Option<u32>>,
+    pub words: Vec<u32>,
+    pub start: Option<u32>,
+}
+
+/// A block of USE, and its first cell.
 #[derive(Drop)]
 pub struct Block {
     pub name: Vec<u8>,
@@ -174,7 +182,7 @@ pub struct Synonym {
     pub operation: Vec<u8>,
 }
 
-/// Where a block goes on, and the cell after its highest one.
+/// Where the next statement of a block is, and the cell after its highest one.
 #[derive(Clone, Copy)]
 pub struct Counters {
     pub location: usize,

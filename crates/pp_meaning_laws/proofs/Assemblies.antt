@@ -8,7 +8,7 @@ use Rattle.pp_meaning.specs.Meaning.{with_blocks, with_literals, with_words}
 use Rattle.pp_meaning.specs.Standing.{Standing}
 use Rattle.pp_meaning.specs.Units.{AreAssembled, IsAssembled, Known, assembled, begun, first, left_by, nothing_known, performed}
 use Rattle.pp_meaning.specs.Units.{then_left, with_system, with_unit, without_bases}
-use Rattle.pp_meaning.specs.declared.assembled.Image.{Image}
+use Rattle.pp_meaning.specs.declared.statements.Image.{Image}
 use Rattle.pp_meaning.specs.declared.expressions.Literal.{Literal}
 use Rattle.pp_meaning.specs.declared.expressions.Symbol.{Symbol}
 use Rattle.pp_meaning.specs.declared.statements.Block.{Block}

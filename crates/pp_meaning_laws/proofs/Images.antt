@@ -19,7 +19,7 @@ use Rattle.pp_meaning.specs.Synonyms.{named, with_synonym}
 use Rattle.pp_meaning.specs.Units.{AreAssembled, IsAssembled, IsImage, Known, assembled, begun, first}
 use Rattle.pp_meaning.specs.Units.{left_by, nothing_known, performed}
 use Rattle.pp_meaning.specs.Units.{then_left, with_system, with_unit, without_bases}
-use Rattle.pp_meaning.specs.declared.assembled.Image.{Image}
+use Rattle.pp_meaning.specs.declared.statements.Image.{Image}
 use Rattle.pp_meaning.specs.declared.expressions.Literal.{Literal}
 use Rattle.pp_meaning.specs.declared.expressions.Operand.{Operand}
 use Rattle.pp_meaning.specs.declared.expressions.Operand.TheVariants.{Literal as Named_literal, LiteralBits, Word}

@@ -6,7 +6,7 @@ ghost use Rattle.pp_meaning.specs.Lines.{sum_text};
 ghost use Rattle.pp_meaning.specs.Names.{AreNames};
 ghost use Rattle.pp_meaning.specs.Qualifiers.{Names};
 ghost use Rattle.pp_meaning.specs.Units.{IsAssembled};
-ghost use Rattle.pp_meaning.specs.declared.assembled.Image.{Image};
+ghost use Rattle.pp_meaning.specs.declared.statements.Image.{Image};
 ghost use Rattle.pp_meaning.specs.declared.expressions.Expression.{Expression};
 ghost use Rattle.pp_meaning.specs.declared.expressions.Place.{Place};
 ghost use Rattle.pp_meaning.specs.declared.expressions.Symbol.{Symbol};

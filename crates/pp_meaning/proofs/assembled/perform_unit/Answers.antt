@@ -1,4 +1,0 @@
-use Rattle.pp_meaning.proofs.assembled.perform_unit.Goals as goal
-
-pub returns : goal.returns
-returns c = rw (← c.deref.ensures.value, ← c.deref-2.ensures.value, ← c.deref-3.ensures.value) c.perform_all.ensures

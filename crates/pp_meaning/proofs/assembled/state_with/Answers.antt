@@ -1,6 +1,0 @@
-use Rattle.std.proofs.Common.{refl}
-use Rattle.pp_meaning.proofs.assembled.state_with.Goals as goal
-
-pub returns : goal.returns
-returns c =
-    rw (c.new.ensures.items, c.new-2.ensures.items, c.in_ok-counters.ensures, c.in_ok-memory.ensures) refl
