@@ -1,6 +1,6 @@
 //! A line cut into the fields of a statement: location, operation and operand. The comment is left out.
 use crate::message::{Fault, Field, Outcome};
-use crate::scan::{after_blanks, end_of_word, find, is_blank, next_where};
+use crate::scan::{after_blanks, end_of_word, find, has_word, is_blank, next_outside};
 use crate::texts::text_at;
 use crate::vocabulary::Vocabulary;
 use crate::wordings::Wording;
@@ -53,7 +53,7 @@ fn location_of(line: &[u8]) -> Field {
 
 /// Returns whether the operand of an operation has texts with blanks.
 fn is_of_text(operation: &[u8]) -> bool {
-    matches!(operation, b"DIS" | b"MICRO" | b"IFC")
+    has_word("DIS MICRO IFC", operation)
 }
 
 /// Returns a line up to its last column. An operand that goes on there is whole, but not one with texts.
@@ -74,8 +74,10 @@ fn after_text(line: &[u8], at: usize, start: usize, is_delimited: bool) -> Outco
     if at != start && !b"=,+-*/".contains(&before) {
         return Ok(next);
     }
-    let found = text_at(line, at, is_delimited)?;
-    Ok(found.map_or(next, |text| text.end.max(next)))
+    match text_at(line, at, is_delimited)? {
+        Some(text) => Ok(text.end),
+        None => Ok(next),
+    }
 }
 
 /// Returns the first column from a start on that has one of some symbols and is in no text, or the length of the line.
@@ -93,55 +95,36 @@ fn end_outside_texts(line: &[u8], start: usize, ends: &[u8], is_delimited: bool)
     Ok(line.len())
 }
 
-/// Returns where the operands of a macro's call end: at a blank that is in no parentheses.
-fn end_of_arguments(line: &[u8], start: usize) -> usize {
-    let mut depth: u32 = 0;
-    next_where(line, start, |symbol| {
-        match symbol {
-            b'(' => depth = depth.saturating_add(1),
-            b')' => depth = depth.saturating_sub(1),
-            _ => {}
-        }
-        depth == 0 && is_blank(*symbol)
-    })
-}
-
 /// Returns the operand: what comes next, if it begins before the column of comments, or one blank after the operation.
-fn operand_of(
-    whole: &[u8],
-    operation: Field,
-    origin: Origin,
-    vocabulary: &Vocabulary,
-) -> Outcome<Field> {
-    let name = operation.of(whole);
-    let line = if matches!(origin, Origin::Source) {
-        without_sequence(whole, is_of_text(name))
-    } else {
-        whole
+fn operand_of(line: &[u8], operation: Field, origin: Origin, words: &Vocabulary) -> Outcome<Field> {
+    let name = operation.of(line);
+    let line = match origin {
+        Origin::Source => without_sequence(line, is_of_text(name)),
+        _ => line,
     };
     let start = after_blanks(line, operation.end);
     let is_apart = start > operation.end.saturating_add(1)
-        && column_on_paper(line, start) >= vocabulary.comments;
+        && column_on_paper(line, start) >= words.comments;
     if start >= line.len() || is_apart && !matches!(origin, Origin::Made) {
         return Ok(Field::new(operation.first, operation.first));
     }
-    let end = if is_of_text(name) {
-        line.len()
-    } else if vocabulary.macro_of(name).is_some() {
-        end_of_arguments(line, start)
-    } else {
-        let is_delimited = matches!(name, b"DATA") || line.get(start) == Some(&b'=');
-        end_outside_texts(line, start, b" \t", is_delimited)?
-    };
-    Ok(Field::new(start, end))
+    Ok(Field::new(start, end_of_operand(line, start, name, words)?))
+}
+
+/// Returns the column after the operand of an operation with a name. That of a macro's call has no end in parentheses.
+fn end_of_operand(line: &[u8], start: usize, name: &[u8], words: &Vocabulary) -> Outcome<usize> {
+    if is_of_text(name) {
+        return Ok(line.len());
+    }
+    if words.macro_of(name).is_some() {
+        return Ok(next_outside(line, start, b" \t"));
+    }
+    let is_delimited = matches!(name, b"DATA") || matches!(line.get(start), Some(b'='));
+    end_outside_texts(line, start, b" \t", is_delimited)
 }
 
 /// Returns the statement of a line in capitals, or `None` of a note or an empty line.
-pub fn statement_of(
-    line: &[u8],
-    origin: Origin,
-    vocabulary: &Vocabulary,
-) -> Outcome<Option<Statement>> {
+pub fn statement_of(line: &[u8], origin: Origin, words: &Vocabulary) -> Outcome<Option<Statement>> {
     match line {
         [b'*', ..] => return Ok(None),
         [b',', ..] => return Err(Fault::new(Wording::NothingToContinue).at(0)),
@@ -151,18 +134,17 @@ pub fn statement_of(
     let location = location_of(line);
     let first = after_blanks(line, location.end);
     let none = Field::new(location.end, location.end);
-    let (operation, operand) = if first < line.len() {
-        let operation = Field::new(first, end_of_word(line, first));
-        (operation, operand_of(line, operation, origin, vocabulary)?)
-    } else {
-        (none, none)
-    };
-    Ok(Some(Statement {
+    let mut statement = Statement {
         location,
-        operation,
-        operand,
-        comments: vocabulary.comments,
-    }))
+        operation: none,
+        operand: none,
+        comments: words.comments,
+    };
+    if first < line.len() {
+        statement.operation = Field::new(first, end_of_word(line, first));
+        statement.operand = operand_of(line, statement.operation, origin, words)?;
+    }
+    Ok(Some(statement))
 }
 
 /// The parts of an operand between commas that are in no text.

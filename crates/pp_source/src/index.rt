@@ -21,8 +21,7 @@ pub fn number_of_name(prefix: &[u8], rest: &[u8]) -> u64 {
     with_bytes(with_bytes(OFFSET, prefix), rest)
 }
 
-fn with_bytes(number: u64, bytes: &[u8]) -> u64 {
-    let mut number = number;
+fn with_bytes(mut number: u64, bytes: &[u8]) -> u64 {
     for byte in bytes {
         number = (number ^ u64::from(*byte)).wrapping_mul(PRIME);
     }

@@ -41,15 +41,7 @@ pub fn number_of(text: &[u8]) -> Option<Number<'_>> {
         [letter @ (b'B' | b'D' | b'O'), rest @ ..] => (Some(*letter), rest),
         _ => (None, rest),
     };
-    let (bits, shift) = match rest {
-        [b'S', rest @ ..] => digits_of(rest, 2),
-        _ => (0, 0),
-    };
-    let rest = if bits > 0 {
-        tail(rest, bits.saturating_add(1))
-    } else {
-        rest
-    };
+    let (shift, rest) = shift_of(rest);
     if digits.is_empty() || goes_on(rest, b".$") {
         return None;
     }
@@ -59,6 +51,17 @@ pub fn number_of(text: &[u8]) -> Option<Number<'_>> {
         shift,
         rest,
     })
+}
+
+/// Returns the shift that a text begins with, or 0, and what follows it.
+fn shift_of(text: &[u8]) -> (u32, &[u8]) {
+    let [b'S', after @ ..] = text else {
+        return (0, text);
+    };
+    match digits_of(after, 2) {
+        (0, _) => (0, text),
+        (count, shift) => (shift, tail(after, count)),
+    }
 }
 
 /// Returns the number that digits make.

@@ -1,6 +1,7 @@
 //! The operations that are no instructions.
 use crate::openings::Opening;
 use crate::orders::Order;
+use crate::scan::has_word;
 use crate::wordings::Wording;
 use Operation::{
     Base, Bits, Block, Data, Deck, End, Equate, Error, Expressions, Greatest, Ignored, Inside,
@@ -153,9 +154,12 @@ pub fn operation_of(name: &[u8]) -> Operation {
     if let Some(code) = code_of(name) {
         return Operation::Instruction(code);
     }
-    let is_it = |names: &str| names.split_whitespace().any(|one| one.as_bytes() == name);
-    let found = OPERATIONS.iter().find(|(names, _)| is_it(names));
-    found.map_or(Operation::Unknown, |(_, operation)| *operation)
+    for (names, operation) in &OPERATIONS {
+        if has_word(names, name) {
+            return *operation;
+        }
+    }
+    Operation::Unknown
 }
 
 /// Returns whether a name is that of an instruction or a directive.

@@ -1,6 +1,6 @@
 //! Lines that are made of others, with what is given for the names in these.
 use crate::message::Outcome;
-use crate::scan::{cut, is_alphanumeric, next_where};
+use crate::scan::{cut, find, is_alphanumeric, next_outside};
 use crate::vocabulary::{Meaning, Vocabulary};
 use pp_decks::Span;
 use pp_notation::put_octal;
@@ -8,25 +8,17 @@ use std::alloc::AllocError;
 
 /// Returns the first item of a list that is kept, and the others, if there are some.
 pub fn split(kept: &[u8], list: Span) -> (Span, Option<Span>) {
-    let (item, others) = cut(list.of(kept), b',');
-    let end = list.first.saturating_add(item.len());
-    let others = others.map(|_| Span::new(end.saturating_add(1), list.end));
-    (Span::new(list.first, end), others)
+    let text = list.of(kept);
+    let end = find(text, 0, b',').unwrap_or(text.len());
+    let others = (end < text.len()).then_some(list.part(end.saturating_add(1), text.len()));
+    (list.part(0, end), others)
 }
 
 /// Returns the first item of a list that is kept, without its parentheses, and the others, if there are some. A comma in
 /// parentheses is within an item.
 pub fn split_nested(kept: &[u8], list: Span) -> (Span, Option<Span>) {
     let text = list.of(kept);
-    let mut depth: u32 = 0;
-    let end = next_where(text, 0, |symbol| {
-        match symbol {
-            b'(' => depth = depth.saturating_add(1),
-            b')' => depth = depth.saturating_sub(1),
-            _ => {}
-        }
-        depth == 0 && *symbol == b','
-    });
+    let end = next_outside(text, 0, b",");
     let others = (end < text.len()).then_some(list.part(end.saturating_add(1), text.len()));
     let item = if is_enclosed(Span::new(0, end).of(text)) {
         list.part(1, end.saturating_sub(1))
@@ -38,21 +30,17 @@ pub fn split_nested(kept: &[u8], list: Span) -> (Span, Option<Span>) {
 
 /// Returns whether a text is in parentheses: the first one has its end in the last one.
 pub fn is_enclosed(text: &[u8]) -> bool {
-    let [b'(', inner @ .., b')'] = text else {
-        return false;
-    };
-    let mut depth: u32 = 1;
-    for symbol in inner {
-        match symbol {
-            b'(' => depth = depth.saturating_add(1),
-            b')' => depth = depth.saturating_sub(1),
-            _ => {}
-        }
-        if depth == 0 {
-            return false;
+    matches!(text, [b'(', .., b')']) && next_outside(text, 0, b")").saturating_add(1) >= text.len()
+}
+
+/// Adds a text without the _ in it to a line.
+fn add_joined(text: &[u8], line: &mut Vec<u8>) -> Result<(), AllocError> {
+    for symbol in text {
+        if *symbol != b'_' {
+            line.push(*symbol)?;
         }
     }
-    true
+    Ok(())
 }
 
 impl Vocabulary {
@@ -63,14 +51,19 @@ impl Vocabulary {
         }
         for name in names.split(|symbol| *symbol == b',') {
             let name = self.keep(name)?;
-            self.locals = self.locals.saturating_add(1);
-            let first = self.text.len();
-            self.text.extend_from_slice(b"Z.")?;
-            put_octal(&mut self.text, i64::from(self.locals), 4)?;
-            let text = Span::new(first, self.text.len());
+            let text = self.next_local()?;
             self.values.push(Meaning { name, text })?;
         }
         Ok(())
+    }
+
+    /// Makes the next name for LOCAL, and keeps it.
+    fn next_local(&mut self) -> Result<Span, AllocError> {
+        self.locals = self.locals.saturating_add(1);
+        let first = self.text.len();
+        self.text.extend_from_slice(b"Z.")?;
+        put_octal(&mut self.text, i64::from(self.locals), 4)?;
+        Ok(Span::new(first, self.text.len()))
     }
 
     /// Returns the name before the = of an operand, if the macro has it, and what is given to it.
@@ -78,8 +71,7 @@ impl Vocabulary {
         let (name, Some(value)) = cut(operand, b'=') else {
             return None;
         };
-        let mut values = self.values.iter();
-        let own = values.find(|own| self.text_of(own.name) == name)?;
+        let own = self.last_named(&self.values, name)?;
         let value = match value {
             [b'(', inner @ .., b')'] if is_enclosed(value) => inner,
             value => value,
@@ -107,9 +99,9 @@ impl Vocabulary {
                 [b'A'..=b'Z', ..] => self.meaning(&self.values, word),
                 _ => None,
             };
-            let word = given.map_or(word, |given| given.of(&self.text));
-            for symbol in word.iter().filter(|symbol| **symbol != b'_') {
-                self.made.push(*symbol)?;
+            match given {
+                Some(given) => add_joined(given.of(&self.text), &mut self.made)?,
+                None => add_joined(word, &mut self.made)?,
             }
         }
         Ok(())

@@ -1,5 +1,4 @@
 //! Parts of a line: its blanks, words and digits.
-
 use pp_decks::tail;
 
 /// Returns whether a symbol is a blank within a line.
@@ -22,6 +21,19 @@ pub fn next_where<F: FnMut(&u8) -> bool>(line: &[u8], from: usize, test: F) -> u
     }
 }
 
+/// Returns the column of the first of some symbols at or after a column that is in no parentheses, or the length of the line.
+pub fn next_outside(line: &[u8], from: usize, ends: &[u8]) -> usize {
+    let mut depth: u32 = 0;
+    next_where(line, from, |symbol| {
+        match symbol {
+            b'(' => depth = depth.saturating_add(1),
+            b')' => depth = depth.saturating_sub(1),
+            _ => {}
+        }
+        depth == 0 && ends.contains(symbol)
+    })
+}
+
 /// Returns the column of the first blank at or after a column, or the length of the line.
 pub fn end_of_word(line: &[u8], from: usize) -> usize {
     next_where(line, from, |symbol| is_blank(*symbol))
@@ -36,6 +48,11 @@ pub fn after_blanks(line: &[u8], from: usize) -> usize {
 pub fn find(line: &[u8], from: usize, symbol: u8) -> Option<usize> {
     let distance = tail(line, from).iter().position(|one| *one == symbol)?;
     distance.checked_add(from)
+}
+
+/// Returns whether a text of words between blanks has a word.
+pub fn has_word(text: &str, word: &[u8]) -> bool {
+    text.split_whitespace().any(|one| one.as_bytes() == word)
 }
 
 /// Returns the number of decimal digits that a text begins with, up to a most, and their value.

@@ -74,6 +74,17 @@ pub fn end_of_name(text: &[u8], at: usize) -> Option<usize> {
     }))
 }
 
+/// Returns what is wrong with a name as a symbol, if something is.
+fn wrong_symbol(name: &[u8]) -> Option<Wording> {
+    if end_of_name(name, 0) == Some(name.len()) {
+        return (name.len() > LONGEST).then_some(Wording::LongSymbol);
+    }
+    match name {
+        [b'$' | b'=' | b'0'..=b'9', ..] => Some(Wording::WrongFirstSymbol),
+        _ => Some(Wording::WrongSymbol),
+    }
+}
+
 impl Symbols {
     pub fn new(alloc: Global) -> Self {
         Symbols {
@@ -120,10 +131,7 @@ impl Symbols {
     /// is, up to the first SET of the source.
     pub fn begin_source(&mut self) {
         for symbol in &mut self.all {
-            if let Some(own) = symbol.before
-                && !own.is_system
-                && !own.is_set
-            {
+            if matches!(symbol.before, Some(own) if !own.is_system && !own.is_set) {
                 symbol.seen = None;
             }
         }
@@ -141,9 +149,10 @@ impl Symbols {
             return Ok(());
         }
         let first = self.qualifier_text.len();
-        let slash: &[u8] = if name.is_empty() { b"" } else { b"/" };
-        for part in [slash, name, slash] {
-            self.qualifier_text.extend_from_slice(part)?;
+        if !name.is_empty() {
+            self.qualifier_text.extend_from_slice(b"/")?;
+            self.qualifier_text.extend_from_slice(name)?;
+            self.qualifier_text.extend_from_slice(b"/")?;
         }
         let qualifier = Span::new(first, self.qualifier_text.len());
         Ok(self.qualifiers.push(qualifier)?)
@@ -178,10 +187,14 @@ impl Symbols {
 
     /// Returns whether a name is the label of a line that is left out, or that label and an X, as of a subroutine's exit.
     pub fn is_passed_over(&self, name: &[u8]) -> bool {
-        self.passed_over.iter().any(|label| {
+        let subroutine = name.strip_suffix(b"X").unwrap_or(name);
+        for label in &self.passed_over {
             let label = self.text_of(*label);
-            label == name || name.strip_suffix(b"X") == Some(label)
-        })
+            if label == name || label == subroutine {
+                return true;
+            }
+        }
+        false
     }
 
     /// Returns the index of the symbol whose key is a name after a prefix.
@@ -215,22 +228,15 @@ impl Symbols {
 
     /// Returns whether a line above or the pass before has defined a name.
     pub fn is_named(&self, name: &[u8]) -> bool {
-        let is_later = |symbol: Symbol| symbol.before.is_some();
-        self.seen(name).is_some() || self.symbol(b"", name).is_some_and(is_later)
+        self.seen(name).is_some()
+            || matches!(self.symbol(b"", name), Some(symbol) if symbol.before.is_some())
     }
 
     /// Gives a name of a line its meaning.
     pub fn define(&mut self, line: &[u8], field: Field, definition: Definition) -> Outcome {
         let name = field.of(line);
-        if end_of_name(name, 0) != Some(name.len()) {
-            let text = match name.first() {
-                Some(b'$' | b'=' | b'0'..=b'9') => { Wording::WrongFirstSymbol }
-                _ => Wording::WrongSymbol,
-            };
+        if let Some(text) = wrong_symbol(name) {
             return Err(Stop::of(text, field));
-        }
-        if name.len() > LONGEST {
-            return Err(Stop::of(Wording::LongSymbol, field));
         }
         let Some(index) = self.index_of(self.prefix(), name) else {
             return self.add(name, definition);
@@ -255,9 +261,8 @@ impl Symbols {
         let prefix = qualifier.of(&self.qualifier_text);
         self.index.add(number_of_name(prefix, name))?;
         self.text.extend_from_slice(prefix)?;
-        let key = Span::new(first, self.keep(name)?.end);
         let symbol = Symbol {
-            key,
+            key: Span::new(first, self.keep(name)?.end),
             before: None,
             seen: Some(definition),
         };
@@ -272,19 +277,20 @@ impl Symbols {
     /// Returns what a name stands for. Only a name of a line above counts if that is asked, and of SET in any case. In the first
     /// pass a name may stand for nothing yet.
     pub fn look_up(&self, name: &[u8], at: Place, is_last: bool) -> Outcome<Definition> {
-        let symbol = self.meant(name);
-        if let Some(seen) = symbol.and_then(|symbol| symbol.seen) {
-            return Ok(seen);
-        }
-        match symbol.and_then(|symbol| symbol.before) {
-            Some(later) if !at.is_from_above && !later.is_set => Ok(later),
-            Some(later) => {
+        let (seen, before) = match self.meant(name) {
+            Some(symbol) => (symbol.seen, symbol.before),
+            None => (None, None),
+        };
+        match (seen, before) {
+            (Some(seen), _) => Ok(seen),
+            (_, Some(later)) if !at.is_from_above && !later.is_set => Ok(later),
+            (_, Some(later)) => {
                 let fault = Fault::new(Wording::DefinedLater);
                 Err(fault.part(at.name).decimal(later.line).at(at.column))
             }
-            None if !at.is_from_above && !is_last => Ok(Definition::address(0)),
-            None if self.is_passed_over(name) => Err(Stop::Follows),
-            None => {
+            _ if !at.is_from_above && !is_last => Ok(Definition::address(0)),
+            _ if self.is_passed_over(name) => Err(Stop::Follows),
+            _ => {
                 let fault = Fault::new(Wording::NotDefined).part(at.name);
                 Err(fault.with(Argument::NearestSymbol(at.name)).at(at.column))
             }

@@ -1,7 +1,7 @@
 //! Texts in display code: 3HABC, 0HABC up to a comma or a blank, H*ABC* between two equal symbols.
 use crate::message::{Fault, Outcome};
 use crate::numbers::product;
-use crate::scan::{digits_of, find, is_alphanumeric, is_blank, next_where};
+use crate::scan::{cut, digits_of, is_alphanumeric, is_blank, next_where};
 use crate::wordings::Wording;
 use pp_decks::tail;
 pub use pp_notation::code_of_symbol as code_of;
@@ -73,15 +73,23 @@ fn is_kind(symbol: u8) -> bool {
 pub fn text_at(line: &[u8], at: usize, is_delimited: bool) -> Outcome<Option<DisplayText<'_>>> {
     let (digits, count) = digits_of(tail(line, at), 9);
     let start = at.saturating_add(digits);
-    match tail(line, start) {
-        [kind, ..] if digits > 0 && is_kind(*kind) => {
+    match line.get(start) {
+        Some(kind) if !is_kind(*kind) => Ok(None),
+        Some(kind) if digits > 0 => {
             Ok(Some(counted(line, at, *kind, start.saturating_add(1), count)?))
         }
-        [kind, mark, rest @ ..]
-            if is_delimited && is_kind(*kind) && !is_alphanumeric(*mark) && *mark != b' ' => {
+        Some(kind) if is_delimited => delimited(line, at, *kind),
+        _ => Ok(None),
+    }
+}
+
+/// Returns the text between two equal symbols, if the one after its kind is no letter, digit or blank.
+fn delimited(line: &[u8], at: usize, kind: u8) -> Outcome<Option<DisplayText<'_>>> {
+    match tail(line, at.saturating_add(1)) {
+        [mark, rest @ ..] if !is_alphanumeric(*mark) && *mark != b' ' => {
             let symbols = before_mark(rest, *mark, at)?;
             let end = at.saturating_add(symbols.len()).saturating_add(3);
-            Ok(Some(DisplayText::new(*kind, symbols, symbols.len(), end)))
+            Ok(Some(DisplayText::new(kind, symbols, symbols.len(), end)))
         }
         _ => Ok(None),
     }
@@ -96,8 +104,7 @@ fn counted(line: &[u8], at: usize, kind: u8, first: usize, count: u32) -> Outcom
         next_where(line, first, |symbol| is_blank(*symbol) || *symbol == b',')
     };
     if end > line.len().max(LONGEST) {
-        let fault = Fault::new(Wording::ShortText);
-        return Err(fault.decimal(count).at(at));
+        return Err(Fault::new(Wording::ShortText).decimal(count).at(at));
     }
     let end = end.min(line.len());
     let symbols = line.get(first..end).unwrap_or(b"");
@@ -106,9 +113,10 @@ fn counted(line: &[u8], at: usize, kind: u8, first: usize, count: u32) -> Outcom
 
 /// Returns the symbols before a mark. Without it, a column has a fault.
 pub fn before_mark(text: &[u8], mark: u8, column: usize) -> Outcome<&[u8]> {
-    let fault = Fault::new(Wording::TextWithoutEnd).symbol(mark);
-    let end = find(text, 0, mark).ok_or(fault.at(column))?;
-    Ok(text.get(..end).unwrap_or(b""))
+    match cut(text, mark) {
+        (symbols, Some(_)) => Ok(symbols),
+        _ => Err(Fault::new(Wording::TextWithoutEnd).symbol(mark).at(column)),
+    }
 }
 
 /// Returns that a symbol has no display code.

@@ -96,16 +96,12 @@ impl Vocabulary {
 
     /// Returns the macro with a name.
     pub fn macro_of(&self, name: &[u8]) -> Option<Macro> {
-        let mut macros = self.macros.iter().rev();
-        macros
-            .find(|one| one.until == u32::MAX && self.text_of(one.name) == name)
-            .copied()
-    }
-
-    /// Returns whether a macro has or had a name.
-    pub fn has_had_macro(&self, name: &[u8]) -> bool {
-        let mut macros = self.macros.iter();
-        macros.any(|one| self.text_of(one.name) == name)
+        for one in self.macros.iter().rev() {
+            if one.until == u32::MAX && self.text_of(one.name) == name {
+                return Some(*one);
+            }
+        }
+        None
     }
 
     /// Forgets the macros with a name, at the statement with a number.
@@ -119,8 +115,17 @@ impl Vocabulary {
 
     /// Returns the text that a name stands for, the last one of several.
     pub fn meaning(&self, all: &[Meaning], name: &[u8]) -> Option<Span> {
-        let mut names = all.iter().rev();
-        Some(names.find(|one| self.text_of(one.name) == name)?.text)
+        Some(self.last_named(all, name)?.text)
+    }
+
+    /// Returns the last meaning of a name.
+    pub(crate) fn last_named(&self, all: &[Meaning], name: &[u8]) -> Option<Meaning> {
+        for one in all.iter().rev() {
+            if self.text_of(one.name) == name {
+                return Some(*one);
+            }
+        }
+        None
     }
 
     /// Returns the text of a micro that the source names.
