@@ -5,7 +5,7 @@ use crate::units::NAME_OF_LITERALS;
 use crate::values::{Base, Value};
 use pp_source::{
     Argument, Definition, Fault, Field, Here, Operation, Order, Outcome, Parts, Statement, Stop,
-    Wording, find, first_parts,
+    Wording, cut, first_parts,
 };
 
 /// Returns that an operation has no operand, if it has none.
@@ -50,30 +50,40 @@ impl Scope {
         Ok(items)
     }
 
+    /// Returns the only operand, as a number that is known from the lines above.
+    pub fn count_of(&mut self, here: &Here, statement: Statement, least: i64) -> Outcome<i64> {
+        let operand = the_only(here, statement)?;
+        self.count(here, operand, least)
+    }
+
+    /// Adds a line to the listing, and gives its address to its label.
+    fn labelled_row(&mut self, here: &Here, statement: Statement) -> Outcome {
+        self.plain_row(here, true)?;
+        self.label(here, statement)
+    }
+
     /// BSS leaves cells, backwards if their number is minus.
     pub fn space(&mut self, here: &Here, statement: Statement) -> Outcome {
-        let operand = the_only(here, statement)?;
-        let count = self.count(here, operand, -(CELLS as i64))?;
+        let count = self.count_of(here, statement, -(CELLS as i64))?;
         self.plain_row(here, true)?;
         let origin = self.counters.origin.wrapping_add(count);
         let location = self.counters.location.wrapping_add(count);
+        let column = statement.operand.first;
         if origin < 0 || location < 0 {
-            return Err(Fault::new(Wording::BelowFirstCell).at(operand.first));
+            return Err(Fault::new(Wording::BelowFirstCell).at(column));
         }
         self.move_to(origin, location);
-        if count < 0 {
-            let fault = Fault::new(Wording::SpaceGoesBack);
-            let fault = fault.octal(count.wrapping_neg());
-            self.warn(here, statement.operand.first, fault)?;
-            self.output.over_from = Some(self.counters.origin);
+        if count >= 0 {
+            return Ok(());
         }
-        Ok(())
+        self.output.over_from = Some(origin);
+        let fault = Fault::new(Wording::SpaceGoesBack);
+        self.warn(here, column, fault.octal(count.wrapping_neg()))
     }
 
     /// ORG sets both counters, in the nominal block; its label has the address after it.
     pub fn set_origin(&mut self, here: &Here, statement: Statement) -> Outcome {
-        let operand = the_only(here, statement)?;
-        let number = self.count(here, operand, 0)?;
+        let number = self.count_of(here, statement, 0)?;
         if let Some(block) = self.named_block() {
             let fault = Fault::new(Wording::OriginInBlock);
             let fault = fault.with(Argument::Kept(block));
@@ -81,18 +91,15 @@ impl Scope {
             self.use_block(b"")?;
         }
         self.move_to(number, number);
-        self.output.over_from = Some(self.counters.origin);
-        self.plain_row(here, true)?;
-        self.label(here, statement)
+        self.output.over_from = Some(number);
+        self.labelled_row(here, statement)
     }
 
     /// LOC sets the location counter alone.
     pub fn set_location(&mut self, here: &Here, statement: Statement) -> Outcome {
-        let operand = the_only(here, statement)?;
-        let number = self.count(here, operand, 0)?;
+        let number = self.count_of(here, statement, 0)?;
         self.move_to(self.counters.origin, number);
-        self.plain_row(here, true)?;
-        self.label(here, statement)
+        self.labelled_row(here, statement)
     }
 
     /// USE goes on with a block: 0 or none is the nominal one, * the one before. That of the literals has no statements.
@@ -102,15 +109,14 @@ impl Scope {
             return Err(Stop::of(Wording::BlockOfLiterals, statement.operand));
         }
         self.use_block(if matches!(name, b"0") { b"" } else { name })?;
-        self.plain_row(here, true)?;
-        self.label(here, statement)
+        self.labelled_row(here, statement)
     }
 
     /// QUAL qualifies the names that are defined from here on; * goes back, and without a name they have no qualifier.
     pub fn set_qualifier(&mut self, here: &Here, statement: Statement) -> Outcome {
         let name = without_marks(statement.operand.of(here.text));
         // A name with its qualifier could not be read.
-        if name.iter().any(|symbol| b"/,".contains(symbol)) {
+        if name.contains(&b'/') || name.contains(&b',') {
             return Err(Stop::of(Wording::WrongSymbol, statement.operand));
         }
         self.symbols.qualify(name)?;
@@ -119,7 +125,8 @@ impl Scope {
 
     /// LIT puts words among the literals; its label is the address of the first one.
     pub fn literals(&mut self, here: &Here, statement: Statement) -> Outcome {
-        let words = self.data(here, statement)?;
+        let mut words = Vec::new(self.alloc);
+        self.data(here, statement, &mut words)?;
         let address = self.literals.address_of(&words)?;
         if !matches!(statement.location.of(here.text), b"" | b"-") {
             self.define(here, statement.location, Definition::address(address))?;
@@ -137,18 +144,18 @@ impl Scope {
             Operation::Least => self.chosen(here, statement, false),
             _ => self.value(here, statement.operand, true),
         };
-        let meaning = chosen.map(|value| (Some(value.number), value.addresses == 1));
-        let (value, is_address) = self.reported(here, meaning, (None, false))?;
-        let is_set = !matches!(operation, Operation::Equate);
-        let definition = Definition {
-            value,
-            is_address,
-            is_set,
-            is_here: matches!(statement.operand.of(here.text), b"*" | b"*L" | b"*O"),
-            ..Definition::default()
-        };
-        self.define(here, statement.location, definition)?;
-        self.value_row(here, value, is_set)
+        let mut meaning = Definition::default();
+        match chosen {
+            Ok(value) => {
+                meaning.value = Some(value.number);
+                meaning.is_address = value.addresses == 1;
+            }
+            Err(stop) => self.report_stop(here, stop)?,
+        }
+        meaning.is_set = !matches!(operation, Operation::Equate);
+        meaning.is_here = matches!(statement.operand.of(here.text), b"*" | b"*L" | b"*O");
+        self.define(here, statement.location, meaning)?;
+        self.value_row(here, meaning.value, meaning.is_set)
     }
 
     /// Returns the greatest or the least of several expressions, with what the first one says of addresses.
@@ -157,11 +164,9 @@ impl Scope {
         for item in &self.items(here, statement, false)? {
             let value = self.value(here, *item, true)?;
             let before = chosen.unwrap_or(value);
-            let is_before = (before.number > value.number) == is_greatest;
-            let number = if is_before {
-                before.number
-            } else {
-                value.number
+            let number = match is_greatest {
+                true => before.number.max(value.number),
+                false => before.number.min(value.number),
             };
             chosen = Some(Value::new(number, before.addresses));
         }
@@ -176,20 +181,17 @@ impl Scope {
             None => true,
         };
         if is_error && self.is_last {
-            let text = Wording::SourceSaysError;
-            return Err(Stop::of(text, statement.operation));
+            return Err(Stop::of(Wording::SourceSaysError, statement.operation));
         }
         Ok(())
     }
 
     /// IDENT names a program; a second one begins another program of the same source.
     pub fn name_program(&mut self, here: &Here, statement: Statement) -> Outcome {
-        let operand = statement.operand.of(here.text);
-        let end = find(operand, 0, b',').unwrap_or(operand.len());
-        let name = operand.get(..end).unwrap_or(b"");
+        let (name, _) = cut(statement.operand.of(here.text), b',');
         if self.programs.has_name {
             self.end_unit(here)?;
-            self.begin_unit(name)?;
+            self.begin_unit()?;
         }
         self.programs.has_name = true;
         self.programs.name = Vec::from_slice(self.alloc, name)?;
@@ -199,21 +201,16 @@ impl Scope {
     /// BASE says what numbers without a letter are; * goes back.
     pub fn set_base(&mut self, here: &Here, statement: Statement) -> Outcome {
         let word = statement.operand.of(here.text);
-        let before = if matches!(word, b"*") {
-            self.counters.bases.pop()
+        if matches!(word, b"*")
+            && let Some(base) = self.counters.bases.pop()
+        {
+            self.counters.base = base;
+        } else if let Some(base) = base_of(word) {
+            self.counters.bases.push(self.counters.base)?;
+            self.counters.base = Some(base);
         } else {
-            None
-        };
-        match (before, base_of(word)) {
-            (Some(base), _) => self.counters.base = base,
-            (None, Some(base)) => {
-                self.counters.bases.push(self.counters.base)?;
-                self.counters.base = Some(base);
-            }
-            (None, None) => {
-                let fault = Fault::new(Wording::BaseWanted).part_or_nothing(statement.operand);
-                return Err(fault.at(statement.operand.first));
-            }
+            let fault = Fault::new(Wording::BaseWanted).part_or_nothing(statement.operand);
+            return Err(fault.at(statement.operand.first));
         }
         self.plain_row(here, false)
     }

@@ -1,7 +1,7 @@
 //! The words of statements, and how they are put into cells.
 use crate::scope::{CELLS, Scope};
 use pp_decks::{is_empty, tail};
-use pp_notation::{Form, Slot, form_of, size_of};
+use pp_notation::{Form, form_of, size_of};
 use pp_source::{
     Argument, Fault, Field, FirstParts, Here, Outcome, Statement, Stop, Wording, first_parts,
 };
@@ -77,11 +77,10 @@ impl Scope {
             .wrapping_add(SIZE / 2)
             & (SIZE - 1);
         let cells = cells.wrapping_sub(SIZE / 2);
-        if self.is_last && !(-NEAR..=NEAR).contains(&cells) {
-            let fault = Fault::new(if cells > 0 {
-                Wording::FarOn
-            } else {
-                Wording::FarBack
+        if self.is_last && cells.wrapping_abs() > NEAR {
+            let fault = Fault::new(match cells > 0 {
+                true => Wording::FarOn,
+                false => Wording::FarBack,
             });
             let fault = fault.part(target).octal(cells.wrapping_abs());
             let fault = fault.with(Argument::Instruction(code));
@@ -107,47 +106,42 @@ impl Scope {
         Ok(())
     }
 
-    /// Puts a word into the present cell, or reports why that can't be.
+    /// Puts a word into the present cell, or reports why that can't be. Words that begin over others, after ORG or BSS, may be there.
     fn put_word(&mut self, here: &Here, word: u16) -> Outcome {
         if !self.is_last {
             return Ok(());
         }
         let cell = self.counters.origin;
-        if let Some(fault) = self.why_not_into(here, cell)? {
-            if self.output.wrong_from != Some(cell) {
-                self.report(here, 0, fault)?;
-            }
-            self.output.wrong_from = Some(cell.wrapping_add(1));
-        } else if let Some(slot) = self.output.cells.get_mut(index_of(cell)) {
-            slot.word = word;
-            slot.line = here.line.number;
+        let Some(slot) = self.output.cells.get_mut(index_of(cell)) else {
+            return self.report_word(here, cell, Fault::new(Wording::PastLastCell));
+        };
+        let before = slot.line;
+        if before != 0 && self.output.over_from != Some(cell) {
+            return self.report_word(here, cell, filled(Wording::FilledTwice, cell, before));
         }
-        Ok(())
+        slot.word = word;
+        slot.line = here.line.number;
+        if before == 0 {
+            return Ok(());
+        }
+        self.output.over_from = Some(cell.wrapping_add(1));
+        self.warn(here, 0, filled(Wording::WarningFilledTwice, cell, before))
     }
 
-    /// Returns why no word can be put into a cell. Words that begin over others, after ORG or BSS, may be there.
-    fn why_not_into(&mut self, here: &Here, cell: i64) -> Outcome<Option<Fault>> {
-        let Some(Slot { line, .. }) = self.output.cells.get(index_of(cell)).copied() else {
-            return Ok(Some(Fault::new(Wording::PastLastCell)));
-        };
-        if line == 0 {
-            return Ok(None);
+    /// Reports why no word can be put into a cell, but not for the cell after another such one.
+    fn report_word(&mut self, here: &Here, cell: i64, fault: Fault) -> Outcome {
+        if self.output.wrong_from != Some(cell) {
+            self.report(here, 0, fault)?;
         }
-        let is_warning = self.output.over_from == Some(cell);
-        let fault = Fault::new(if is_warning {
-            Wording::WarningFilledTwice
-        } else {
-            Wording::FilledTwice
-        });
-        let address = u16::try_from(cell).unwrap_or(0);
-        let fault = fault.with(Argument::Cell(address)).decimal(line);
-        if !is_warning {
-            return Ok(Some(fault));
-        }
-        self.warn(here, 0, fault)?;
-        self.output.over_from = Some(cell.wrapping_add(1));
-        Ok(None)
+        self.output.wrong_from = Some(cell.wrapping_add(1));
+        Ok(())
     }
+}
+
+/// Returns that a cell has the word of a line.
+fn filled(text: Wording, cell: i64, line: u32) -> Fault {
+    let address = u16::try_from(cell).unwrap_or(0);
+    Fault::new(text).with(Argument::Cell(address)).decimal(line)
 }
 
 /// Returns the lower bits of a number.
@@ -161,7 +155,7 @@ fn operands_of(here: &Here, statement: Statement, code: u8) -> Outcome<FirstPart
     let is_literal = operand.of(here.text).first() == Some(&b'=');
     let found = first_parts(here.text, operand, is_literal)?;
     let (least, most, takes) = wanted(form_of(code));
-    if (least..=most).contains(&found.count) {
+    if found.count >= least && found.count <= most {
         return Ok(found);
     }
     let name = statement.operation;
@@ -171,8 +165,10 @@ fn operands_of(here: &Here, statement: Statement, code: u8) -> Outcome<FirstPart
     } else {
         Wording::Takes
     });
-    let first_left = found.parts.get(most).filter(|_| found.count > most);
-    let column = first_left.unwrap_or(&name).first;
+    let column = match found.parts.get(most) {
+        Some(first_left) if found.count > most => first_left.first,
+        _ => name.first,
+    };
     let fault = fault.part(name).with(Argument::Text(takes));
     Err(fault.count(statement.comments.saturating_add(1)).at(column))
 }

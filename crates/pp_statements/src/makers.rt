@@ -5,8 +5,8 @@ use crate::scope::{OpenWord, Scope};
 use crate::values::Base;
 use pp_decks::tail;
 use pp_source::{
-    DisplayText, Fault, Field, Here, Outcome, Statement, Stop, Wording, are_in_code, before_mark,
-    code_of, digits_of, find, no_code, text_at,
+    DisplayText, Fault, Field, Here, Operation, Outcome, Statement, Stop, Wording, are_in_code,
+    before_mark, digits_of, find, text_at,
 };
 
 const WORD_BITS: u32 = 12;
@@ -17,40 +17,52 @@ const MOST_BITS: u32 = 60;
 const LAST: u32 = 0o7777;
 
 impl Scope {
-    /// CON has expressions.
-    pub fn expressions(&mut self, here: &Here, statement: Statement) -> Outcome<Vec<u16>> {
-        let mut words = Vec::new(self.alloc);
-        for item in &self.items(here, statement, false)? {
-            let word = self.expression(here, statement, *item)?;
-            words.push(bits_of(word, 0o7777))?;
+    /// Adds the words of a directive.
+    pub fn make(
+        &mut self,
+        here: &Here,
+        statement: Statement,
+        operation: Operation,
+        words: &mut Vec<u16>,
+    ) -> Outcome {
+        match operation {
+            Operation::Expressions => self.expressions(here, statement, words),
+            Operation::Data => self.data(here, statement, words),
+            Operation::Bits => self.bits(here, statement, words),
+            Operation::Position => self.position(here, statement, words),
+            Operation::Text => self.text(here, statement, words),
+            Operation::Zeros => self.zeros(here, statement, words),
+            _ => Err(self.why_not(here, statement, operation)),
         }
-        Ok(words)
     }
 
-    /// Returns the word of an expression of CON; nothing between two commas is zero.
-    fn expression(&mut self, here: &Here, statement: Statement, item: Field) -> Outcome<u64> {
-        match item.is_empty() && item.end < statement.operand.end {
-            true => Ok(0),
-            false => self.field(here, item, WORD_BITS, None),
+    /// CON has expressions; nothing between two commas is zero.
+    fn expressions(&mut self, here: &Here, statement: Statement, words: &mut Vec<u16>) -> Outcome {
+        for item in &self.items(here, statement, false)? {
+            let word = match item.is_empty() && item.end < statement.operand.end {
+                true => 0,
+                false => self.field(here, *item, WORD_BITS, None)?,
+            };
+            words.push(bits_of(word, 0o7777))?;
         }
+        Ok(())
     }
 
     /// BSSZ has words of zero.
-    pub fn zeros(&mut self, here: &Here, operand: Field) -> Outcome<Vec<u16>> {
-        let count = usize::try_from(self.count(here, operand, 0)?).unwrap_or(0);
-        Ok(vec![in self.alloc; 0; count]?)
+    fn zeros(&mut self, here: &Here, statement: Statement, words: &mut Vec<u16>) -> Outcome {
+        let count = self.count_of(here, statement, 0)?;
+        put_zeros(words, usize::try_from(count).unwrap_or(0))
     }
 
     /// DATA has numbers and texts.
-    pub fn data(&mut self, here: &Here, statement: Statement) -> Outcome<Vec<u16>> {
-        let mut words = Vec::new(self.alloc);
+    pub fn data(&mut self, here: &Here, statement: Statement, words: &mut Vec<u16>) -> Outcome {
         for item in &self.items(here, statement, true)? {
-            if let Err(stop) = self.datum(here, *item, &mut words) {
+            if let Err(stop) = self.datum(here, *item, words) {
                 self.report_stop(here, stop)?;
                 words.push(0)?;
             }
         }
-        Ok(words)
+        Ok(())
     }
 
     /// Adds the words of a number or a text.
@@ -74,86 +86,65 @@ impl Scope {
     }
 
     /// DIS n,text has n words of a text; DIS ,*text* ends in a word of zero.
-    pub fn text(&mut self, here: &Here, statement: Statement) -> Outcome<Vec<u16>> {
-        let operand = statement.operand.of(here.text);
-        let (digits, count) = digits_of(operand, 4);
-        let column = statement.operand.first;
-        if operand.get(digits) != Some(&b',') || count > LAST {
-            return Err(Fault::new(Wording::TextOfWordsWanted).at(column));
+    fn text(&mut self, here: &Here, statement: Statement, words: &mut Vec<u16>) -> Outcome {
+        let (column, text) = text_of(here.text, statement.operand)?;
+        match are_in_code(text.symbols, column) {
+            Ok(()) => put_text(words, text),
+            Err(stop) => {
+                self.report_stop(here, stop)?;
+                put_zeros(words, text.size_in_words() / 2)
+            }
         }
-        let before = digits.saturating_add(1);
-        let column = column.saturating_add(before);
-        let rest = tail(operand, before);
-        let text = if digits > 0 {
-            let size = (count as usize).saturating_mul(2);
-            DisplayText::new(b'H', rest.get(..size).unwrap_or(rest), size, 0)
-        } else {
-            let mark = rest.first().copied().unwrap_or(b'*');
-            let symbols = before_mark(tail(rest, 1), mark, column)?;
-            DisplayText::new(b'C', symbols, symbols.len(), 0)
-        };
-        let is_wrong = |symbol: &&u8| code_of(**symbol).is_none();
-        if let Some(symbol) = text.symbols.iter().find(is_wrong) {
-            self.report(here, column, no_code(*symbol))?;
-            return Ok(vec![in self.alloc; 0; text.size_in_words() / 2]?);
-        }
-        let mut words = Vec::new(self.alloc);
-        put_text(&mut words, text)?;
-        Ok(words)
     }
 
     /// VFD has fields of bits. One without a label goes on in the word that the one before has not filled.
-    pub fn bits(&mut self, here: &Here, statement: Statement) -> Outcome<Vec<u16>> {
+    fn bits(&mut self, here: &Here, statement: Statement, words: &mut Vec<u16>) -> Outcome {
         let items = self.items(here, statement, false)?;
-        let open = self.open_word(here, statement);
-        let mut words = Vec::new(self.alloc);
-        let mut used = begin_bits(&mut words, open)?;
+        let before = self.used_before(here, statement);
+        let mut used = before;
         for item in &items {
             match self.bits_field(here, *item, used) {
-                Ok((size, number)) => used = add_bits(&mut words, used, size, number)?,
+                Ok((size, number)) => used = add_bits(words, used, size, number)?,
                 Err(stop) => self.report_stop(here, stop)?,
             }
         }
-        Ok(self.end_bits(words, used, open.is_some()))
+        self.end_bits(words, used, before < WORD_BITS);
+        Ok(())
     }
 
     /// POS n puts zeros into the word that VFD has not filled, or into a new one, up to its last n bits.
-    pub fn position(&mut self, here: &Here, statement: Statement) -> Outcome<Vec<u16>> {
+    fn position(&mut self, here: &Here, statement: Statement, words: &mut Vec<u16>) -> Outcome {
         let operand = the_only(here, statement)?;
         let left = self.decimal_number(here, operand)?;
-        let open = self.open_word(here, statement);
-        let before = bits_left(open.map_or(WORD_BITS, |word| word.used));
+        let used = self.used_before(here, statement);
+        let before = bits_left(used);
         if left < 0 || left > i64::from(before) {
-            let fault = Fault::new(Wording::PositionWanted)
-                .decimal(before)
-                .part(operand);
-            return Err(fault.at(operand.first));
+            let fault = Fault::new(Wording::PositionWanted).decimal(before);
+            return Err(fault.part(operand).at(operand.first));
         }
-        let left = u32::try_from(left).unwrap_or(0);
-        let size = match left {
+        let size = match u32::try_from(left).unwrap_or(0) {
             0 if before == WORD_BITS => 0,
             left => before.saturating_sub(left),
         };
-        let mut words = Vec::new(self.alloc);
-        let used = begin_bits(&mut words, open)?;
-        let used = add_bits(&mut words, used, size, 0)?;
-        Ok(self.end_bits(words, used, open.is_some()))
+        let last = add_bits(words, used, size, 0)?;
+        self.end_bits(words, last, used < WORD_BITS);
+        Ok(())
     }
 
-    /// Returns the word that the VFD before has not filled, if a statement goes on in it.
-    fn open_word(&self, here: &Here, statement: Statement) -> Option<OpenWord> {
+    /// Returns how many bits are used of the word that the VFD before has not filled, if a statement goes on in it; else all.
+    fn used_before(&self, here: &Here, statement: Statement) -> u32 {
         let is_plain = matches!(statement.location.of(here.text), b"" | b"-");
-        let before = self.counters.origin.wrapping_sub(1);
-        self.counters
-            .open
-            .filter(|word| is_plain && word.cell == before)
+        match self.counters.open {
+            Some(word) if is_plain && word.cell == self.counters.origin.wrapping_sub(1) =>
+                word.used,
+            _ => WORD_BITS,
+        }
     }
 
-    /// Returns the words that are new, and keeps how many bits of the last one are used. The first bits may be of the word before.
-    fn end_bits(&mut self, words: Vec<u16>, used: u32, is_open: bool) -> Vec<u16> {
-        let mut words = words;
+    /// Leaves the words that are new, and keeps how many bits of the last one are used. The first bits may be of the word before.
+    fn end_bits(&mut self, words: &mut Vec<u16>, used: u32, is_open: bool) {
         if words.is_empty() {
-            return words;
+            return;
         }
         if is_open {
             self.fill_last(words.remove(0));
@@ -161,7 +152,6 @@ impl Scope {
         let count = i64::try_from(words.len()).unwrap_or(0);
         let cell = self.counters.origin.wrapping_add(count).wrapping_sub(1);
         self.counters.open = Some(OpenWord { cell, used });
-        words
     }
 
     /// Returns the size, decimal, and the number of a field; the one without an expression is zero.
@@ -206,10 +196,8 @@ impl Scope {
 
     /// Puts bits into the last word, which was not full.
     fn fill_last(&mut self, bits: u16) {
-        if let Some(slot) = self
-            .output
-            .cells
-            .get_mut(index_of(self.counters.origin.wrapping_sub(1)))
+        let before = index_of(self.counters.origin.wrapping_sub(1));
+        if let Some(slot) = self.output.cells.get_mut(before)
             && slot.line != 0
         {
             slot.word |= bits;
@@ -218,15 +206,6 @@ impl Scope {
             *last |= bits;
         }
     }
-}
-
-/// Begins words with the one that VFD has not filled, and returns how many bits of the last one are used.
-fn begin_bits(words: &mut Vec<u16>, open: Option<OpenWord>) -> Outcome<u32> {
-    let Some(word) = open else {
-        return Ok(WORD_BITS);
-    };
-    words.push(0)?;
-    Ok(word.used)
 }
 
 /// Returns how many bits a word has after those that are used; those of a new one if it is full.
@@ -250,9 +229,9 @@ pub fn end_of_size(field: &[u8]) -> Option<usize> {
 fn add_bits(words: &mut Vec<u16>, used: u32, size: u32, number: u64) -> Outcome<u32> {
     let mut used = used;
     for bit in 0..size {
-        if used >= WORD_BITS {
+        if words.is_empty() || used >= WORD_BITS {
             words.push(0)?;
-            used = 0;
+            used %= WORD_BITS;
         }
         used = used.saturating_add(1);
         let below = size.wrapping_sub(bit).wrapping_sub(1);
@@ -262,6 +241,34 @@ fn add_bits(words: &mut Vec<u16>, used: u32, size: u32, number: u64) -> Outcome<
         }
     }
     Ok(used)
+}
+
+/// Returns the text of DIS and its column.
+fn text_of(line: &[u8], operand: Field) -> Outcome<(usize, DisplayText<'_>)> {
+    let text = operand.of(line);
+    let (digits, count) = digits_of(text, 4);
+    if text.get(digits) != Some(&b',') || count > LAST {
+        return Err(Fault::new(Wording::TextOfWordsWanted).at(operand.first));
+    }
+    let before = digits.saturating_add(1);
+    let column = operand.first.saturating_add(before);
+    let rest = tail(text, before);
+    if digits > 0 {
+        let size = (count as usize).saturating_mul(2);
+        let symbols = rest.get(..size).unwrap_or(rest);
+        return Ok((column, DisplayText::new(b'H', symbols, size, 0)));
+    }
+    let mark = rest.first().copied().unwrap_or(b'*');
+    let symbols = before_mark(tail(rest, 1), mark, column)?;
+    Ok((column, DisplayText::new(b'C', symbols, symbols.len(), 0)))
+}
+
+/// Adds words of zero.
+fn put_zeros(words: &mut Vec<u16>, count: usize) -> Outcome {
+    for _ in 0..count {
+        words.push(0)?;
+    }
+    Ok(())
 }
 
 /// Adds the words of a text, two symbols each.
@@ -286,5 +293,6 @@ fn is_number(text: &[u8]) -> bool {
         [rest @ .., b'B' | b'D' | b'O'] => rest,
         digits => digits,
     };
-    !digits.is_empty() && digits.iter().all(|digit| digit.is_ascii_digit())
+    let (count, _) = digits_of(digits, digits.len());
+    count > 0 && count == digits.len()
 }

@@ -1,5 +1,4 @@
 //! The statements of a source, performed one after another.
-use crate::directives::the_only;
 use crate::scope::Scope;
 use pp_source::{
     Argument, Fault, Here, Operation, Outcome, Statement, Stop, Wording, is_operation,
@@ -46,24 +45,21 @@ impl Scope {
 
     /// Performs an instruction or a directive whose label has been defined.
     fn labelled(&mut self, here: &Here, statement: Statement, operation: Operation) -> Outcome {
-        let words = match operation {
-            Operation::None => return self.plain_row(here, true),
-            Operation::Instruction(code) => return self.instruction(here, statement, code),
-            Operation::Shortest { .. } => return self.shortest(here, statement, operation),
-            Operation::Space => return self.space(here, statement),
-            Operation::Expressions => self.expressions(here, statement)?,
-            Operation::Data => self.data(here, statement)?,
-            Operation::Bits => self.bits(here, statement)?,
-            Operation::Position => self.position(here, statement)?,
-            Operation::Text => self.text(here, statement)?,
-            Operation::Zeros => self.zeros(here, the_only(here, statement)?)?,
-            _ => return Err(self.why_not(here, statement, operation)),
-        };
-        self.put(here, &words)
+        match operation {
+            Operation::None => self.plain_row(here, true),
+            Operation::Instruction(code) => self.instruction(here, statement, code),
+            Operation::Shortest { .. } => self.shortest(here, statement, operation),
+            Operation::Space => self.space(here, statement),
+            _ => {
+                let mut words = Vec::new(self.alloc);
+                self.make(here, statement, operation, &mut words)?;
+                self.put(here, &words)
+            }
+        }
     }
 
     /// Returns what is wrong with an operation that is none.
-    fn why_not(&self, here: &Here, statement: Statement, operation: Operation) -> Stop {
+    pub fn why_not(&self, here: &Here, statement: Statement, operation: Operation) -> Stop {
         let name = statement.operation;
         if self.symbols.is_passed_over(name.of(here.text)) {
             return Stop::Follows;

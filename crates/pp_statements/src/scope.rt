@@ -155,9 +155,9 @@ impl Counters {
 }
 
 impl Output {
-    fn new(alloc: Global) -> Result<Output, AllocError> {
-        Ok(Output {
-            cells: vec![in alloc; Slot::default(); CELLS]?,
+    fn new(alloc: Global) -> Output {
+        Output {
+            cells: Vec::new(alloc),
             words: Vec::new(alloc),
             rows: Vec::new(alloc),
             cut: None,
@@ -170,7 +170,7 @@ impl Output {
             over_from: None,
             made: 0,
             performed: 0,
-        })
+        }
     }
 
     /// Returns where the literals are that the statement with an index has named. The row of a literal has none.
@@ -224,10 +224,10 @@ impl Scope {
             blocks,
             literals: Literals::new(alloc),
             counters: Counters::new(alloc),
-            output: Output::new(alloc)?,
+            output: Output::new(alloc),
             programs: Programs::new(alloc),
         };
-        scope.begin_unit(b"")?;
+        scope.begin_unit()?;
         Ok(scope)
     }
 
@@ -236,7 +236,6 @@ impl Scope {
         if !self.programs.has_ended {
             self.keep_layout()?;
         }
-        let layouts = replace(&mut self.programs.layouts, Vec::new(self.alloc));
         self.symbols.end_system();
         self.restart_blocks()?;
         self.counters.base = None;
@@ -246,6 +245,7 @@ impl Scope {
         self.programs.has_ended = false;
         self.programs.has_more = false;
         self.programs.ended.clear();
+        let layouts = replace(&mut self.programs.layouts, Vec::new(self.alloc));
         self.output.forget_words(self.alloc, layouts)
     }
 
@@ -283,11 +283,15 @@ impl Scope {
 
     /// Keeps a warning at its place, of each kind the first one.
     pub fn warn_at(&mut self, message: Message) -> Outcome {
-        let is_known = |warning: &Message| warning.fault.text.text() == message.fault.text.text();
-        if !self.is_last || self.output.warnings.iter().any(is_known) {
-            return Ok(());
+        for warning in &self.output.warnings {
+            if warning.fault.text.text() == message.fault.text.text() {
+                return Ok(());
+            }
         }
-        Ok(self.output.warnings.push(message)?)
+        if self.is_last {
+            self.output.warnings.push(message)?;
+        }
+        Ok(())
     }
 
     /// Sets the counters.
@@ -333,8 +337,7 @@ impl Scope {
 
     /// Returns a number of an expression, which has at most 60 bits.
     pub fn number(&mut self, here: &Here, operand: Field, is_from_above: bool) -> Outcome<i64> {
-        let value = self.value(here, operand, is_from_above)?;
-        Ok(i64::try_from(value.number).unwrap_or(0))
+        Ok(self.value(here, operand, is_from_above)?.number)
     }
 
     /// Returns a number up to octal 7777 whose names are known from the lines above.
@@ -348,17 +351,12 @@ impl Scope {
     }
 
     /// Returns what is found, or something else if there is a fault, which is reported.
-    pub fn reported<T: Drop>(
-        &mut self,
-        here: &Here,
-        found: Outcome<T>,
-        otherwise: T,
-    ) -> Outcome<T> {
+    pub fn reported<T: Drop>(&mut self, here: &Here, found: Outcome<T>, or: T) -> Outcome<T> {
         match found {
             Ok(value) => Ok(value),
             Err(stop) => {
                 self.report_stop(here, stop)?;
-                Ok(otherwise)
+                Ok(or)
             }
         }
     }
@@ -462,8 +460,10 @@ fn fitting(here: &Here, operand: Field, number: i64, bits: u32, code: Option<u8>
     if number > top || number < top.wrapping_neg() {
         let fault = Fault::new(Wording::NumberDoesNotFit);
         let fault = fault.octal(number).decimal(bits);
-        let wider = |code: u8| fault.with(Argument::Wider(operand, code));
-        return Err(code.map_or(fault, wider).at(operand.first));
+        return Err(match code {
+            Some(code) => fault.with(Argument::Wider(operand, code)).at(operand.first),
+            None => fault.at(operand.first),
+        });
     }
     let is_minus = number < 0 || matches!(operand.of(here.text), b"-0");
     let positive = number.wrapping_add(if is_minus { top } else { 0 });

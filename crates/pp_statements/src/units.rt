@@ -1,12 +1,11 @@
 //! The programs of a source, with the blocks of USE and the literals of each.
 use crate::encoding::index_of;
-use crate::scope::{Named, Scope};
+use crate::scope::{CELLS, Named, Scope};
 use pp_decks::Span;
 use pp_notation::{Program, Slot, program_of};
-use pp_source::{
-    Argument, Definition, Fault, Field, Here, Outcome, Place, Stop, Wording, is_alphanumeric,
-};
+use pp_source::{Argument, Fault, Field, Here, Outcome, Place, Stop, Wording, is_alphanumeric};
 use std::alloc::{AllocError, Global};
+use std::mem::replace;
 
 /// The index of the nominal block, which has no name. That of the literals is behind it.
 const NOMINAL: usize = 0;
@@ -93,10 +92,12 @@ impl Blocks {
 
     /// Returns whether the blocks are where the pass before has put them.
     pub fn have_settled(&self, text: &[u8]) -> bool {
-        let mut both = self.placed.iter().zip(&self.before);
+        for (one, other) in self.placed.iter().zip(&self.before) {
+            if one.base != other.base || !one.is(other.unit, other.name.of(text), text) {
+                return false;
+            }
+        }
         self.placed.len() == self.before.len()
-            && both.all(|(one, other)| one.is(other.unit, other.name.of(text), text)
-                && one.base == other.base)
     }
 
     /// Returns the index of the present block.
@@ -116,29 +117,27 @@ impl Literals {
 
     /// Returns the address of these words; equal ones are there once.
     pub fn address_of(&mut self, words: &[u16]) -> Result<i64, AllocError> {
-        let mut all = 0..self.all.len();
-        let index = match all.find(|index| self.words_at(*index) == words) {
-            Some(index) => index,
-            None => {
-                let first = self.words.len();
-                self.words.extend_from_slice(words)?;
-                self.all.push(Span::new(first, self.words.len()))?;
-                all.end
+        for literal in &self.all {
+            if self.words_of(*literal) == words {
+                return Ok(self.address_at(*literal));
             }
-        };
-        Ok(self.address_at(index))
+        }
+        let first = self.words.len();
+        self.words.extend_from_slice(words)?;
+        let literal = Span::new(first, self.words.len());
+        self.all.push(literal)?;
+        Ok(self.address_at(literal))
     }
 
-    /// Returns the address of the literal at an index.
-    fn address_at(&self, index: usize) -> i64 {
-        let first = self.all.get(index).map_or(0, |literal| literal.first);
-        self.first.wrapping_add(i64::try_from(first).unwrap_or(0))
+    /// Returns the address of a literal.
+    fn address_at(&self, literal: Span) -> i64 {
+        self.first
+            .wrapping_add(i64::try_from(literal.first).unwrap_or(0))
     }
 
-    /// Returns the words of the literal at an index.
-    fn words_at(&self, index: usize) -> &[u16] {
-        let Span { first, end } = self.all.get(index).copied().unwrap_or(Span::none());
-        self.words.get(first..end).unwrap_or(&[])
+    /// Returns the words of a literal.
+    fn words_of(&self, literal: Span) -> &[u16] {
+        self.words.get(literal.first..literal.end).unwrap_or(&[])
     }
 }
 
@@ -163,12 +162,12 @@ impl Scope {
     /// Returns the literals of the present program.
     fn literals_kept(&self) -> Result<Vec<pp_meaning::Literal>, AllocError> {
         let mut literals = Vec::new(self.alloc);
-        for index in 0..self.literals.all.len() {
+        for literal in &self.literals.all {
             let mut words = Vec::new(self.alloc);
-            for word in self.literals.words_at(index) {
+            for word in self.literals.words_of(*literal) {
                 words.push(u32::from(*word))?;
             }
-            let address = index_of(self.literals.address_at(index));
+            let address = index_of(self.literals.address_at(*literal));
             literals.push(pp_meaning::Literal { address, words })?;
         }
         Ok(literals)
@@ -186,26 +185,24 @@ impl Scope {
     }
 
     /// Begins a program, whose blocks are where the pass before has found room for them.
-    pub fn begin_unit(&mut self, name: &[u8]) -> Result<(), AllocError> {
-        self.programs.name = Vec::from_slice(self.alloc, name)?;
+    pub fn begin_unit(&mut self) -> Result<(), AllocError> {
         self.programs.start = None;
-        for slot in &mut self.output.cells {
-            *slot = Slot { word: 0, line: 0 };
-        }
+        self.output.cells = vec![in self.alloc; Slot::default(); CELLS]?;
         self.blocks.all.clear();
         self.blocks.used.clear();
-        let nominal = self.block_named(b"")?;
+        self.block_named(b"")?;
         self.block_named(NAME_OF_LITERALS)?;
         self.literals = Literals::new(self.alloc);
         self.literals.first = self.base_of(NAME_OF_LITERALS);
-        self.enter(nominal)
+        self.enter(NOMINAL)
     }
 
     /// Begins the first program again.
     pub fn restart_blocks(&mut self) -> Result<(), AllocError> {
         self.blocks.unit = 0;
         self.blocks.placed.clear();
-        self.begin_unit(b"")
+        self.programs.name.clear();
+        self.begin_unit()
     }
 
     /// Ends a program: the literals are after the nominal block, and then come the others as USE named them.
@@ -215,8 +212,8 @@ impl Scope {
         self.put_literals(here)?;
         self.place_blocks()?;
         self.keep_layout()?;
-        let name = Vec::from_slice(self.alloc, &self.programs.name)?;
         let program = program_of(self.alloc, &self.output.cells, self.programs.start)?;
+        let name = replace(&mut self.programs.name, Vec::new(self.alloc));
         self.programs.ended.push(Unit { name, program })?;
         self.blocks.unit = self.blocks.unit.saturating_add(1);
         Ok(())
@@ -224,17 +221,20 @@ impl Scope {
 
     /// Returns where a block begins, as the pass before has found.
     fn base_of(&self, name: &[u8]) -> i64 {
-        let Blocks { before, unit, .. } = &self.blocks;
-        let mut placed = before.iter();
-        let found = placed.find(|one| one.is(*unit, name, &self.symbols.text));
-        found.map_or(0, |placed| placed.base)
+        for placed in &self.blocks.before {
+            if placed.is(self.blocks.unit, name, &self.symbols.text) {
+                return placed.base;
+            }
+        }
+        0
     }
 
     /// Returns the index of the block with a name, which may be a new one.
     fn block_named(&mut self, name: &[u8]) -> Result<usize, AllocError> {
-        let mut all = self.blocks.all.iter();
-        if let Some(index) = all.position(|block| self.symbols.text_of(block.name) == name) {
-            return Ok(index);
+        for (index, block) in self.blocks.all.iter().enumerate() {
+            if self.symbols.text_of(block.name) == name {
+                return Ok(index);
+            }
         }
         let base = self.base_of(name);
         let index = self.blocks.all.len();
@@ -311,10 +311,11 @@ impl Scope {
             text: b"",
             joins: &[],
         };
-        for index in 0..self.literals.all.len() {
-            let words = Vec::from_slice(self.alloc, self.literals.words_at(index))?;
-            self.put(&row, &words)?;
+        let literals = replace(&mut self.literals, Literals::new(self.alloc));
+        for literal in &literals.all {
+            self.put(&row, literals.words_of(*literal))?;
         }
+        self.literals = literals;
         self.leave_block();
         if let Some((key, line)) = self.name_of_literals() {
             let fault = Fault::new(Wording::BehindLiterals).with(Argument::Kept(key));
@@ -327,11 +328,15 @@ impl Scope {
 
     /// Returns the name, and its line, that EQU gives to the cell behind the program, as to a buffer, where the literals begin.
     fn name_of_literals(&self) -> Option<(Span, u32)> {
-        let first = Some(self.literals.first);
-        let mut symbols = self.symbols.all.iter();
-        let is_first = |seen: Definition| seen.is_here && seen.value == first;
-        let symbol = symbols.find(|symbol| symbol.seen.is_some_and(is_first))?;
-        Some((symbol.key, symbol.seen?.line))
+        for symbol in &self.symbols.all {
+            if let Some(seen) = symbol.seen
+                && seen.is_here
+                && seen.value == Some(self.literals.first)
+            {
+                return Some((symbol.key, seen.line));
+            }
+        }
+        None
     }
 
     /// Finds room for the blocks of a program, one behind another.
@@ -346,14 +351,6 @@ impl Scope {
         Ok(())
     }
 
-    /// Keeps that the operand at a column names the literal at an address, in the last pass.
-    fn name_literal(&mut self, column: usize, address: i64) -> Outcome<i64> {
-        if self.is_last {
-            self.output.named.push(Named { column, address })?;
-        }
-        Ok(address)
-    }
-
     /// Returns the address of the words that a = names, or what the name after =X, =S or =Y stands for.
     pub fn literal(&mut self, here: &Here, operand: Field) -> Outcome<i64> {
         let text = operand.of(here.text);
@@ -362,7 +359,11 @@ impl Scope {
             let mut words = Vec::new(self.alloc);
             self.datum(here, item, &mut words)?;
             let address = self.literals.address_of(&words)?;
-            return self.name_literal(operand.first, address);
+            if self.is_last {
+                let column = operand.first;
+                self.output.named.push(Named { column, address })?;
+            }
+            return Ok(address);
         };
         if !self.symbols.is_named(name) {
             return Err(Stop::of(Wording::OfAnotherProgram, operand));
@@ -382,9 +383,13 @@ fn name_in(text: &[u8]) -> Option<&[u8]> {
     let [b'=', b'X' | b'S' | b'Y', name @ ..] = text else {
         return None;
     };
-    let has_others = |symbol: &u8| !is_alphanumeric(*symbol) && !b".$=".contains(symbol);
-    if !name.first()?.is_ascii_uppercase() || name.iter().any(has_others) {
+    if !name.first()?.is_ascii_uppercase() {
         return None;
+    }
+    for symbol in name {
+        if !is_alphanumeric(*symbol) && !b".$=".contains(symbol) {
+            return None;
+        }
     }
     Some(name)
 }

@@ -100,8 +100,7 @@ impl<'a> Expression<'a> {
             })?;
         }
         if total.number.unsigned_abs() >> MOST_BITS != 0 {
-            let fault = Fault::new(Wording::MoreThan60Bits);
-            return Err(fault.at(self.operand.first));
+            return Err(Fault::new(Wording::MoreThan60Bits).at(self.operand.first));
         }
         Ok(total)
     }
@@ -185,8 +184,8 @@ impl<'a> Expression<'a> {
 
     fn number(&mut self, number: Number<'a>) -> Outcome<Value> {
         let base = self.base_of(number)?;
-        let value = decoded(number.digits, base).and_then(|value| shifted(value, number.shift));
-        let value = self.kept(value)?;
+        let value = self.kept(decoded(number.digits, base))?;
+        let value = self.kept(shifted(value, number.shift))?;
         self.rest = number.rest;
         Ok(Value::new(value, 0))
     }
@@ -210,7 +209,7 @@ impl<'a> Expression<'a> {
             }
             _ => {}
         }
-        if digits.iter().any(|digit| *digit >= b'8') {
+        if digits.contains(&b'8') || digits.contains(&b'9') {
             let fault = Fault::new(Wording::NoOctalNumber);
             return Err(self.fault(fault.part(part).part(part)));
         }
