@@ -6,7 +6,7 @@ use arrayvec::ArrayVec;
 pub const WORDS_OF_LINE: usize = 4;
 
 /// What a name is of: its first letter.
-#[derive(Clone, Copy, Debug, PartialEq, Eq)]
+#[derive(Clone, Copy)]
 pub enum Kind {
     /// An instruction: L.
     Code,
@@ -19,7 +19,7 @@ pub enum Kind {
 }
 
 /// A name that is made of an address, as L0100.
-#[derive(Clone, Copy, Debug, PartialEq, Eq)]
+#[derive(Clone, Copy)]
 pub struct Name {
     pub kind: Kind,
     /// The address that it names, up to octal 7777.
@@ -27,7 +27,7 @@ pub struct Name {
 }
 
 /// The operand of a statement, or the first of two.
-#[derive(Clone, Copy, Debug, PartialEq, Eq)]
+#[derive(Clone, Copy)]
 pub enum Operand {
     /// A number in octal.
     Number(u32),
@@ -40,7 +40,7 @@ pub enum Operand {
 }
 
 /// What a statement does.
-#[derive(Debug, Drop)]
+#[derive(Drop)]
 pub enum Operation {
     /// `BASE OCTAL`: the numbers of the source are octal.
     Base,
@@ -61,7 +61,7 @@ pub enum Operation {
 }
 
 /// A statement of a source: its label, if it has one, and what it does.
-#[derive(Debug, Drop)]
+#[derive(Drop)]
 pub struct Statement {
     pub label: Option<Name>,
     pub operation: Operation,
