@@ -1,8 +1,7 @@
 """Says what the gate takes: bench/gate [NAME ..]
 
 Runs rt ci --anew, of these crates and those below them if some are named, and looks five times a second at what the prover does. It
-prints the processor seconds of each crate's proof, of its tests and of its mutants, and then the ten dearest mutants of each. Its status
-is that of rt ci, whose output is on standard error.
+prints the processor seconds of each crate's proof, tests and mutants, and the ten dearest mutants of each. Its status is that of rt ci.
 """
 import collections
 import glob
@@ -12,7 +11,7 @@ import subprocess
 import sys
 import time
 
-CRATES = os.path.join(os.path.dirname(os.path.dirname(os.path.dirname(os.path.abspath(__file__)))), "crates")
+TOP = os.path.dirname(os.path.dirname(os.path.dirname(os.path.abspath(__file__))))
 
 
 def read(path):
@@ -22,11 +21,11 @@ def read(path):
 
 def mutant_in(room, crate):
     """Returns the mutant of a crate that is tried in a folder, or "" for the crate itself, over which all are tried."""
-    for edit in glob.glob(f"{CRATES}/{crate}/must-fail/*.edit"):
+    for edit in glob.glob(f"{TOP}/crates/{crate}/must-fail/*.edit"):
         path, texts = "", {}
         for file, old, new in re.findall(r"^(?:file: (.*)\n)?old: (.*)\nnew: ?(.*)$", read(edit), re.M):
             path = file or path
-            texts[path] = texts.get(path, read(f"{CRATES}/{crate}/{path}")).replace(old, new)
+            texts[path] = texts.get(path, read(f"{TOP}/crates/{crate}/{path}")).replace(old, new)
         if all(read(f"{room}/{path}") == text for path, text in texts.items()):
             return os.path.basename(edit)[:-5]
     return ""
@@ -42,8 +41,8 @@ def work_of(pid):
 
 
 def main():
-    began, works, spent, sums = time.time(), {}, {}, collections.defaultdict(collections.Counter)
-    run = subprocess.Popen(["rt", "ci", *sys.argv[1:], "--anew"], cwd=os.path.dirname(CRATES), stdout=sys.stderr, start_new_session=True)
+    works, spent, sums, dearest = {}, {}, collections.defaultdict(collections.Counter), collections.defaultdict(collections.Counter)
+    run = subprocess.Popen(["rt", "ci", *sys.argv[1:], "--anew"], cwd=TOP, stdout=sys.stderr, start_new_session=True)
     while run.poll() is None:
         for pid in filter(str.isdigit, os.listdir("/proc")):
             try:
@@ -56,11 +55,10 @@ def main():
         time.sleep(0.2)
     for process, (crate, part, mutant) in filter(lambda row: row[1], works.items()):
         sums[crate][part] += spent[process]
-        sums[f"{crate}: "][mutant] += spent[process] * bool(mutant)
-    print("| Crate | Proof | Tests | Mutants |\n|---|---|---|---|")
-    for crate in sorted(filter(str.isidentifier, sums), key=lambda crate: -sum(sums[crate].values())):
-        print(f"| {crate} | {sums[crate]['proof']:.0f} | {sums[crate]['tests']:.0f} | {sums[crate]['mutants']:.0f} |")
-    print(f"\nIn all {sum(os.times()[2:4]) / 60:.0f} minutes of processor time, in {(time.time() - began) / 60:.0f} minutes")
-    for crate in sorted(sums.keys() - set(filter(str.isidentifier, sums))):
-        print(crate + ", ".join(f"{mutant} {seconds:.0f}" for mutant, seconds in sums[crate].most_common(10) if seconds))
+        dearest[crate][mutant] += spent[process] if mutant else 0
+    print("| Crate | Proof | Tests | Mutants | Dearest mutants |\n|---|---|---|---|---|")
+    for crate in sorted(sums, key=lambda crate: -sum(sums[crate].values())):
+        parts = [f"{sums[crate][part]:.0f}" for part in ("proof", "tests", "mutants")]
+        print(f"| {crate} | {' | '.join(parts)} |", ", ".join(f"{name} {n:.0f}" for name, n in dearest[crate].most_common(10) if n), "|")
+    print(f"\nIn all {sum(os.times()[2:4]) / 60:.0f} minutes of processor time")
     return run.returncode
