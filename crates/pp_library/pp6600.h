@@ -18,7 +18,7 @@
 
 /* The version of this header; pp6600_version() returns that of the library. */
 #define PP6600_VERSION_MAJOR 5
-#define PP6600_VERSION_MINOR 7
+#define PP6600_VERSION_MINOR 8
 #define PP6600_VERSION_PATCH 0
 #define PP6600_VERSION (1000000 * PP6600_VERSION_MAJOR + 1000 * PP6600_VERSION_MINOR + PP6600_VERSION_PATCH)
 

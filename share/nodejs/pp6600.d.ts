@@ -109,7 +109,7 @@ export declare function open(options?: Options, module?: Module): Promise<Sessio
 /** Returns the assembler. */
 export declare function assembler(module?: Module): Promise<Assembler>;
 
-/** Returns the version of the module, as "5.7.0". */
+/** Returns the version of the module, as "5.8.0". */
 export declare function version(module?: Module): Promise<string>;
 
 /** Returns the name of the instruction with a code, 0 to 0o77, how many words it has, and its operand, as pp6600.h numbers it. */

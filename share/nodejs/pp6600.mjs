@@ -39,7 +39,7 @@ export const open = async (options = {}, module = undefined) => new Session(modu
 // Returns the assembler.
 export const assembler = async (module = undefined) => new Assembler(module ?? await ownModule());
 
-// Returns the version of the module, as "5.7.0".
+// Returns the version of the module, as "5.8.0".
 export async function version(module = undefined) {
   const number = (module ?? await ownModule()).pp6600_version();
   return [Math.floor(number / 1e6), Math.floor(number / 1e3) % 1e3, number % 1e3].join(".");
