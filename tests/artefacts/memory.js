@@ -27,7 +27,7 @@ function withPages(more) {
 let LibrarySession, STATUS, openLibrary;
 const opened = (calls) => new LibrarySession(calls, { history: 200, central: 32768 });
 
-// Reads few numbers at a time, since there may be little memory left.
+// Reads few numbers at a time, since there is little memory left.
 function machineOf(session) {
   const parts = [];
   for (let first = 0; first < PLACES; first += 512) parts.push(session.numbers(first, Math.min(512, PLACES - first)).join());
@@ -48,15 +48,16 @@ function checkSizes(calls) {
   console.log(calls.pp6600_room((1n << 64n) - 1n) === 0n, given > 40);
 }
 
-// Opens sessions until there is no memory. Returns them.
+// Opens sessions until there is no memory but four pages, into which each can read its numbers. Returns them.
 function fill(calls) {
-  const sessions = [];
+  const spare = calls.pp6600_room(BigInt(4 * PAGE)), sessions = [];
   for (;;) {
     try {
       sessions.push(opened(calls));
       sessions[sessions.length - 1].answer(`SET A 0 ${sessions.length.toString(8)}\nSET M 3 0 ${sessions.length.toString(8)}\nSTEP 20\n`);
     } catch (error) {
       if (error.status !== STATUS.NO_MEMORY) throw error;
+      calls.pp6600_end_room(spare);
       return sessions;
     }
   }
