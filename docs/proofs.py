@@ -11,7 +11,7 @@ docs/promises.txt has the text of both. A line '### NAME' begins a promise. Belo
 A line 'first: SECTION: NAME; NAME' names promises that matter most. PROOFS.md begins with these sections, each with these promises.
 Then come the sections without promises. INNER.md has all other promises, section by section.
 
-Each mutant, crates/CRATE/must-fail/NAME.edit or must-fail/more/NAME.edit, has two lines, '# promise: NAME' and '# call: CRATE::TYPE::CALL',
+Each mutant, crates/CRATE/must-fail/NAME.edit or must-fail-more/NAME.edit, has two lines, '# promise: NAME' and '# call: CRATE::TYPE::CALL',
 or several such pairs: a promise that it breaks, and the call of its own crate whose contract rejects it. The text that it changes is there.
 
 What is named and is not there is a fault: a call, a clause, a definition, a promise, a section. Faults are printed, and then nothing is
@@ -144,10 +144,15 @@ def ordered(text):
     return {PAGE: made, INNER: inner}, faults
 
 
+def edits():
+    """Returns the paths of all mutants, first of those that the gate tries."""
+    return [path for folder in ("must-fail", "must-fail-more") for path in sorted(glob.glob(os.path.join(TOP, "crates", "*", folder, "*.edit")))]
+
+
 def mutants():
     """Returns the crate, the name and the pairs of promise and call of each mutant."""
     found = []
-    for path in sorted(glob.glob(os.path.join(TOP, "crates", "*", "must-fail", "**", "*.edit"), recursive=True)):
+    for path in edits():
         pairs, promise = [], ""
         for key, value in re.findall(r"^# (promise|call): (.*)", read(path), re.M):
             promise = value if key == "promise" else promise
@@ -158,7 +163,7 @@ def mutants():
 
 def faults_of_edits():
     """Yields each mutant whose text is not there exactly once, as its pairs are applied one after another."""
-    for path in sorted(glob.glob(os.path.join(TOP, "crates", "*", "must-fail", "**", "*.edit"), recursive=True)):
+    for path in edits():
         texts, name, old = {}, "", ""
         for key, value in re.findall(r"^(file|old|new):(?: (.*))?$", read(path), re.M):
             if key == "file":

@@ -89,7 +89,7 @@ def is_path(path, page):
     kept = re.sub(r"/out/.*", "/out", path.lstrip("./").strip("/"))
     ending = re.escape(re.sub(r"NAME|(?<![^/])[xX](?=[A-Z./]|$)", "*", kept)).replace(r"\*", "[^/]*") + r"(?:\.rt)?$"
     first, own = kept.split("/")[0], os.path.dirname(page)
-    if first in ("src", "specs", "proofs", "must-fail") and own.startswith("crates/"):
+    if first in ("src", "specs", "proofs", "must-fail", "must-fail-more") and own.startswith("crates/"):
         ending = f"^{own}/{ending}"
     elif first in KNOWN.files and "/" in kept:
         ending = "^" + ending
