@@ -18,7 +18,7 @@ import subprocess
 import tempfile
 
 # More than the requests of a whole run.
-CASES = 600
+CASES = 450
 
 REFUSALS = {
     "Memory12::new": "NoMemory",
