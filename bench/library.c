@@ -1,6 +1,6 @@
-/* The library at the other end of a pipe, for bench/run: it performs the lines of standard input, and writes their answers. Two lines are
-   its own, and are answered by themselves: `turns N` and `looks N` make N (octal) turns with their records, or with the numbers at two places
-   after each. */
+/* The library at the other end of a pipe, for bench/run: it performs the lines of standard input, and writes their answers. Three lines are
+   its own, and are answered by themselves: `turns N`, `looks N` and `rows N` make N (octal) turns with their records, with the numbers at
+   two places after each, or with the processor before each. */
 
 #include <stdio.h>
 #include <stdlib.h>
@@ -43,13 +43,22 @@ static size_t looks(uint32_t most) {
     return count;
 }
 
-static const struct { const char *name; size_t (*make)(uint32_t); } CALLS[] = {{"turns ", turns}, {"looks ", looks}};
+static size_t rows(uint32_t most) {
+    static pp6600_row made[TURNS];
+    size_t count = 0;
+    uint32_t status = pp6600_columns(&session, most, made, TURNS, &count);
+    if (status > PP6600_ROOM) fail("columns", status);
+    return count;
+}
+
+static const struct { const char *name; size_t (*make)(uint32_t); } CALLS[] = {{"turns ", turns}, {"looks ", looks}, {"rows ", rows}};
 
 /* Makes the turns of a line of this program's own. Returns whether it is one. */
 static int is_own(const char *line) {
     for (size_t call = 0; call < sizeof CALLS / sizeof *CALLS; call++) {
-        if (strncmp(line, CALLS[call].name, 6)) continue;
-        uint32_t left = (uint32_t)strtoul(line + 6, 0, 8);
+        size_t size = strlen(CALLS[call].name);
+        if (strncmp(line, CALLS[call].name, size)) continue;
+        uint32_t left = (uint32_t)strtoul(line + size, 0, 8);
         while (left) left -= (uint32_t)CALLS[call].make(left);
         fputs(line, stdout);
         return 1;

@@ -1,8 +1,8 @@
 #!/usr/bin/env python3
 """Makes CARD.md and card.html, the console on one page: card.html is one sheet of A4 when it is printed.
 
-All that they say is in CONSOLE.md, MACHINE.md and TOOLS.md. Without a word it writes both, beside this file. With `--check` it writes
-nothing, and fails if one of them is not what it makes.
+All that they say is in CONSOLE.md, MACHINE.md and TOOLS.md. Without a word it writes both, beside this file. With `--check` it
+writes nothing, and fails if one of them is not what it makes.
 """
 
 import sys
@@ -13,8 +13,10 @@ import os
 import re
 from html import escape
 
-at = [path.endswith("-packages") for path in [*sys.path, "-packages"]].index(True)  # behind Python's own modules
-sys.path.insert(at, os.path.dirname(os.path.abspath(__file__)))
+FOLDER = os.path.dirname(os.path.abspath(__file__))
+with open(os.path.join(os.path.dirname(FOLDER), "tools", "pp6600", "own.py"), encoding="ascii") as own:
+    exec(own.read())
+find_first(tables=FOLDER)
 
 from tables import HERE, block, rows, text_of, without_links
 
@@ -23,15 +25,16 @@ OPTIONS = "| Word | Meaning | Without it |"
 BEGIN = """\
 # The console on one page
 
-[CONSOLE](CONSOLE.md) and [MACHINE](MACHINE.md) explain it, and `docs/card.py` makes it from them; [card.html](card.html) is one sheet of
-A4 to print. Numbers are octal, counts too, unless marked decimal. Letters of either case are equal; a line that begins with `*` is a note.
+[CONSOLE](CONSOLE.md) and [MACHINE](MACHINE.md) explain it, and `docs/card.py` makes it from them; [card.html](card.html) is one
+sheet of A4 to print. Numbers are octal, counts too, unless marked decimal. Letters of either case are equal; a line that begins
+with `*` is a note.
 """
 GRIDS = """\
-**Relative jumps** (03 to 07), on the left: forward, d is the distance, 01 to 37; back, the row is its first digit, the column the second.
-**Display code**, on the right, is read in the same way; 55 is a blank."""
-USES = ("jumps", "operand d", "operand dm; exchange jump, central P", "operand in cell d", "operand in the cell whose address is in cell d",
-        "operand in cell m plus the number in cell d (m if d is 00)", "central memory; jump to m if active, inactive, full, not full",
-        "input, output, activate, disconnect, function")
+**Relative jumps** (03 to 07), on the left: forward, d is the distance, 01 to 37; back, the row is its first digit, the column the
+second. **Display code**, on the right, is read in the same way; 55 is a blank."""
+USES = ("jumps", "operand d", "operand dm; exchange jump, central P", "operand in cell d",
+        "operand in the cell whose address is in cell d", "operand in cell m plus the number in cell d (m if d is 00)",
+        "central memory; jump to m if active, inactive, full, not full", "input, output, activate, disconnect, function")
 HEAD = "   " + "    ".join("01234567")
 STYLE = """\
 @page { size: A4 portrait; margin: 9mm 10mm; }
@@ -97,7 +100,8 @@ def errors():
     cells = [f"`{cell}`" for error in found for cell in error]
     third = -(-len(found) // 3) * 2
     columns = [cells[at:at + third] + [""] * (at + third - len(cells)) for at in (0, third, 2 * third)]
-    return table("| `ERR` | | `ERR` | | `ERR` | |", [[one for column in columns for one in column[at:at + 2]] for at in range(0, third, 2)])
+    return table("| `ERR` | | `ERR` | | `ERR` | |",
+                 [[one for column in columns for one in column[at:at + 2]] for at in range(0, third, 2)])
 
 
 def statuses():
@@ -105,7 +109,8 @@ def statuses():
     texts = {}
     for text, status, _ in rows("CONSOLE.md", "| Text | Status | Cause |"):
         texts.setdefault(status, []).append(without_links(text).partition(", as in")[0])
-    return table("| Exit status | Cause |", [["0, 1", "no line was rejected; one was"], *([status, ", ".join(said)] for status, said in texts.items())])
+    return table("| Exit status | Cause |",
+                 [["0, 1", "no line was refused; one was"], *([status, ", ".join(said)] for status, said in texts.items())])
 
 
 def codes():
@@ -117,7 +122,8 @@ def codes():
     said = re.search(r"The codes ([0-7, to]+ and [0-7]+)\s+have two words", text_of("MACHINE.md").replace("\n", " "))[1]
     ranges = [part.split(" to ") for part in re.split(r", | and ", said)]
     long = {f"{code:02o}" for ends in ranges for code in range(int(ends[0], 8), int(ends[-1], 8) + 1)}
-    grid = [[f"{names[code]}{'+' if code in long else ' '}" for code in (f"{row}{column}" for column in range(8))] for row in range(8)]
+    grid = [[f"{names[code]}{'+' if code in long else ' '}" for code in (f"{row}{column}" for column in range(8))]
+            for row in range(8)]
     return [HEAD, *(f"{row}  {' '.join(words)}  {USES[row]}" for row, words in enumerate(grid))]
 
 
@@ -140,8 +146,10 @@ def fenced(lines):
 def card():
     """Returns the text of CARD.md."""
     usage = re.search(r"^`pp6600 \[.*`$", text_of("CONSOLE.md"), flags=re.M)[0]
-    parts = (BEGIN.rstrip("\n"), table(LINES, rows("CONSOLE.md", LINES)), facts(), errors(), usage, table(OPTIONS, rows("CONSOLE.md", OPTIONS)),
-             statuses(), "**Codes**: the row is the first digit, the column the second. A `+` marks two words; the second is m.", fenced(codes()),
+    parts = (BEGIN.rstrip("\n"), table(LINES, rows("CONSOLE.md", LINES)), facts(), errors(), usage,
+             table(OPTIONS, rows("CONSOLE.md", OPTIONS)),
+             statuses(), "**Codes**: the row is the first digit, the column the second. A `+` marks two words; the second is m.",
+             fenced(codes()),
              f"{GRIDS} {functions()}", fenced(f"{left:27}     {right}" for left, right in zip(jumps(), display_code())))
     return "\n\n".join(parts) + "\n"
 

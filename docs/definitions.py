@@ -12,8 +12,8 @@ These are faults:
 - a mark of a comment that is no fact there, or a fact there that no definition of the page names;
 - with --check, docs/DEFINITIONS.md if it is not what would be made.
 
-Faults are printed, and the status is 1. The pages are made all the same, but not with --check. docs/definitions.html is not tracked:
-`make pages` makes it, and so does a release.
+Faults are printed, and the status is 1. The pages are made all the same, but not with --check. docs/definitions.html is not
+tracked: `make pages` makes it, and so does a release.
 """
 
 import sys
@@ -24,15 +24,16 @@ import os
 import re
 
 sys.dont_write_bytecode = True
-at = [path.endswith("-packages") for path in [*sys.path, "-packages"]].index(True)  # behind Python's own modules
-sys.path.insert(at, os.path.dirname(os.path.abspath(__file__)))
+FOLDER = os.path.dirname(os.path.abspath(__file__))
+TOP = os.path.dirname(FOLDER)
+with open(os.path.join(TOP, "tools", "pp6600", "own.py"), encoding="ascii") as own:
+    exec(own.read())
+find_first(book=FOLDER, evaluating=FOLDER, card=FOLDER)
 
 from book.html import html  # noqa: E402
 from book.names import Sources, Unresolved  # noqa: E402
 from book.pages import Book, Text, markdown  # noqa: E402
 from evaluating.examples import load  # noqa: E402
-
-TOP = os.path.dirname(os.path.dirname(os.path.abspath(__file__)))
 
 
 def read(top, *names):

@@ -1,21 +1,20 @@
 #!/usr/bin/env python3
-"""Makes docs/PROOFS.md, the page of what is proved, and docs/INNER.md, with the promises of inner calls: docs/proofs.py [--check]
+"""Makes docs/PROOFS.md, the page of what is proved, from docs/promises.txt: docs/proofs.py [--check]
+Prints what is proved of crates and calls, each clause and the mutants that it rejects: docs/proofs.py NAME ..
 
-docs/promises.txt has the text of both. A line '### NAME' begins a promise. Below its sentences are lines of these kinds:
+In docs/promises.txt a line '### NAME' begins a promise. Below its sentences are lines of these kinds:
 
     call: CRATE::TYPE::CALL: CLAUSE, CLAUSE    a public call, with the clauses that say so (none named: all that it has)
     theorem: CRATE::CALL                       the same of a function that does nothing, whose contract is a statement
     defined: CRATE/FILE: WORD, WORD            words of specs/FILE.antt that the clauses use
-    mutants: TEXT                              what is against it, if it has no mutant of its own
 
-A line 'first: SECTION: NAME; NAME' names promises that matter most. PROOFS.md begins with these sections, each with these promises.
-Then come the sections without promises. INNER.md has all other promises, section by section.
+Each mutant, crates/CRATE/mutants/NAME.edit (of pp_arith must-fail/NAME.edit), has a line '# call: CRATE::TYPE::CALL', or several:
+the call of its own crate whose contract rejects it. A line '# promise: NAME' before it names the promise that it breaks, if the
+page has it. The text that it changes is there.
 
-Each mutant, crates/CRATE/must-fail/NAME.edit or must-fail-more/NAME.edit, has two lines, '# promise: NAME' and '# call: CRATE::TYPE::CALL',
-or several such pairs: a promise that it breaks, and the call of its own crate whose contract rejects it. The text that it changes is there.
-
-What is named and is not there is a fault: a call, a clause, a definition, a promise, a section. Faults are printed, and then nothing is
-written. With --check nothing is written either, and it is a fault if a page is not what would be made.
+What is named and is not there is a fault: a call, a clause, a definition, a promise; so is a promise without a mutant. Faults are
+printed, and then nothing is written. With --check nothing is written either, and it is a fault if the page is not what would be
+made.
 """
 
 import sys
@@ -29,18 +28,14 @@ import re
 import textwrap
 
 TOP = os.path.dirname(os.path.dirname(os.path.abspath(__file__)))
-PAGE, INNER = "docs/PROOFS.md", "docs/INNER.md"
+PAGE = "docs/PROOFS.md"
 TEXT = os.path.join(TOP, "docs", "promises.txt")
-MADE = "<!-- docs/proofs.py makes this page from docs/promises.txt, crates/*/src and crates/*/must-fail: change those. -->\n\n"
+MADE = "<!-- docs/proofs.py makes this page from docs/promises.txt, crates/*/src and crates/*/mutants: change those. -->\n\n"
 WHOLE = {"break_long_words": False, "break_on_hyphens": False}
-KEY = re.compile(r"^(call|theorem|defined|mutants): (.*)\n", re.M)
-FIRST = re.compile(r"^first: (.*?): (.*)\n", re.M)
-HEAD = """# Promises of inner calls
+KEY = re.compile(r"^(call|theorem|defined): (.*)\n", re.M)
 
-The promises that [PROOFS](PROOFS.md) does not have: of calls that those rest on, of calls that only read, and of what tests use."""
-
-# Of a promise: its calls, each with clauses and whether it is a theorem, the definitions, and why it has no mutant of its own.
-Promise = collections.namedtuple("Promise", "name calls definitions without")
+# Of a promise: its calls, each with clauses and whether it is a theorem, and the definitions.
+Promise = collections.namedtuple("Promise", "name calls definitions")
 Call = collections.namedtuple("Call", "name clauses is_theorem")
 
 
@@ -107,56 +102,26 @@ def blocks(text):
         keys = KEY.findall(block) if block.startswith("### ") else []
         calls = [Call(name, list(filter(None, clauses.split(", "))), key == "theorem") for key, value in keys
                  for name, _, clauses in [value.partition(": ")] if key in ("call", "theorem")]
-        definitions, without = [[value for key, value in keys if key == wanted] for wanted in ("defined", "mutants")]
-        promise = Promise(block.partition("\n")[0][len("### "):], calls, definitions, "".join(without)) if keys else None
+        definitions = [value for key, value in keys if key == "defined"]
+        promise = Promise(block.partition("\n")[0][len("### "):], calls, definitions) if keys else None
         found.append((KEY.sub("", block).rstrip() if keys else block.rstrip(), promise))
     return found
 
 
-def sections_of(text):
-    """Returns the parts of the text by sections: of each its own part, and those of its promises by their names."""
-    sections, promises = {}, {}
-    for part in blocks(FIRST.sub("", text)):
-        marks, _, name = part[0].partition("\n")[0].partition(" ")
-        if marks == "###":
-            promises[name] = part
-        else:
-            promises = {}
-            sections[name] = part, promises
-    return sections
-
-
-def ordered(text):
-    """Returns the parts of each page in their order, and a fault for each name of a line 'first:' that is not there."""
-    sections, faults = sections_of(text), []
-    made = [next(iter(sections.values()))[0]]
-    for name, wanted in FIRST.findall(text):
-        own, promises = sections.get(name, ((f"## {name}", None), {}))
-        found = {one: promises.pop(one, None) for one in wanted.split("; ")}
-        faults += [f"first: {name} has no promise {one}" for one, part in found.items() if not part]
-        made += [own, *filter(None, found.values())]
-    begun = {text for text, _ in made}
-    made += [own for own, promises in sections.values() if not promises and own[0] not in begun]
-    inner = [(HEAD, None)]
-    for name, (own, promises) in sections.items():
-        inner += [(f"## {name}" if own[0] in begun else own[0], None)] if promises else []
-        inner += promises.values()
-    return {PAGE: made, INNER: inner}, faults
-
-
 def edits():
-    """Returns the paths of all mutants, first of those that the gate tries."""
-    return [path for folder in ("must-fail", "must-fail-more") for path in sorted(glob.glob(os.path.join(TOP, "crates", "*", folder, "*.edit")))]
+    """Returns the paths of all mutants."""
+    return [path for folder in ("must-fail", "mutants")
+            for path in sorted(glob.glob(os.path.join(TOP, "crates", "*", folder, "*.edit")))]
 
 
 def mutants():
-    """Returns the crate, the name and the pairs of promise and call of each mutant."""
+    """Returns the crate, the name and the pairs of promise, or "", and call of each mutant."""
     found = []
     for path in edits():
         pairs, promise = [], ""
         for key, value in re.findall(r"^# (promise|call): (.*)", read(path), re.M):
-            promise = value if key == "promise" else promise
             pairs += [(promise, value)] if key == "call" else []
+            promise = value if key == "promise" else ""
         found.append((path[len(TOP):].split(os.sep)[2], os.path.basename(path)[:-len(".edit")], pairs))
     return found
 
@@ -167,7 +132,7 @@ def faults_of_edits():
         texts, name, old = {}, "", ""
         for key, value in re.findall(r"^(file|old|new):(?: (.*))?$", read(path), re.M):
             if key == "file":
-                name = os.path.join(path.partition("must-fail")[0], value)
+                name = os.path.join(os.path.dirname(os.path.dirname(path)), value)
             elif key == "old":
                 old = value
             elif texts.setdefault(name, read(name)).count(old) != 1:
@@ -176,19 +141,17 @@ def faults_of_edits():
                 texts[name] = texts[name].replace(old, value)
 
 
-def faults_of_mutants(promises):
+def faults_of_mutants(promises, known):
     """Yields each fault in the lines of the mutants, and each promise without a mutant."""
     named = {(promise.name, call.name) for promise in promises for call in promise.calls}
     for crate, mutant, pairs in mutants():
         for promise, call in pairs or [("", "")]:
-            if (promise, call) not in named:
-                yield f"{crate}/{mutant}.edit: docs/promises.txt has no promise for its lines '# promise: {promise}' and '# call: {call}'"
-            elif not call.startswith(crate + "::"):
-                yield f"{crate}/{mutant}.edit: the call {call} is of another crate, which no check of this mutant reads"
+            if promise and (promise, call) not in named:
+                yield f"{crate}/{mutant}.edit: docs/promises.txt has no promise {promise} of the call {call}"
+            elif not call.startswith(crate + "::") or not clauses_of(known, call):
+                yield f"{crate}/{mutant}.edit: its crate has no call '{call}' with a clause"
     met = {promise for *_, pairs in mutants() for promise, _ in pairs}
-    for promise in promises:
-        if (promise.name in met) == bool(promise.without):
-            yield f"{promise.name}: it has {'a mutant, and a' if promise.without else 'no mutant, and no'} line 'mutants:'"
+    yield from (f"{promise.name}: it has no mutant" for promise in promises if promise.name not in met)
 
 
 def faults_of_names(promises, known):
@@ -223,8 +186,6 @@ def lines_of(promise, against, known):
         places.append(link + quoted(": ", list(filter(None, words.split(", ")))))
     if places:
         yield f"Defined in {'; '.join(places)}."
-    if promise.without:
-        yield f"Mutants: {promise.without}."
 
 
 def page_of(parts, known):
@@ -235,24 +196,49 @@ def page_of(parts, known):
     made = []
     for kept, promise in parts:
         lines = lines_of(promise, against, known) if promise else ()
-        made.append("\n".join([kept, "", *("- " + "\n  ".join(textwrap.wrap(line, 128, **WHOLE)) for line in lines)]).rstrip() + "\n")
+        made.append("\n".join([kept, "", *("- " + "\n  ".join(textwrap.wrap(line, 128, **WHOLE)) for line in lines)]).rstrip()
+                    + "\n")
     return MADE + "\n".join(made)
+
+
+def told(name, known):
+    """Yields a line for each call of a crate, or for one call: its clauses, and the mutants that they reject."""
+    rejected = collections.defaultdict(list)
+    for _, mutant, pairs in mutants():
+        for _, call in pairs:
+            rejected[call].append(mutant)
+    crate = name.split("::")[0]
+    for trait, of_type, call, clauses in known.get(crate, ()):
+        path = "::".join(filter(None, (crate, of_type or trait, call)))
+        if (path + "::").startswith(name + "::") and (clauses or rejected[path]):
+            mutants_of = f"; mutants: {', '.join(rejected[path])}" if rejected[path] else ""
+            yield f"{path}: {', '.join(filter(None, clauses)) or 'one clause'}{mutants_of}"
+
+
+def show(names):
+    """Prints what is proved of these crates and calls."""
+    known = contracts()
+    for name in names:
+        lines = list(told(name, known))
+        if not lines:
+            print(f"docs/proofs.py: there is no crate or call {name} with a clause", file=sys.stderr)
+            return 2
+        print("\n".join(lines))
+    return 0
 
 
 def main():
     if sys.argv[1:] not in ([], ["--check"]):
-        print("docs/proofs.py: the only word it takes is --check", file=sys.stderr)
-        return 2
-    (pages, faults), known = ordered(read(TEXT)), contracts()
-    promises = [promise for parts in pages.values() for _, promise in parts if promise]
-    faults += [*faults_of_names(promises, known), *faults_of_mutants(promises), *faults_of_edits()]
-    for name, parts in pages.items() if not faults else ():
-        path, page = os.path.join(TOP, name), page_of(parts, known)
-        if not sys.argv[1:]:
-            with open(path, "w", encoding="utf-8") as file:
-                file.write(page)
-        elif not os.path.exists(path) or read(path) != page:
-            faults.append(f"{name} is not what docs/proofs.py makes: run docs/proofs.py")
+        return show(sys.argv[1:])
+    parts, known = blocks(read(TEXT)), contracts()
+    promises = [promise for _, promise in parts if promise]
+    faults = [*faults_of_names(promises, known), *faults_of_mutants(promises, known), *faults_of_edits()]
+    path, page = os.path.join(TOP, PAGE), page_of(parts, known) if not faults else ""
+    if not faults and not sys.argv[1:]:
+        with open(path, "w", encoding="utf-8") as file:
+            file.write(page)
+    elif not faults and (not os.path.exists(path) or read(path) != page):
+        faults.append(f"{PAGE} is not what docs/proofs.py makes: run docs/proofs.py")
     print("".join(fault + "\n" for fault in faults), end="")
     return 1 if faults else 0
 

@@ -118,7 +118,8 @@ def limited():
 def performed(words, room, given, seconds):
     """Performs lines, given as bytes, and returns the status and the lines that were written."""
     with open(os.path.join(room, "written"), "wb") as out:
-        process = subprocess.Popen(words, stdin=subprocess.PIPE, stdout=out, stderr=subprocess.PIPE, preexec_fn=limited if resource else None)
+        process = subprocess.Popen(words, stdin=subprocess.PIPE, stdout=out, stderr=subprocess.PIPE, preexec_fn=limited if resource
+                                   else None)
         try:
             _, error = process.communicate(given, timeout=seconds)
         except subprocess.TimeoutExpired:
@@ -142,7 +143,9 @@ def rejected_line(words, room):
 
 
 def differences(wanted, written, is_hidden):
-    """Yields the lines that are not as expected; what is expected is hidden where it would be the answer."""
+    """Yields the lines that are not as expected at the end; what is expected is hidden where it would be the answer."""
+    if written[-len(wanted):] == wanted:
+        return
     written = written[-len(wanted) - MOST_SHOWN:]
     pairs = []
     for kind, first, last, start, end in difflib.SequenceMatcher(None, wanted, written, autojunk=False).get_opcodes():
@@ -162,12 +165,13 @@ def steps(text):
 
 
 def step_left(own, room):
-    """Returns what says which STEP the script has, if there is none in that which was handed out; or None."""
-    left = steps(read(room, "script"))
-    if not left or steps(read(own, "script")):
+    """Returns what says which STEP the script has beyond those that were handed out, if any; or None."""
+    left = steps(read(room, "script"))[len(steps(read(own, "script"))):]
+    if not left:
         return None
     number, line = left[0]
-    return f"line {number} (decimal) of the script is {line}: leave it out, for the check makes the turns itself and expects their slots"
+    return (f"line {number} (decimal) of the script is {line}: leave it out, for the check makes the turns itself and expects "
+            f"their slots")
 
 
 def seconds(text):
@@ -183,8 +187,8 @@ def add_limit(parser):
 
 
 def check(own, folder, limit):
-    """Checks the answer in a folder to the exercise in another one, within so many seconds. Returns whether it is there, and what is
-    wrong with it, if anything."""
+    """Checks the answer in a folder to the exercise in another one, within so many seconds. Returns whether it is there, and what
+    is wrong with it, if anything."""
     try:
         found = answer(own, folder)
     except Failure as failure:

@@ -8,9 +8,11 @@ import re
 import subprocess
 import sys
 import tarfile
+import tempfile
 import time
 
 TOP = os.path.dirname(os.path.dirname(os.path.realpath(__file__)))
+LATEST = (1 << 32) - 1  # seconds, the latest time that an archive of each kind can have
 NO_LICENCE = "No licence has been chosen yet."
 MADE_HERE = re.compile(r"share/pp6600/docs/(definitions\.html|films/(?!overwritten-loader\.))")  # by make; no commit has them
 
@@ -53,17 +55,27 @@ def moment():
     """Returns the time of all files in a package: $SOURCE_DATE_EPOCH, or else the day of this version in CHANGELOG.md."""
     given = os.environ.get("SOURCE_DATE_EPOCH")
     if given:
+        if not re.fullmatch("[0-9]{1,10}", given) or int(given) > LATEST:
+            fail(f"SOURCE_DATE_EPOCH is {given}, which is no number of seconds from 0 to {LATEST}")
         return int(given)
-    day = re.search(rf"^## {re.escape(version())} - (.*)$", read("CHANGELOG.md").decode(), flags=re.M)[1]
+    day = re.search(rf"^## {re.escape(version())}\b.* - (.*)$", read("CHANGELOG.md").decode(), flags=re.M)[1]
     return calendar.timegm(time.strptime(day, "%Y-%m-%d"))
 
 
-def check_committed():
-    """Fails if a checkout of git is not as committed. What was unpacked from an archive has no git, and is taken as it is."""
-    if os.path.exists(os.path.join(TOP, ".git")):
-        changed = output("git", "status", "--porcelain")
-        if changed:
-            fail(f"the checkout is not as committed: {changed.splitlines()[0].strip()}; commit or take it away first")
+def pack_commit(target):
+    """Ends this program in a checkout of git, when it has been run for this folder in a copy that has the files of the commit
+    alone. It fails if the checkout is not as committed. What was unpacked from an archive has no git, and is taken as it is."""
+    if not os.path.exists(os.path.join(TOP, ".git")):
+        return
+    changed = output("git", "status", "--porcelain")
+    if changed:
+        fail(f"the checkout is not as committed: {changed.splitlines()[0].strip()}; commit or take it away first")
+    with tempfile.TemporaryDirectory() as room:
+        index = {**os.environ, "GIT_INDEX_FILE": os.path.join(room, "index")}  # one without what was said of single files
+        output("git", "read-tree", "HEAD", env=index)
+        output("git", "checkout-index", "--all", f"--prefix={room}/commit/", env=index)
+        program = os.path.join(room, "commit", "share", name())
+        sys.exit(subprocess.run([sys.executable, program, target], check=False).returncode)
 
 
 def folder(text):
@@ -88,7 +100,8 @@ def programs(machine):
 def of_commit(programs, *made, **how):
     """Returns what a checkout installs, with these programs, but without pages that were made here, unless they are named."""
     found = installation.of_this_checkout(programs, **how)
-    return installation.without_lost_links({path: entry for path, entry in found.items() if path in made or not MADE_HERE.match(path)})
+    return installation.without_lost_links(
+        {path: entry for path, entry in found.items() if path in made or not MADE_HERE.match(path)})
 
 
 def has_programs(machine):
@@ -118,7 +131,8 @@ def archive(top, files, moment):
 def save(folder, file_name, data):
     """Writes a package, and beside it a file with its sha256."""
     os.makedirs(folder, exist_ok=True)
-    for path, content in ((file_name, data), (f"{file_name}.sha256", f"{hashlib.sha256(data).hexdigest()}  {file_name}\n".encode())):
+    for path, content in ((file_name, data),
+                          (f"{file_name}.sha256", f"{hashlib.sha256(data).hexdigest()}  {file_name}\n".encode())):
         with open(os.path.join(folder, path), "wb") as file:
             file.write(content)
     print(f"{name()}: {os.path.join(folder, file_name)}")

@@ -1,7 +1,7 @@
 """Changes of what LLVM writes, for machines that the Rattle kit does not compile for. Nothing proves this file.
 
-The kit compiles a proved crate to one LLVM module, for x86-64 Linux. These functions change its two lines that name the machine, and
-attributes of its functions; no instruction."""
+The kit compiles a proved crate to one LLVM module, for x86-64 Linux. These functions change its two lines that name the machine,
+and attributes of its functions; no instruction."""
 
 import re
 
@@ -29,8 +29,8 @@ def for_windows(module):
 
 
 def for_webassembly(module):
-    """Returns a module for WebAssembly with 64-bit addresses, which has no processor's attributes. Raises ValueError if the module calls
-    an instruction of its processor by name."""
+    """Returns a module for WebAssembly with 64-bit addresses, which has no processor's attributes. Raises ValueError if the module
+    calls an instruction of its processor by name."""
     if re.search(r"@llvm\.(x86|aarch64)\.", module):
         raise ValueError("the module calls an instruction of its processor")
     module = re.sub(r' "(?:target-cpu|target-features|tune-cpu|probe-stack|stack-probe-size|frame-pointer)"="[^"]*"', "",

@@ -3,8 +3,8 @@
     python3 -m tests [NAME ..]
 
 A NAME is that of a module without test_, as panel; without names all run. When a module has ended, what failed is shown, why tests
-were skipped, and how many seconds it took: of a clock, and of processor time, with the programs that it waited for. Many tests wait for programs, so more modules run than there are cores for this process. An interrupt ends all, with the
-count so far.
+were skipped, and how many seconds it took: of a clock, and of processor time, with the programs that it waited for. Many tests wait
+for programs, so more modules run than there are cores for this process. An interrupt ends all, with the count so far.
 One module, class or test alone: python3 -m unittest tests.test_panel -k sizes
 """
 
@@ -30,8 +30,9 @@ import unittest  # noqa: E402
 
 HERE = os.path.dirname(os.path.abspath(__file__))
 TOP = os.path.dirname(HERE)
-at = [path.endswith("-packages") for path in [*sys.path, "-packages"]].index(True)  # behind Python's own modules
-sys.path.insert(at, TOP)
+with open(os.path.join(TOP, "tools", "pp6600", "own.py"), encoding="ascii") as own:
+    exec(own.read())
+find_first(tests=TOP)
 ALONE = "--alone"  # before the name of a module, which is then run in this process
 PASSED = re.compile(r"^(?:.*\.\.\. )?ok\n", re.M)
 SKIPPED = re.compile(r"\.\.\. skipped (['\"])(.*)\1$", re.M)
@@ -40,7 +41,9 @@ FAILED = re.compile(r"\.\.\. (?:FAIL|ERROR)$", re.M)
 NOT_PASSED = re.compile(r"(?:failures|errors|unexpected successes)=(\d+)")  # in the last line
 LONGEST = 1800  # seconds of processor time that a module may take, and of time in which it takes none
 LOOK = 10  # seconds between looks at that time
-FIRST = [f"test_{name}" for name in "windows film_page film_session film_walk sessions install packages evaluate library random".split()]  # they take longest
+FIRST = [f"test_{name}"
+         # they take longest
+         for name in "windows film_page film_session film_walk sessions install packages evaluate library random".split()]
 
 
 def modules(names):
@@ -82,7 +85,8 @@ class Module:
         return float(found[1]) if found else 0.0
 
     def finished(self):
-        """Waits for its end. Returns what it wrote, and whether it ended well; one that never ends is ended, so that the others count."""
+        """Waits for its end. Returns what it wrote, and whether it ended well; one that never ends is ended, so that the others
+        count."""
         worked, at = 0.0, time.monotonic()  # the processor time at the last look at which there was more of it
         while True:
             try:
@@ -127,7 +131,8 @@ def new_room():
 
 
 def is_usable():
-    """Returns whether tests can be run in this checkout: whether it can be written, and its name is text, which other programs want."""
+    """Returns whether tests can be run in this checkout: whether it can be written, and its name is text, which other programs
+    want."""
     try:
         TOP.encode("utf-8")
     except UnicodeEncodeError:
@@ -183,10 +188,12 @@ class Run:
     def show(self, module, output, counts):
         """Shows what failed in a module and why tests were skipped, its counts, and how many modules run still."""
         reasons = collections.Counter(reason for _, reason in SKIPPED.findall(output))
-        shown = PASSED.sub("", output) if counts["failed"] else "".join(f"skipped {count}: {reason}\n" for reason, count in reasons.items())
+        skips = "".join(f"skipped {count}: {reason}\n" for reason, count in reasons.items())
+        shown = PASSED.sub("", output) if counts["failed"] else skips
         seconds, worked = time.monotonic() - module.began, module.took()
         self.took += worked
-        print(f"{shown}{module.name}: {text_of(counts)}, {counts['skipped']} skipped in {seconds:.0f} s, {worked:.1f} s of processor time", flush=True)
+        print(f"{shown}{module.name}: {text_of(counts)}, {counts['skipped']} skipped in {seconds:.0f} s, {worked:.1f} s of "
+              f"processor time", flush=True)
 
     def end(self):
         """Ends all modules, and adds what they have tested so far."""
@@ -209,7 +216,8 @@ def main():
         return run_in_copy()
     workers = 2 * len(os.sched_getaffinity(0)) + 1
     run = Run()
-    print(f"tests: {len(names)} modules, {min(workers, len(names))} at a time; each is shown when it has ended. Ctrl-C ends them.", flush=True)
+    print(f"tests: {len(names)} modules, {min(workers, len(names))} at a time; each is shown when it has ended. Ctrl-C ends them.",
+          flush=True)
     pool = concurrent.futures.ThreadPoolExecutor(workers)
     try:
         for future in [pool.submit(run.module, name) for name in names]:

@@ -1,5 +1,9 @@
-"""Sources for the assemblers, and cells for the disassemblers: those of the repository, and others made at random, also of lines that
-make, choose or repeat others: IF, DUP, MACRO, micros and RMT, right and wrong; and what the library's assembler says of a source."""
+"""Sources for the assemblers, and cells for the disassemblers: those of the repository, and others made at random, also of lines
+that make, choose or repeat others: IF, DUP, MACRO, micros and RMT, right and wrong; and what the library's assembler says of a
+source.
+
+    python3 -m tests.assembler_sources   prints a checksum of each answer that FROZEN_SUM is of, for a change of the assembler
+"""
 
 import glob
 import hashlib
@@ -58,7 +62,8 @@ def macro(choose: random.Random, depth: int) -> List[str]:
     head = chosen(choose, "macros").split(";")
     inner = [line("", choose.choice(["LOCAL L1,L2", "LOCAL L1", "LOCAL"]))] if choose.random() < 0.3 else []
     calls_of_itself = [line("", "MCA 1")] if choose.random() < 0.05 else []
-    parts = [line("", "IRP P"), *some(choose, IN_MACRO), *choose.choice([[line("", "IRP")], [line("", "IRP")], []])] if choose.random() < 0.4 else []
+    parts = [line("", "IRP P"), *some(choose, IN_MACRO),
+             *choose.choice([[line("", "IRP")], [line("", "IRP")], []])] if choose.random() < 0.4 else []
     end = [] if choose.random() < 0.05 else [line("", "ENDM")]
     return [line(*head), *inner, *some(choose, IN_MACRO), *parts, *calls_of_itself, *end, *calls(choose, depth)]
 
@@ -157,11 +162,15 @@ def statements(choose: random.Random, real: Sequence[List[str]]) -> List[str]:
 
 
 KINDS = (lambda choose, real: changed(choose, choose.choice(real)), statements, lambda choose, real: source(choose))
-FROZEN = 3000
+# How many sources are made of which an assembler in Python, which was written apart from this one and went, had the same answers,
+# and a checksum of these. 35 of them, with faults then and now, have forms that are taken since, and 13 have what is a fault since,
+# a tab in a text of DIS or a comma or slash in a qualifier: their answers are later ones.
+FROZEN, FROZEN_SUM = 3000, "cc80875b6c32"
 
 
 def program(choose: random.Random) -> List[str]:
-    """Returns a program with statements of all kinds that make or name addresses. Each fits in its place, so nothing is wrong with it."""
+    """Returns a program with statements of all kinds that make or name addresses. Each fits in its place, so nothing is wrong with
+    it."""
     lines = ["          BASE   OCTAL", " MAC      MACRO  P", "          LOCAL  L", " L        LDN    P", "          ENDM",
              f"          ORG    {choose.randrange(0o100, 0o6000):o}"]
     for number in range(choose.randrange(1, 30)):
@@ -180,7 +189,7 @@ FROZEN_KINDS = (program, lambda choose: changed(choose, program(choose)), source
 
 
 def made_at_random() -> Iterator[List[str]]:
-    """Yields the lines of the sources whose results are in tests/programs/frozen.txt: they depend on no file."""
+    """Yields the lines of the sources that FROZEN_SUM is of: they depend on no file but tests/programs/lines.txt."""
     choose = random.Random(81)
     for _ in range(FROZEN):
         yield choose.choice(FROZEN_KINDS)(choose)
@@ -221,14 +230,14 @@ def answer(lines: Sequence[str]) -> bytes:
     return source_of([*said, *([] if faults else [*written(lines, WORDS), *listing(lines)])])
 
 
-def sum_of(lines: Sequence[str]) -> str:
-    """Returns a checksum of the answer to a source."""
-    return hashlib.sha256(answer(lines)).hexdigest()[:12]
+def sum_of(said: bytes) -> str:
+    return hashlib.sha256(said).hexdigest()[:12]
 
 
-def differences() -> List[List[str]]:
-    """Returns the sources made at random whose answer is another one than that of the assembler in Python, which was written apart from
-    this one, had the same answer to all 3,000 (decimal), and went. 34 of them, with faults then and now, have forms that are taken since,
-    and 13 have what is a fault since, a tab in a text of DIS or a comma or slash in a qualifier: their answers are of today."""
-    sums = read("tests", "programs", "frozen.txt").splitlines()
-    return [lines for lines, wanted in zip(made_at_random(), sums) if sum_of(lines) != wanted]
+def frozen_sums() -> List[str]:
+    """Returns a checksum of the answer to each source made at random."""
+    return [sum_of(answer(lines)) for lines in made_at_random()]
+
+
+if __name__ == "__main__":
+    print(*frozen_sums(), sep="\n")

@@ -8,8 +8,8 @@ A case of a file begins with == and its name. Its other lines:
   TEXT               a line of standard output
   ! TEXT             a line of standard error
   ? N                its exit status, if not 0
-Between them are blank lines and notes, which begin with #. Of a text \\r is a carriage return, \\n a line feed, \\xCD a byte, {TEXT*N} a text
-N times (decimal), and after a \\ at its end no line feed follows.
+Between them are blank lines and notes, which begin with #. Of a text \\r is a carriage return, \\n a line feed, \\xCD a byte,
+{TEXT*N} a text N times (decimal), and after a \\ at its end no line feed follows.
 
 A folder of examples/ has these parts as files: args, with a word in each line, stdin, stdout, stderr, status and how.
 """
@@ -63,8 +63,8 @@ def encoded(text: str) -> bytes:
 
 
 def stored_blocks(name: str) -> Tuple[List[str], List[Tuple[str, List[str]]]]:
-    """Returns the lines of a file of tests/ before its first block, and its blocks: what follows == and the lines. Lines that are empty and
-    those that begin with # are left out."""
+    """Returns the lines of a file of tests/ before its first block, and its blocks: what follows == and the lines. Lines that are
+    empty and those that begin with # are left out."""
     first, *others = re.split("^== ?", part(os.path.join(TOP, "tests"), name).decode(), flags=re.M)
     found = [[line for line in text.split("\n") if line and line[0] != "#"] for text in (f"\n{first}", *others)]
     return found[0], [(title, lines) for title, *lines in found[1:]]
@@ -106,8 +106,8 @@ def of_folder(name: str) -> Stored:
     folder = os.path.join(EXAMPLES, name)
     args, script, out, err, status, how = (part(folder, one) for one in PARTS)
     files = [name for name in sorted(os.listdir(folder)) if name not in PARTS and os.path.isfile(os.path.join(folder, name))]
-    return Stored(name, args.decode().splitlines(), script, {name: part(folder, name) for name in files}, out, err, int(status or b"0"),
-                  how.decode().split())
+    return Stored(name, args.decode().splitlines(), script, {name: part(folder, name) for name in files}, out, err,
+                  int(status or b"0"), how.decode().split())
 
 
 def examples() -> List[Stored]:

@@ -251,7 +251,8 @@ def checker():
     """Returns a program with which go-dap decodes each message, unknown fields refused."""
     room = lasting_room()
     made = os.path.join(room, "check")
-    env = {**os.environ, "GO111MODULE": "off", "GOPATH": "/usr/share/gocode", "GOCACHE": os.path.join(room, "cache"), "GOFLAGS": "-p=1"}
+    env = {**os.environ, "GO111MODULE": "off", "GOPATH": "/usr/share/gocode", "GOCACHE": os.path.join(room, "cache"),
+           "GOFLAGS": "-p=1"}
     subprocess.run(["go", "build", "-o", made, os.path.join(TOP, "tests", "debug", "check.go")], env=env, check=True)
     return made
 

@@ -3,8 +3,8 @@ with its answer after a |. More lines after a | are what is said to the user mea
 
     python3 -m tests.debug_dialogue FILE ..   writes each file with the answers that its requests get; read them
 
-A request has its name in the protocol, as stepBack, and arguments as NAME=TEXT or NAME:=JSON; SHOWN and Dialogue have the others. Files
-are named from a folder with those of tests/debug and with examples/. There are these, with turns that are counted by hand:
+A request has its name in the protocol, as stepBack, and arguments as NAME=TEXT or NAME:=JSON; SHOWN and Dialogue have the others.
+Files are named from a folder with those of tests/debug and with examples/. There are these, with turns that are counted by hand:
 
     loops       PP 00 counts in cell 0020, PP 03 in cell 0021, in loops of three and of two turns
     long        PP 00 counts cell 0021 down from 100, and for each of these counts cell 0020 down to 0 by 4095 (decimal) rounds of
@@ -79,10 +79,12 @@ def bytes_to_write(reference, data, *offset):
     return {"memoryReference": reference, "data": text, **({"offset": int(offset[0])} if offset else {})}
 
 
-# Requests that are asked and shown in one way each: the name in the protocol, the arguments of what follows, what is shown of the answer.
+# Requests that are asked and shown in one way each: the name in the protocol, the arguments of what follows, what is shown of the
+# answer.
 SHOWN = {
     "watch": ("setDataBreakpoints", lambda rest: points(rest, lambda word: {"dataId": word, "accessType": "write"}), set_points),
-    "instructions": ("setInstructionBreakpoints", lambda rest: points(rest, lambda word: {"instructionReference": word}), set_points),
+    "instructions": ("setInstructionBreakpoints",
+                     lambda rest: points(rest, lambda word: {"instructionReference": word}), set_points),
     "look": ("evaluate", lambda text: {"expression": text, "frameId": 1, "context": "hover"}, lambda body: body["result"]),
     "frames": ("stackTrace", lambda number: {"threadId": int(number or "0", 8) + 1}, lambda body: listed(
         body["stackFrames"], lambda frame: f"{frame['name']} in {frame['source']['name']}:{frame['line']}")),
@@ -96,20 +98,23 @@ SHOWN = {
              lambda body: f"{base64.b64decode(body['data']).hex()}, {body['unreadableBytes']} unreadable"),
     "write": ("writeMemory", lambda rest: bytes_to_write(*rest.split()), lambda body: f"{body['bytesWritten']} written"),
     "disassemble": ("disassemble", lambda rest: dict(zip(("memoryReference", "instructionOffset", "instructionCount"), (
-        rest.split()[0], *map(int, rest.split()[1:])))), lambda body: listed(body["instructions"], lambda one: one["instruction"] + (
-            f" in {one['location']['name']}:{one['line']}" if "location" in one else "")))}
+        rest.split()[0], *map(int, rest.split()[1:])))), lambda body: listed(
+            body["instructions"], lambda one: one["instruction"] + (
+                f" in {one['location']['name']}:{one['line']}" if "location" in one else "")))}
 
 
 class Dialogue:
     """A session, by requests in a folder."""
 
-    def __init__(self, client, folder):
-        self.client, self.folder = client, folder
-        self.is_begun, self.next_request = False, ""
-        self.listings = {}  # the paths of those that have been asked for
+    def __init__(self, client, folder, requests):
+        self.client, self.folder, self.coming = client, folder, [request for request, _ in requests]
+        self.is_begun, self.listings = False, {}  # the paths of those that have been asked for
+        shutil.copytree(FOLDER, folder, dirs_exist_ok=True)
+        os.symlink(os.path.join(TOP, "examples"), os.path.join(folder, "examples"))
 
     def answers(self, line):
-        """Performs a request, and returns the lines of its answer."""
+        """Performs the next request, and returns the lines of its answer."""
+        self.coming.remove(line)
         try:
             answer = self.answer(line, *line.partition(" ")[::2])
         except Refusal as refusal:
@@ -202,11 +207,12 @@ class Dialogue:
         return self.do_stop("")
 
     def do_start(self, rest):
-        """start NAME [PROCESSOR] [ARGUMENT ..]: goes, and does not wait for the stop. A pause after it comes before the first turn."""
+        """start NAME [PROCESSOR] [ARGUMENT ..]: goes, and does not wait for the stop. A pause after it comes before the first
+        turn."""
         name, *words = shlex.split(rest)
         number = int(words.pop(0), 8) if words and words[0].isdigit() else 0
         going = {"threadId": number + 1, **arguments_of(words)}
-        if self.next_request.startswith("pause"):
+        if self.coming and self.coming[0].startswith("pause"):
             self.client.send(name, is_held=True, **going)
         else:
             self.client.ask(name, **going)
@@ -257,7 +263,8 @@ class Dialogue:
     def do_lines(self, rest):
         """lines FILE [LINE ..]: breakpoints at lines of a source."""
         name, _, rest = rest.partition(" ")
-        return self.set_lines({"path": os.path.join(self.folder, name), "name": name}, points(rest, lambda word: {"line": int(word)}))
+        return self.set_lines({"path": os.path.join(self.folder, name), "name": name},
+                              points(rest, lambda word: {"line": int(word)}))
 
     def set_lines(self, source, asked):
         return set_points(self.client.ask("setBreakpoints", source=source, **asked))
@@ -297,27 +304,12 @@ def files():
     return sorted(glob.glob(os.path.join(FOLDER, "*.txt")))
 
 
-def performed(client, folder, requests):
-    """Returns requests, each with the lines of its answer."""
-    shutil.copytree(FOLDER, folder, dirs_exist_ok=True)
-    os.symlink(os.path.join(TOP, "examples"), os.path.join(folder, "examples"))
-    dialogue = Dialogue(client, folder)
-    found = []
-    for (request, _), (dialogue.next_request, _) in zip(requests, [*requests[1:], ("", "")]):
-        found.append((request, dialogue.answers(request)))
-    return found
-
-
-def text_of(requests):
-    """Returns requests and answers as a file has them."""
-    lines = []
-    for request, (answer, *more) in requests:
-        line = f"{request:31} | {answer}".rstrip(" |")
-        if len(line) <= WIDTH or not answer:
-            lines += [line, *(f"| {text}" for text in more)]
-        else:
-            lines += [request, *(f"| {text}" for text in (answer, *more))]
-    return "".join(f"{line}\n" for line in lines)
+def text_of(request, answers):
+    """Returns a request and the lines of its answer as a file has them."""
+    answer, *more = answers
+    line = f"{request:31} | {answer}".rstrip(" |")
+    lines = [line, *more] if len(line) <= WIDTH or not answer else [request, *answers]
+    return "\n| ".join(lines) + "\n"
 
 
 def record(path):
@@ -326,7 +318,8 @@ def record(path):
     for shows, requests in cases(path):
         with tempfile.TemporaryDirectory(prefix="pp6600-test-") as folder:
             client = Client(folder=folder)
-            texts.append(f"{shows}\n{text_of(performed(client, folder, requests))}")
+            dialogue = Dialogue(client, folder, requests)
+            texts.append("\n".join([shows, "".join(text_of(request, dialogue.answers(request)) for request, _ in requests)]))
             client.end()
     with open(path, "w", encoding="utf-8") as file:
         file.write("\n".join(texts))

@@ -5,11 +5,12 @@ import random
 
 from tests.support import program
 
-from pp6600 import EMPTY, INACTIVE, NOTHING, Attached, Console, Device, full
+from pp6600 import EMPTY, INACTIVE, NOTHING, Attached, CentralDevice, Console, Device, full, store, wake
 from pp6600.language.cells import set_lines
 from pp6600.devices.card_reader import CardReader
 from pp6600.devices.controller import Controller
 from pp6600.devices.line_printer import LinePrinter
+from pp6600.run.central_device import Change, Store
 from pp6600.run.device import Event
 
 STEP = "STEP"
@@ -22,13 +23,15 @@ METHODS = {"X": "function", "F": "word", "I": "disconnected"}
 
 class Definition:
     """What a session with devices is. A fresh machine performs the units in effect, one after the other. After each turn each
-    device, in its order, looks at its channel. A unit is the line of an action, or a pair: the number of a device and what it is
-    told."""
+    device, in its order, looks at its channel or at its words, as the turn left them; then the replies are performed, in the same
+    order. A unit is the line of an action, or a pair: the number of a device and what it is told."""
 
     def __init__(self, words, devices, units=()):
         self.console, self.devices = Console(["plain", *words[1:]]), devices
         self.states = [device.start for device in devices]
-        self.seen, self.due = ["I 0000"] * len(devices), [None] * len(devices)
+        self.seen = [dict.fromkeys(device.words, 0) if isinstance(device, CentralDevice) else "I 0000" for device in devices]
+        # calls of `due` and stores to come, each with its turn, in the order in which they were asked for
+        self.asked = [[] for _ in devices]
         self.turn, self.units, self.hits, self.script, self.positions = 0, [], [], [], [0]
         for unit in units:
             self.perform(unit)
@@ -42,7 +45,10 @@ class Definition:
         elif isinstance(unit, tuple):
             number, what = unit
             self.act(f"SET Q 0 {self.console.registers(0)['Q']}")
-            self.call(number, "told", what)
+            device = self.devices[number]
+            stores = (self.call_central(number, "told", 0, 0, what) if isinstance(device, CentralDevice)
+                      else self.call(number, "told", what))
+            self.reply([stores if other == number else [] for other, _ in enumerate(self.devices)])
         else:
             self.act(unit)
         self.positions.append(len(self.script))
@@ -53,34 +59,91 @@ class Definition:
         self.script.append(line)
 
     def make_turn(self):
-        watches, turn, rows = self.console.ask_each(["DUMP W", STEP, "DUMP H"])
-        watched = [line[2:] for line in watches]
+        watches, turn = self.console.ask_each(["DUMP W", STEP])
+        watched = [line[2:] for line in watches if line != "W NONE"]
         hits = {place: hit for hit in turn[1:] for place in watched if hit.startswith(f"HIT {place} ")}
         self.script.append(STEP)
         self.turn += 1
-        for number, device in enumerate(self.devices):
-            now, place = rows[device.channel][5:], rows[device.channel][:4]
-            if now != self.seen[number]:
-                kind = METHODS.get(now[0]) or ("activated" if self.seen[number][0] == "I" else "taken")
-                self.seen[number] = now
-                self.call(number, kind, int(now[2:], 8))
-            elif self.due[number] is not None and self.due[number] <= self.turn:
-                self.due[number] = None
-                self.call(number, "due", int(now[2:], 8))
-            new = self.seen[number][2:]
-            if new != now[2:] and place in watched:
-                hits[place] = f"HIT {place} {now[2:]} {new}"
+        before = list(map(self.console.number, watched))
+        self.reply([self.look_at_words(number) if isinstance(device, CentralDevice) else self.look_at_channel(number)
+                    for number, device in enumerate(self.devices)])
+        for place, was, now in zip(watched, before, map(self.console.number, watched)):
+            if was != now:
+                hits[place] = f"HIT {place} {was} {now}"
         self.hits[-1] = next((hits[place] for place in watched if place in hits), None)
 
+    def reply(self, replies):
+        """Performs the replies of all devices: pairs of an address of central memory, or of a channel, and the end of a line."""
+        for number, (device, those) in enumerate(zip(self.devices, replies)):
+            for place, number_there in those:
+                self.act(f"SET {'C' if isinstance(device, CentralDevice) else 'H'} {place} {number_there}")
+            self.leave(number, those)
+
+    def leave(self, number, replies):
+        """Notes what a device has left: its own reply is no change for it."""
+        device = self.devices[number]
+        for place, left in replies:
+            if not isinstance(device, CentralDevice):
+                self.seen[number] = self.console.channel(device.channel)
+            elif int(place, 8) in self.seen[number]:
+                self.seen[number][int(place, 8)] = int(left, 8)
+
+    def due(self, number):
+        """Returns what is due of a device in this turn, in the order in which it was asked for."""
+        due = [one for turn, one in self.asked[number] if turn <= self.turn]
+        self.asked[number] = [(turn, one) for turn, one in self.asked[number] if turn > self.turn]
+        return due
+
+    # ---- a device of a channel
+
+    def look_at_channel(self, number):
+        now = self.console.channel(self.devices[number].channel)
+        if now != self.seen[number]:
+            kind = METHODS.get(now[0]) or ("activated" if self.seen[number][0] == "I" else "taken")
+            self.seen[number] = now
+            return self.call(number, kind, int(now[2:], 8))
+        return self.call(number, "due", int(now[2:], 8)) if self.due(number) else []
+
     def call(self, number, kind, word):
-        """Calls a method of a device, and performs its reply."""
+        """Calls a method of a device of a channel. Returns its reply."""
         device = self.devices[number]
         self.states[number], reply = getattr(device, kind)(self.states[number], Event(kind, word, self.turn))
         if reply.wake is not None:
-            self.due[number] = self.turn + reply.wake
-        if reply.state is not None:
-            self.act(f"SET H {device.channel:02o} {reply.state}" + ("" if reply.word is None else f" {reply.word:o}"))
-            self.seen[number] = self.console.channel(device.channel)
+            self.asked[number] = [(self.turn + reply.wake, "due")]
+        return ([] if reply.state is None
+                else [(f"{device.channel:02o}", reply.state + ("" if reply.word is None else f" {reply.word:o}"))])
+
+    # ---- a device of central memory
+
+    def look_at_words(self, number):
+        """Returns what a device stores after a turn: first what is due, then what it asks for now."""
+        due, new = [], []
+        for one in self.due(number):
+            due += self.call_central(number, "due", 0, 0, 0) if one.address is None else [self.line(one)]
+        for address, was in sorted(self.seen[number].items()):
+            now = self.seen[number][address] = self.word(address)
+            if now != was:
+                new += self.call_central(number, "changed", address, was, now)
+        return self.in_order(due, new)
+
+    def in_order(self, due, new):
+        return [*due, *new]
+
+    def call_central(self, number, kind, address, was, now):
+        """Calls a method of a device of central memory. Returns what it stores at once."""
+        event = Change(kind, address, was, now, self.turn, self.word,
+                       lambda number: int(self.console.frame()[number].split()[2], 8))
+        self.states[number], stores = getattr(self.devices[number], kind)(self.states[number], event)
+        stores = [stores] if isinstance(stores, Store) else list(stores)
+        self.asked[number] += [(self.turn + one.after, one) for one in stores if one.after]
+        return [self.line(one) for one in stores if not one.after]
+
+    def word(self, address):
+        return int(self.console.central(address, address)[0].split()[2], 8)
+
+    @staticmethod
+    def line(one):
+        return f"{one.address:o}", f"{one.word:o}"
 
 
 class RandomDevice(Device):
@@ -124,6 +187,41 @@ def random_program(choose, channels, is_rescue, codes=range(4)):
     return [*words, 0o0100, 0o100]
 
 
+WORDS = range(0o10, 0o50)  # of central memory that processors, devices and the user change
+
+
+class RandomCentralDevice(CentralDevice):
+    """A device whose stores are chosen by its state and the event."""
+
+    def __init__(self, seed, words):
+        self.seed, self.words, self.start = seed, words, (seed, 0)
+
+    def react(self, state, event):
+        number, count = state
+        word = event.new % 8191 + event.central(WORDS[number % len(WORDS)]) % 8191 + event.frame(number % 16) % 8191
+        number = (number * 5 + word + event.turn + event.address) % 8191
+        choice, at = (number // 3 + self.seed) % 8, WORDS[number % len(WORDS)]
+        stores = [(), store(at, number), (store(at, number), store(at, number + 1)), store(self.words[0], 0, number % 50 + 1),
+                  [store(self.words[-1], number, number % 7), wake(number % 30 + 1)], wake(number % 90 + 1),
+                  (store(at, word, 3), store(at, number, 3), store(at, 5)), store(event.address or at, number << 40)][choice]
+        return (number, count + 1), stores
+
+    changed = due = told = react
+
+
+def program_of_words(choose):
+    """Returns the words of a loop from cell 0100 on that reads and writes central memory: AOD 50, LDC, CWD 50 in each round, and
+    others."""
+    words = [0o3650, 0o2000, choose.choice(WORDS), 0o6250]
+    for _ in range(choose.randint(1, 6)):
+        address, here = choose.choice(WORDS), 0o100 + len(words)
+        words += choose.choice(([0o2000, address, 0o6250], [0o2000, address, 0o6050],
+                                [0o1402, 0o3460, 0o2000, address, 0o6360, here], [0o1401, 0o3460, 0o2000, address, 0o6160, 0o50],
+                                [0o2000, address & 0o20, 0o2600], [0o3652], [0o3650, 0o3651],
+                                [0o1400 + choose.randint(1, 30), 0o1701, 0o0576], [0o1400, 0o3450]))
+    return [*words, 0o0100, 0o100]
+
+
 class FewStates(Attached):
     """A session that keeps few states, and works out the others anew."""
 
@@ -139,27 +237,32 @@ class Session:
         self.choose, self.kind = random.Random(seed), definition
         choose = self.choose
         self.devices = self.random_devices(choose)
-        self.channels = [*(device.channel for device in self.devices), OTHER_CHANNEL]
+        self.channels = [*(device.channel for device in self.devices if device.channel is not None), OTHER_CHANNEL]
         self.words = [program(), "--panel", panel, "--history", str(choose.choice((1, 2, 7, 40, 300, 10000)))]
         self.session = choose.choice((Attached, FewStates))(self.words, self.devices)
         self.units, self.position = [], 0  # in effect and ahead
         self.definition = definition(self.words[:3], self.devices)
         for at, number in enumerate(choose.sample(range(10), choose.choice((2, 4, 10)))):
-            for line in set_lines(number, 0o100, [f"{word:04o}" for word in random_program(choose, self.channels, at == 0, self.codes)]):
+            for line in set_lines(number, 0o100, [f"{word:04o}" for word in self.program(at == 0)]):
                 self.act(line)
             self.act(f"SET P {number:o} 100")
 
     @staticmethod
     def random_devices(choose):
         """Returns devices, each on a channel of its own."""
-        return [RandomDevice(choose.randrange(4000), channel) for channel in choose.sample([0, 1, 5, 0o11, 0o10], choose.randint(1, 3))]
+        return [RandomDevice(choose.randrange(4000), channel)
+                for channel in choose.sample([0, 1, 5, 0o11, 0o10], choose.randint(1, 3))]
+
+    def program(self, is_rescue):
+        return random_program(self.choose, self.channels, is_rescue, self.codes)
 
     def close(self):
         self.session.close()
         self.definition.console.close()
 
     def defined(self, units):
-        """Returns the definition of the session with these units in effect. It goes on from the last one if that has the first of them."""
+        """Returns the definition of the session with these units in effect. It goes on from the last one if that has the first of
+        them."""
         if units[:len(self.definition.units)] != self.definition.units:
             self.definition.console.close()
             self.definition = self.kind(self.words[:3], self.devices)
@@ -181,7 +284,8 @@ class Session:
     def move(self):
         """Makes one random move. Returns what it did, to be compared."""
         choose, most = self.choose, self.choose.choice((3, 30, 300, 600))
-        moves = {"step": 40, "back": 15, "forward": 12, "back w": 6, "set": 16, "watch": 8, "dead start": 2, "tell": 10, "refused": 3}
+        moves = {"step": 40, "back": 15, "forward": 12, "back w": 6, "set": 16, "watch": 8, "dead start": 2, "tell": 10,
+                 "refused": 3}
         name = choose.choices(list(moves), list(moves.values()))[0]
         return name, getattr(self, name.replace(" ", "_"))(most)
 
@@ -223,7 +327,8 @@ class Session:
 
     def refused(self, _):
         channel = self.choose.choice(self.channels)
-        answer = self.session.act(self.choose.choice((f"SET H {channel:o} F 10000", "SET H 14 I", "GO", "BACK X", f"SET H {channel:o}")))
+        answer = self.session.act(
+            self.choose.choice((f"SET H {channel:o} F 10000", "SET H 14 I", "GO", "BACK X", f"SET H {channel:o}")))
         assert answer[0].startswith("ERR "), answer
 
     def watch(self, _):
@@ -244,13 +349,42 @@ class Session:
 class TwoOnAChannel(Session):
     """One with a reader and a printer behind one controller."""
 
-    codes = (0o4000, 0o4000, 0o5000, 0o5000, 0o6000, 0o1000, 0o1100, 0o1200, 0o1300, 0o1400, 0o1500, 0o1600, 0o1700, 0, 1, 2, 4, 0o77)
+    codes = (0o4000, 0o4000, 0o5000, 0o5000, 0o6000, 0o1000, 0o1100, 0o1200, 0o1300, 0o1400, 0o1500, 0o1600, 0o1700, 0, 1, 2, 4,
+             0o77)
 
     @staticmethod
     def random_devices(choose):
         deck = [[choose.randrange(4096) for _ in range(choose.randint(0, 80))] for _ in range(choose.randint(0, 3))]
         busy = [choose.choice((0, 1, 5, 40)) for _ in range(2)]
         return [Controller(CardReader(deck, busy=busy[0]), LinePrinter(busy=busy[1]), channel=choose.choice((5, 0o11)))]
+
+
+class OfCentralMemory(Session):
+    """One with one or two devices of central memory, and perhaps one of a channel."""
+
+    @staticmethod
+    def random_devices(choose):
+        words = [choose.choice((range(0o10, 0o20), [0o11], [0o15, 0o12, 0o33], range(0o20, 0o40), range(0o10, 0o50, 3)))
+                 for _ in range(choose.choice((1, 1, 2)))]
+        found = [RandomCentralDevice(choose.randrange(4000), list(those)) for those in words]
+        if choose.random() < 0.3:
+            found.insert(choose.randrange(len(found) + 1), RandomDevice(choose.randrange(4000), 5))
+        return found
+
+    def program(self, is_rescue):
+        return super().program(is_rescue) if self.choose.random() < 0.2 else program_of_words(self.choose)
+
+    def set(self, most):
+        if self.choose.random() < 0.5:
+            self.act(f"SET C {self.choose.choice(WORDS):o} {self.choose.randrange(1 << 60):o}")
+        else:
+            super().set(most)
+
+    def watch(self, most):
+        if self.choose.random() < 0.6:
+            self.act(f"{self.choose.choice(('WATCH', 'UNWATCH'))} C {self.choose.choice(WORDS):o}")
+        else:
+            super().watch(most)
 
 
 def difference(session, move):
@@ -293,8 +427,8 @@ def fault_of_back_w(session, units, oldest, answer, count):
 
 
 def fault_of_scripts(session, defined):
-    """Returns what is wrong in the saved script, or in what was sent: alone each must make the same machine, the first one in as many
-    turns."""
+    """Returns what is wrong in the saved script, or in what was sent: alone each must make the same machine, the first one in as
+    many turns."""
     saved, sent = session.session.save(), session.session.sent
     for words, lines in ((session.words[:3], saved), (session.words, sent)):
         console = Console(words)

@@ -1,6 +1,7 @@
 """The blocks of tests/film.txt: what is done in the page of a film, and what it then shows.
 
-The file begins with names for what is looked at and for what is done, in the page's own words (JavaScript); X is the rest of the line:
+The file begins with names for what is looked at and for what is done, in the page's own words (JavaScript); X is the rest of the
+line:
   let NAME [X] = ..   a look: yes, no, none, a number or a text; of several one after the other, with | between them
   do NAME [X] = ..    an action
 A block begins with == and what it shows. Its other lines:
@@ -13,9 +14,11 @@ Each line from here on is one step or several, with -> between them:
   click SELECTOR      the mouse; click-at LOOK clicks where a look says
   open [#address]     the same film again; open saved NAME is a page that it has saved
   look WIDTH HEIGHT   the window's size in pixels, then dark or print
+  force STATES        all controls are as under the pointer (hover), with the focus (focus, focus-visible), or pressed (active)
   saved NAME          the page saves this file, which has the bytes of the script or of the block's file
   keep LOOK           what is seen now, for `LOOK is kept` and `LOOK is another`
-  LOOK = TEXT         what is seen comes to be this; with ~ it has this text in it, and with > or < it is a greater or smaller number
+  LOOK = TEXT         what is seen comes to be this; with ~ it has this text in it, and with > or < it is a greater or smaller
+                      number
 """
 
 import json
@@ -27,7 +30,7 @@ import time
 from tests.cases import encoded, files_in, marked, part, stored_blocks, text_of
 from tests.films import PageCase, class_page, shown_film
 from tests.panels import keys_in
-from tests.support import TOP, write
+from tests.steps import StepCase
 
 PATIENCE = 120  # seconds for what a page comes to show
 LINE = re.compile(r"((?:let|do) |\$ |> ?|[\w. ]+\| ?|)(.*)")
@@ -37,7 +40,8 @@ OPENED = re.compile(r"(film|shown|class)(.*?)(?: (#\S+))?")
 RELATIONS = {"=": lambda shown, wanted: shown == wanted, "~": lambda shown, wanted: wanted in shown,
              ">": lambda shown, wanted: int(shown) > int(wanted), "<": lambda shown, wanted: int(shown) < int(wanted)}
 CONTROLS = ("button", "combobox", "textbox", "slider", "checkbox", "searchbox", "spinbutton")
-HELPERS = r"""const octal = (n) => n.toString(8), byId = (id) => document.getElementById(id), one = (selector) => document.querySelector(selector);
+HELPERS = r"""const octal = (n) => n.toString(8), byId = (id) => document.getElementById(id);
+const one = (selector) => document.querySelector(selector);
 const all = (selector) => [...document.querySelectorAll(selector)], textOf = (one) => one && (one.innerText ?? one.textContent);
 const { store, session, moves, hands, editor, exercises, sharing } = page, { state } = store, { film, chosen } = state;
 const numberOf = (name) => film.text(film.placeNamed(name));
@@ -52,29 +56,24 @@ def whole(lines):
 
 BEGIN, BLOCKS = stored_blocks("film.txt")
 FILES, BLOCKS = files_in(marked(LINE, whole(BEGIN)), {}), [(title, marked(LINE, whole(lines))) for title, lines in BLOCKS]
-DEFINED_NAMES = {name: (kind, code) for kind, name, code in (found.groups() for found in map(DEFINED.fullmatch, whole(BEGIN)) if found)}
+DEFINED_NAMES = {name: (kind, code)
+                 for kind, name, code in (found.groups() for found in map(DEFINED.fullmatch, whole(BEGIN)) if found)}
 
 
-class BlockCase(PageCase):
-    """Tests of blocks, each in a folder of its own."""
+class BlockCase(PageCase, StepCase):
+    """Tests of blocks. What is wanted is a part of a step."""
 
-    def check(self, lines):
-        for name in ("examples", "exercises", "tests"):
-            os.symlink(os.path.join(TOP, name), self.path(name))
+    def begin(self, lines):
         self.files, self.kept, self.saved_files = files_in(lines, FILES), {}, self.room()
-        for name, text in self.files.items():
-            write(self.path(name), encoded(text))
+        self.place({name: encoded(text) for name, text in self.files.items()}, "examples", "exercises", "tests")
         self.browser.save_into(self.saved_files)
         self.script = "".join(text_of(text) for mark, text in lines if mark == ">")
-        for mark, text in lines:
-            if mark == "$":
-                self.begin(text)
-            elif not mark:
-                for step in text.split(" -> "):
-                    with self.subTest(step):
-                        self.perform(step)
 
-    def begin(self, text):
+    def steps(self, lines):
+        return [(step, None) for mark, text in lines if mark in ("", "$")
+                for step in ([f"$ {text}"] if mark else text.split(" -> "))]
+
+    def open_film(self, text):
         """Opens a film."""
         kind, words, address = OPENED.fullmatch(text).groups()
         words = shlex.split(words)
@@ -86,14 +85,16 @@ class BlockCase(PageCase):
             named = [word for word in words if word[0] == "<" and word[1:] in self.files]
             begun = "".join(self.files[word[1:]] for word in named)
             self.script = encoded(begun + self.script).decode("latin-1")
-            self.page = self.film(*(word for word in words if word not in named), script=self.script, status=None, folder=self.folder)
+            self.page = self.film(*(word for word in words if word not in named), script=self.script, status=None,
+                                  folder=self.folder)
         self.browser.open(self.page, address or "")
 
-    def perform(self, step):
-        """Performs a step of a block."""
+    def check_step(self, step, _):
         name, _, rest = step.partition(" ")
         command = getattr(self, "do_" + name.replace("-", "_"), None)
-        if name == ":":
+        if name == "$":
+            self.open_film(rest)
+        elif name == ":":
             for key in keys_in(rest):
                 self.browser.key(" " if key == "Space" else key)
         elif command:
@@ -111,6 +112,12 @@ class BlockCase(PageCase):
         if name == "sheets":
             self.browser.paper(self.path("paper.pdf"))
             return str(len(re.findall(rb"/Type /Page\b(?!s)", part(self.folder, "paper.pdf"))))
+        if name == "spoken":
+            nodes = self.browser.ask("Accessibility.getFullAXTree")["nodes"]
+            regions = [node for node in nodes if node.get("role", {}).get("value") == "status" and not node["ignored"]]
+            texts = {child for node in regions for child in node["childIds"]}
+            return " ".join(node["name"]["value"] for node in nodes if node["nodeId"] in texts
+                            and node["role"]["value"] == "StaticText")
         if name == "controls-without-a-name":
             nodes = [node for node in self.browser.ask("Accessibility.getFullAXTree")["nodes"] if not node["ignored"]]
             controls = [node for node in nodes if node["role"]["value"] in CONTROLS]
@@ -147,6 +154,16 @@ class BlockCase(PageCase):
     def do_look(self, rest):
         width, height, *form = rest.split()
         self.browser.look(int(width), int(height), dark="dark" in form, media="print" if "print" in form else "")
+
+    def do_force(self, states):
+        """Has all controls be as under the pointer, with the focus, or pressed."""
+        ask = self.browser.ask
+        for domain in ("DOM", "CSS"):
+            ask(f"{domain}.enable")
+        root = ask("DOM.getDocument", depth=0)["root"]["nodeId"]
+        for node in ask("DOM.querySelectorAll", nodeId=root,
+                        selector="button, input, select, textarea, summary, [tabindex], .n, .change, .gutter")["nodeIds"]:
+            ask("CSS.forcePseudoState", nodeId=node, forcedPseudoClasses=states.split(", ") if states else [])
 
     def do_keep(self, rest):
         name, _, argument = rest.partition(" ")

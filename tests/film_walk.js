@@ -9,7 +9,7 @@ const textsOf = (selector) => [...document.querySelectorAll(selector)].map((one)
 const showParts = (processor, first) => {
   const { store } = page, { state } = store;
   const memory = { ...state.memory, n: processor, first, follows: false, isHeld: true, as: "numbers" };
-  store.change({ look: "debug", columns: 4, folded: new Set(), memory, room: { ...state.room, memoryRows: 16, barrelHigh: 240 * (state.room.unit || 1) }, chosen: film().placeNamed("XP 0"), central: { first: 0 } });
+  store.change({ look: "debug", columns: 4, folded: new Set(), memory, room: { ...state.room, memoryRows: 16, barrelHigh: 240 * (state.room.unit || 1) }, chosen: film().placeNamed("XP 0") });
   store.flush();
 };
 
@@ -27,8 +27,7 @@ const stateOf = (processor, first) => {
     sentences: range(10).map(sentenceOf),
     at_p: range(10).map((n) => octal(film().cell(n, film().number("P", n)), 4)),
     channels: [...range(12).map((c) => `H ${two(c)} ${shown(`STATE ${two(c)}`)} ${shown(`H ${two(c)}`)}`), `H 14 F ${shown("H 14")}`],
-    frame: textsOf(".central [data-place^='XP ']").map((text, at) => [at % 2 ? 8 + (at >> 1) : at >> 1, text]).sort(([one], [other]) => one - other)
-      .map(([at, text]) => `XP ${two(at)} ${text}`),
+    frame: range(16).map((at) => `XP ${two(at)} ${textsOf(`.central [data-place="XP ${two(at)}"]`)[0] ?? "0".repeat(20)}`), // zero if not shown
     reader: [`CR ${reader}`], printer: [`LP ${printer}`, ...paper.map((line) => `|${line}`), ...(rest ? [`/${rest}`] : [])],
     watches: watched.length ? watched.map((name) => `W ${name}`) : ["W NONE"],
     window: textsOf("#cells [data-cell]"),

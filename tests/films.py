@@ -95,7 +95,7 @@ def text_of(*files):
 def unpacked(page, part):
     """Returns the bytes of a part of a page: film, simulator, engine or view."""
     text = re.search(rf'<script type="text/plain" id="{part}">\n(.*?)\n</script>', page, flags=re.S)[1]
-    return zlib.decompress(base64.b64decode(text))
+    return zlib.decompress(base64.b64decode(text) if part == "film" else base64.a85decode(text.replace("v", "<")))
 
 
 def about(page):
@@ -104,8 +104,8 @@ def about(page):
 
 
 def moments_of(words, lines):
-    """Yields a simulator as it is at each moment, and whether a turn led there: before the first line, after each turn, and after each
-    other action."""
+    """Yields a simulator as it is at each moment, and whether a turn led there: before the first line, after each turn, and after
+    each other action."""
     with Console(words) as plain, Console(words) as slow:
         yield slow, False
         for line in lines:

@@ -12,7 +12,8 @@ import time
 from tests.browser import PATIENCE, Page
 
 NAMES = ("firefox-esr", "firefox")
-KEYS = {"ArrowLeft": "\ue012", "ArrowRight": "\ue014", "End": "\ue010", "Home": "\ue011", "Enter": "\ue007"}  # as the protocol names them
+# as the protocol names them
+KEYS = {"ArrowLeft": "\ue012", "ArrowRight": "\ue014", "End": "\ue010", "Home": "\ue011", "Enter": "\ue007"}
 
 
 def found():
@@ -34,8 +35,9 @@ class Firefox(Page):
             file.write(f'user_pref("marionette.port", {port});\nuser_pref("app.update.enabled", false);\n'
                        'user_pref("datareporting.policy.dataSubmissionEnabled", false);\n'
                        'user_pref("network.captive-portal-service.enabled", false);\n')
-        self.process = subprocess.Popen([path, "--headless", "--marionette", "--no-remote", "--profile", self.room.name, "about:blank"],
-                                        stdout=subprocess.DEVNULL, stderr=subprocess.DEVNULL, env={**os.environ, "HOME": self.room.name})
+        words = [path, "--headless", "--marionette", "--no-remote", "--profile", self.room.name, "about:blank"]
+        self.process = subprocess.Popen(words, stdout=subprocess.DEVNULL, stderr=subprocess.DEVNULL,
+                                        env={**os.environ, "HOME": self.room.name})
         self.numbers, self.rest = itertools.count(1), b""
         self.socket = self.connected(port)
         self.message()

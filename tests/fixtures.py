@@ -5,6 +5,7 @@ import os
 import re
 import subprocess
 
+from tests.cases import Stored, part
 from tests.support import EXAMPLES, PYTHON, TOP, blocks, program
 
 DECK, LOADER = (os.path.join(EXAMPLES, "overwritten-loader", name) for name in ("deck", "loader.pp"))
@@ -12,8 +13,9 @@ DECK, LOADER = (os.path.join(EXAMPLES, "overwritten-loader", name) for name in (
 WITH_SIMULATOR = {"changes": ["M", "0", "106"], "origin": ["M", "0", "106"], "save": ["0", "0", "1"],
                   "compare": ["--other-panel", "examples/dead-start/panel"], "show": [], "state": [], "talk": [], "trace": [],
                   "until": ["P", "0", "=", "1"], "waits": [], "film": ["-o", os.devnull]}
-WITHOUT = {"assemble": [], "deck": [], "disassemble": [], "load": ["0", "100"], "symbols": [], "words": ["--dump", "0"]}
-GIVEN = {"assemble": "  LDN 5\n", "deck": "HELLO.\n", "disassemble": "0100 1405\n", "load": "1405\n", "symbols": "A 5\n", "words": "0100 1405\n"}
+WITHOUT = {"assemble": [], "deck": [], "disassemble": [], "load": ["0", "100"], "symbols": [], "words": ["--back", "1405"]}
+GIVEN = {"assemble": "  LDN 5\n", "deck": "HELLO.\n", "disassemble": "0100 1405\n", "load": "1405\n", "symbols": "A 5\n",
+         "words": ""}
 
 
 def at_terminal(name, *words):
@@ -30,12 +32,14 @@ PAGES = ["README.md", *sorted(os.path.relpath(path, TOP) for path in glob.glob(o
 
 
 def sessions():
-    """Returns the place of each session, and a list of the program's words, the lines typed, and the answers."""
+    """Returns each session, by its place, as a case. The files that it names are those of examples/."""
     found = []
     for page in PAGES:
         for block in blocks(page, "session"):
             if block.words[1:] != ["continued"]:
-                found.append((block.place, (block.words[1:], [], [])))
+                words = block.words[1:]
+                found.append((block.place, words, [word for word in words if os.path.isfile(os.path.join(EXAMPLES, word))], [], []))
             for line in block.text.splitlines(keepends=True):
-                found[-1][1][1 if line.startswith(">") else 2].append(re.sub("^> ?", "", line))
-    return found
+                found[-1][3 if line.startswith(">") else 4].append(re.sub("^> ?", "", line).encode())
+    return [Stored(place, words, b"".join(script), {name: part(EXAMPLES, name) for name in files}, b"".join(answers),
+                   status=int(any(line.startswith(b"ERR ") for line in answers))) for place, words, files, script, answers in found]

@@ -64,8 +64,8 @@ PARTS = ROWS['parts']
 JUNK = [word for line in ROWS['junk'] for word in shlex.split(line)]
 WORDS = [shlex.split(line) for line in ROWS['words']]
 OPTIONS = ('--history', '--central', '--deck', '--reader', '--printer', '--panel', '--help', '-h', '--', '-', '--deck\n')
-VALUES = ('1', '10000', '10001', '32', '128', '0', '7', '12', '13', '14', 'deck', 'panel', 'script', 'absent', '.', '', '-', '--', '-\n', '\n', ' ', '=',
-          'a=b', '\u00e9', '7\n', '+1', '08', '1_0', '\u0661')
+VALUES = ('1', '10000', '10001', '32', '128', '0', '7', '12', '13', '14', 'deck', 'panel', 'script', 'absent', '.', '', '-', '--',
+          '-\n', '\n', ' ', '=', 'a=b', '\u00e9', '7\n', '+1', '08', '1_0', '\u0661')
 
 
 def word_line(seed):

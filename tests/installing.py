@@ -1,8 +1,9 @@
 """What the transcripts of tests/packages need of Python.
 
-    python3 -m tests.installing checkout FOLDER   copies this checkout with one crate and the program under test in dist/, and commits it
-    python3 -m tests.installing links FOLDER      prints the links of all pages below a folder that lead to no file, and the links in it
-                                                  that lead out of it or nowhere
+    python3 -m tests.installing checkout FOLDER   copies this checkout with one crate and the program under test in dist/, and
+                                                  commits it
+    python3 -m tests.installing links FOLDER      prints the links of all pages below a folder that lead to no file, and the links
+                                                  in it that lead out of it or nowhere
 """
 
 import hashlib
@@ -46,19 +47,21 @@ def leads_inside(path, top):
 
 def checkout(folder):
     """Copies this checkout, and commits it at a fixed time."""
-    shutil.copytree(TOP, folder, symlinks=True, ignore=shutil.ignore_patterns("out", ".git", "__pycache__", "tests", "crates", "definitions.html"))
+    shutil.copytree(TOP, folder, symlinks=True,
+                    ignore=shutil.ignore_patterns("out", ".git", "__pycache__", "tests", "crates", "definitions.html"))
     for name in ("src", "specs", "proofs"):
         shutil.copytree(os.path.join(TOP, "crates", "pp_arith", name), os.path.join(folder, "crates", "pp_arith", name))
     write(os.path.join(folder, HEADER), read(HEADER))
     write(os.path.join(folder, "docs", "definitions.py"), MAKES_PAGE)  # the crates that are left out have the definitions
     shutil.copyfile(program(), os.path.join(folder, "dist", "pp6600"))
     os.chmod(os.path.join(folder, "dist", "pp6600"), 0o755)
-    sums = "".join(f"{'program' if name == 'pp6600' else name} {hashlib.sha256(part(folder, f'dist/{name}')).hexdigest()}\n"
+    sums = "".join(f"{name} {hashlib.sha256(part(folder, f'dist/{name}')).hexdigest()}\n"
                    for name in sorted(os.listdir(os.path.join(folder, "dist"))) if name != "sources")
     checksum = alone("share/which-build", "--checksum", cwd=folder).out
     write(os.path.join(folder, "dist", "sources"), f"{sums}sources {checksum}kit of these tests\n")
     fixed = {"GIT_COMMITTER_DATE": "2026-01-02T03:04:05Z", "GIT_AUTHOR_DATE": "2026-01-02T03:04:05Z"}
-    for words in (("init", "-q"), ("-c", "core.looseCompression=0", "add", "-A"), ("-c", "user.name=tests", "-c", "user.email=tests@localhost", "commit", "-q", "-m", "tests")):
+    for words in (("init", "-q"), ("-c", "core.looseCompression=0", "add", "-A"),
+                  ("-c", "user.name=tests", "-c", "user.email=tests@localhost", "commit", "-q", "-m", "tests")):
         subprocess.run(["git", *words], cwd=folder, env={**os.environ, **fixed}, check=True)
 
 

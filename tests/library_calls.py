@@ -1,5 +1,5 @@
-"""Random sequences of the library's calls, with what the page LIBRARY and the header say of each: which status, what is written, and that
-nothing else changes. The simulator in plain Python is at the same machine, and the records of turns are put back here.
+"""Random sequences of the library's calls, with what the page LIBRARY and the header say of each: which status, what is written,
+and that nothing else changes. The simulator in plain Python is at the same machine, and the records of turns are put back here.
 
     python3 -m tests.library_calls [SEQUENCES]     runs so many (decimal), with the library of dist/
 """
@@ -31,11 +31,8 @@ GUARD = bytes(range(200, 232))  # before and behind each buffer
 PATTERN = bytes(range(1, 251))  # what is in a buffer before a call
 TYPES = {"u8": ctypes.c_uint8, "u32": ctypes.c_uint32, "size": ctypes.c_uint64}
 BOUNDS = (0, 1, 2, 2 ** 31, 2 ** 32 - 1)
-# How many bits of its numbers each call takes, in the order of the header.
-NUMBERS = {"open": [32, 32, 8, 8], "numbers": [32], "turns": [32], "origins": [32], "again": [32], "looks": [32, 32], "until": [32],
-           "form": [32, 32, 64, 64], "back": [32], "forward": [32], "assemble": [32], "assemble_with": [32], "load_lines": [32],
-           "disassemble": [16, 16, 16], "text_of_status": [32], "last_write": [32, 32], "instruction": [32]}
-SOURCES = (b"", b"          LDN    5\n", b"          ORG    100B\nSTART     LDN    5\n          UJN    START\n          END    START\n")
+SOURCES = (b"", b"          LDN    5\n",
+           b"          ORG    100B\nSTART     LDN    5\n          UJN    START\n          END    START\n")
 FAULTY = (b"          LDN    LATER\n", b"A         LDN    5\nA         LDN\n")
 FILES = ((b"", ""), (b"1\n8\n", "DECK LINE 2 NOT OCTAL"), (b"1\n" * 2001, "DECK TOO LONG"))
 
@@ -111,17 +108,19 @@ def sorted_turn(turn):
 
 # What is no condition: no such kind, place, count of places, processor or address; too many tests or alternatives.
 NO_CONDITIONS = (
-    *([Form(*one)] for one in ((7, 0), (2 ** 32 - 1, 0), (interface.INSIDE, PLACES), (interface.OUTSIDE, PLACES), (interface.CHANGES, PLACES - 1, 2),
+    *([Form(*one)] for one in ((7, 0), (2 ** 32 - 1, 0), (interface.INSIDE, PLACES), (interface.OUTSIDE, PLACES),
+                               (interface.CHANGES, PLACES - 1, 2),
                                (interface.CHANGES, PLACES + 1), (interface.WRITES, 0, 2 ** 63), (interface.PERFORMS, 10),
                                (interface.PERFORMS, 0, 0o10000), (interface.WAITS, 10), (interface.WAITS, 2 ** 32 - 1))),
     [Form(interface.OR)] * 64, [Form(interface.INSIDE, 0)] * 9)
 
 
 def last_write(model, first, count):
-    """Returns the newest action of a session that wrote one of some places: how many are newer, and its origins; those of another action
-    than a turn are not known, and its processor is 10. Returns None if there is none."""
+    """Returns the newest action of a session that wrote one of some places: how many are newer, and its origins; those of another
+    action than a turn are not known, and its processor is 10. Returns None if there is none."""
     history, ahead, wanted = model.machine.history, model.machine.ahead, range(first, first + count)
-    newer = next((newer for newer, record in enumerate(reversed(history)) if any(flat_place(place) in wanted for place in record)), None)
+    newer = next((newer for newer, record in enumerate(reversed(history)) if any(flat_place(place) in wanted for place in record)),
+                 None)
     if newer is None or places.SLOT not in history[-1 - newer] or len(history[-1 - newer]) > MOST_TURN_LINKS:
         return None if newer is None else (newer, Origins(10, 0, 0, 0, []))
     model.back(newer + 1)
@@ -139,10 +138,10 @@ class Sequence:
     def __init__(self, native, seed):
         self.native, self.choose = native, random.Random(seed)
         self.models, self.seed = [None] * 3, seed
-        self.actions = [(self.open, 3), (self.answer, 6), (self.numbers, 3), (self.counts, 2), (self.turns, 5), (self.again, 4), (self.looks, 3),
-                        (self.origins, 3), (self.next_origins, 2), (self.until, 4), (self.back_until, 3), (self.last_write, 3),
-                        (self.back, 3), (self.forward, 2),
-                        (self.close, 1), (self.about, 1), (self.assembler, 1), (self.cells, 1)]
+        self.actions = [(self.open, 3), (self.answer, 6), (self.numbers, 3), (self.counts, 2), (self.turns, 5), (self.again, 4),
+                        (self.looks, 3), (self.columns, 3), (self.origins, 3), (self.next_origins, 2), (self.until, 4),
+                        (self.back_until, 3), (self.last_write, 3), (self.back, 3), (self.forward, 2), (self.close, 1),
+                        (self.about, 1), (self.assembler, 1), (self.cells, 1)]
 
     def run(self, calls=30):
         for handle in (0, 1):
@@ -167,7 +166,8 @@ class Sequence:
         if not self.models[handle]:
             return None
         into = (ctypes.c_uint64 * PLACES)()
-        assert self.native.library.pp6600_numbers(ctypes.byref(self.native.handles[handle]), 0, into, ctypes.c_size_t(PLACES)) == DONE
+        assert self.native.library.pp6600_numbers(ctypes.byref(self.native.handles[handle]), 0, into,
+                                                  ctypes.c_size_t(PLACES)) == DONE
         return array("Q", bytes(into))
 
     def check_machine(self, handle):
@@ -177,8 +177,8 @@ class Sequence:
         assert found[interface.CENTRAL:] == array("Q", model.numbers(interface.CENTRAL, CENTRAL))
 
     def made(self, handle, name, *given, is_wrong=False, wrong=REFUSED):
-        """Makes a call of a session. Returns its status; None if the handle has no session, or what is given is wrong. Then the call says
-        so, and changes nothing."""
+        """Makes a call of a session. Returns its status; None if the handle has no session, or what is given is wrong. Then the
+        call says so, and changes nothing."""
         status = self.native.call(name, handle, *given)
         if self.models[handle] and not is_wrong:
             assert status != CLOSED
@@ -198,15 +198,18 @@ class Sequence:
         if wrong == "deck":
             deck, line = self.choose.choice(FILES[1:])
         reader = self.choose.choice((12, 255)) if wrong == "reader" else 11 if wrong == "same" else reader
-        line = {"history": "BAD ARGUMENTS", "central": "BAD ARGUMENTS", "reader": "BAD CHANNEL", "same": "SAME CHANNEL"}.get(wrong, line)
+        lines = {"history": "BAD ARGUMENTS", "central": "BAD ARGUMENTS", "reader": "BAD CHANNEL", "same": "SAME CHANNEL"}
+        line = lines.get(wrong, line)
         wanted = f"pp6600: {line}".encode()
         text, count, exits = self.outs(self.room(len(wanted)), 8, 4)
         cards = Memory(deck)
         status = self.native.call("open", ("u32", history), ("u32", central), ("u8", reader), ("u8", 11), cards, size(len(deck)),
                                   Memory(b""), size(0), handle, text, size(len(text.old)), count, exits)
         if self.models[handle] or not wrong:
-            assert status == (OPEN if self.models[handle] else DONE) and text.is_same and count.is_same and exits.is_same and cards.is_same
-            self.models[handle] = self.models[handle] or PlainEngine(["--history", f"{history}", "--central", "32", "--reader", "12", "--printer", "13"])
+            assert status == (OPEN if self.models[handle]
+                              else DONE) and text.is_same and count.is_same and exits.is_same and cards.is_same
+            self.models[handle] = (self.models[handle] or PlainEngine(
+                ["--history", f"{history}", "--central", "32", "--reader", "12", "--printer", "13"]))
         else:
             assert (status, exits.number(), text_of(text, count)) == (REFUSED, 2, wanted[:len(text.old)])
 
@@ -216,7 +219,8 @@ class Sequence:
 
     def answer(self, handle, typed=None):
         model = self.models[handle]
-        lines = typed if typed is not None else self.choose.choice((b"", b"DUMP PP 0\n", b"DUMP CR\nSTEP\n", b"\n* a note\n\nSTEP 3", b"junk\nSTEP\n", self.script()))
+        lines = (typed if typed is not None else self.choose.choice(
+            (b"", b"DUMP PP 0\n", b"DUMP CR\nSTEP\n", b"\n* a note\n\nSTEP 3", b"junk\nSTEP\n", self.script())))
         room = self.choose.choice((0, 1, 38, 47, 48, 95, 96, 200, 4000)) if typed is None else 1 << 16
         into, taken, count, made, refused = self.outs(room, 8, 8, 4, 4)
         status = self.made(handle, "answer", Memory(lines), size(len(lines)), into, size(room), taken, count, made, refused)
@@ -226,18 +230,22 @@ class Sequence:
         assert not rest or not done or done.endswith(b"\n")
         answers = model.answers(done.decode("latin-1"))
         assert into.new[:count.number()] == "".join(f"{line}\n" for line in answers).encode()
-        assert (made.number(), refused.number()) == (len(done.splitlines()) if b"\r" not in done else done.count(b"\n") + (not done.endswith(b"\n")),
+        assert (made.number(), refused.number()) == (len(done.splitlines()) if b"\r" not in done
+                                                     else done.count(b"\n") + (not done.endswith(b"\n")),
                                                      sum(line.startswith("ERR") for line in answers))
         assert status == (ROOM if rest else DONE), status
         left = room - count.number()
         if rest:
             line = rest.split(b"\n")[0]
-            needs = len("".join(f"{one}\n" for one in model.answers(line.decode("latin-1")))) if line.upper().strip().startswith(b"DUMP") else ANY_LINE
+            needs = (len("".join(f"{one}\n" for one in model.answers(line.decode("latin-1"))))
+                     if line.upper().strip().startswith(b"DUMP") else ANY_LINE)
             assert left < needs
 
     def numbers(self, handle):
-        first = self.choose.choice((0, 40960, interface.SLOT, PLACES - 1, PLACES, PLACES + 1, 2 ** 32 - 1, self.choose.randrange(PLACES)))
-        count = self.choose.choice((0, 1, 40, max(PLACES - first, 0), max(PLACES - first, 0) + 1, 2 ** 32, 2 ** 61, 2 ** 63, 2 ** 64 - 1))
+        first = self.choose.choice(
+            (0, 40960, interface.SLOT, PLACES - 1, PLACES, PLACES + 1, 2 ** 32 - 1, self.choose.randrange(PLACES)))
+        count = self.choose.choice(
+            (0, 1, 40, max(PLACES - first, 0), max(PLACES - first, 0) + 1, 2 ** 32, 2 ** 61, 2 ** 63, 2 ** 64 - 1))
         count = count if count <= 40 or count > PLACES - first else 40
         into, = self.outs(8 * min(count, 64))
         status = self.made(handle, "numbers", ("u32", first), into, size(count), is_wrong=first + count > PLACES)
@@ -277,14 +285,16 @@ class Sequence:
 
     def origins(self, handle):
         most, model = self.choose.choice((0, 1, 3, 30, 2 ** 32 - 1)), self.models[handle]
-        rooms = self.choose.choice((0, 1, 5, 30)), self.choose.choice((0, 43, 44, 45, 300)), self.choose.choice((0, 75, 76, 77, 300))
+        rooms = (self.choose.choice((0, 1, 5, 30)), self.choose.choice((0, 43, 44, 45, 300)),
+                 self.choose.choice((0, 75, 76, 77, 300)))
         made, links, olds, turns, linked, used = self.outs(*(each * room for each, room in zip((16, 24, 16), rooms)), 8, 8, 8)
         status = self.made(handle, "origins", ("u32", most), made, size(rooms[0]), links, size(rooms[1]), olds, size(rooms[2]),
                            turns, linked, used)
         if status is None:
             return
         wanted, filled, pairs, is_watched = [], 0, 0, False
-        while len(wanted) < min(most, rooms[0]) and rooms[1] - filled >= MOST_TURN_LINKS and rooms[2] - pairs >= MOST_OLDS and not is_watched:
+        while (len(wanted) < min(most, rooms[0]) and rooms[1] - filled >= MOST_TURN_LINKS and rooms[2] - pairs >= MOST_OLDS
+               and not is_watched):
             (turn,), records = model.origins(1)
             wanted.append(turn._replace(control=()))  # which the call does not write
             one = Made.from_buffer_copy(made.new, 16 * len(wanted) - 16)
@@ -347,12 +357,14 @@ class Sequence:
 
     @staticmethod
     def is_turn(model):
-        """Returns whether the newest action is a turn: it alone changes the slot, but for a dead start, which sets the first cells too."""
+        """Returns whether the newest action is a turn: it alone changes the slot, but for a dead start, which sets the first cells
+        too."""
         newest = model.machine.history[-1]
         return places.SLOT in newest and not all(places.P + processor in newest for processor in range(10))
 
     def looks(self, handle):
-        chosen = self.choose.choice(([], [0] * 17, [PLACES], [0, 2 ** 32 - 1], [40960, 40970], [interface.SLOT], [self.choose.randrange(40960) for _ in range(16)]))
+        chosen = self.choose.choice(([], [0] * 17, [PLACES], [0, 2 ** 32 - 1], [40960, 40970], [interface.SLOT],
+                                     [self.choose.randrange(40960) for _ in range(16)]))
         most, room = self.choose.choice((0, 1, 3, 30)), self.choose.choice((0, 1, max(len(chosen) - 1, 0), 3 * len(chosen), 100))
         given, into, turns = Memory(array("I", chosen).tobytes()), *self.outs(8 * room, 8)
         status = self.made(handle, "looks", ("u32", most), given, size(len(chosen)), into, size(room), turns,
@@ -364,7 +376,26 @@ class Sequence:
             is_watched = model.records(1).is_watched
             rows.append([model.numbers(place, 1)[0] for place in chosen])
         assert status == (WATCHED if is_watched else ROOM if len(rows) < most else DONE)
-        assert turns.number() == len(rows) and list(into.words("Q")[:len(rows) * len(chosen)]) == [number for row in rows for number in row]
+        assert (turns.number() == len(rows) and list(into.words("Q")[:len(rows) * len(chosen)]) ==
+                [number for row in rows for number in row])
+        self.check_machine(handle)
+
+    def columns(self, handle):
+        most, room = self.choose.choice((0, 1, 3, 30, 2 ** 32 - 1)), self.choose.choice((0, 1, 5, 40))
+        rows, turns = self.outs(16 * room, 8)
+        status = self.made(handle, "columns", ("u32", most), rows, size(room), turns)
+        if status is None:
+            return
+        model, wanted, is_watched = self.models[handle], [], False
+        while len(wanted) < min(most, room) and not is_watched:
+            slot, = model.numbers(interface.SLOT, 1)
+            p, a, q, phase = (model.numbers(first + slot, 1)[0]
+                              for first in (interface.P, interface.A, interface.Q, interface.PHASE))
+            cells = model.numbers(4096 * slot, 4096)
+            wanted.append((slot, p, a, q, phase, cells[p], cells[(p + 1) % 4096]))
+            is_watched = model.records(1).is_watched
+        assert status == (WATCHED if is_watched else ROOM if len(wanted) < most else DONE)
+        assert turns.number() == len(wanted) and [*struct.iter_unpack("<HHIHHHH", rows.new[:16 * len(wanted)])] == wanted
         self.check_machine(handle)
 
     def forms(self, handle):
@@ -407,7 +438,8 @@ class Sequence:
         choose = self.choose
         first = choose.choice((0, interface.SLOT, PLACES - 1, PLACES, PLACES + 1, 2 ** 32 - 1,
                                choose.randrange(interface.A, interface.CARD)))
-        count = choose.choice((0, 1, 1, 5, interface.A, 2 ** 32 - 1)) if first < interface.CARD else choose.choice((0, 1, 2, 2 ** 32 - 1))
+        count = (choose.choice((0, 1, 1, 5, interface.A, 2 ** 32 - 1)) if first < interface.CARD
+                 else choose.choice((0, 1, 2, 2 ** 32 - 1)))
         room = choose.choice((0, 43, 44, 45))
         newer, turn, links = outs = self.outs(4, 16, 24 * room)
         status = self.made(handle, "last_write", ("u32", first), ("u32", count), newer, turn, links, size(room))
@@ -508,7 +540,8 @@ class Sequence:
         cells = [(address, self.choose.randrange(0o10000)) for address in addresses]
         if wrong:
             cells.append({"word": (0o7777 - addresses[0], 0o10000), "address": (0o177777, 0), "twice": (addresses[0], 5)}[wrong])
-        given, entries = Memory(b"".join(struct.pack("<HHI", *cell, 0) for cell in cells)), Memory(struct.pack("<2H", 0o100, 0o177777))
+        given, entries = (Memory(b"".join(struct.pack("<HHI", *cell, 0) for cell in cells)),
+                          Memory(struct.pack("<2H", 0o100, 0o177777)))
         status = self.text("disassemble", (given, size(len(cells)), entries, size(2)))
         assert status == (REFUSED if wrong else DONE)
 
@@ -532,15 +565,22 @@ def last_byte(memory):
 SLIPS = {
     "a text without room is written": ("", None, lambda native, given, status: DONE if status == ROOM else status),
     "an answer has a byte more": ("answer", None, lambda native, given, status: next_number(memories(given)[-3]) or status),
-    "a closed handle's call writes": ("", None, lambda native, given, status: status == CLOSED and [*map(next_number, memories(given)[-1:])] and status or status),
-    "what is rejected writes": ("", None, lambda native, given, status: status == REFUSED and [*map(next_number, memories(given)[-1:])] and status or status),
-    "a record has another number": ("turns", None, lambda native, given, status: memories(given)[-1].number() in range(1, 300) and change_old(given) or status),
+    "a closed handle's call writes": ("", None, lambda native, given, status: status == CLOSED
+                                      and [*map(next_number, memories(given)[-1:])] and status or status),
+    "what is rejected writes": ("", None, lambda native, given, status: status == REFUSED
+                                and [*map(next_number, memories(given)[-1:])] and status or status),
+    "a record has another number": ("turns", None, lambda native, given, status: memories(given)[-1].number() in range(1, 300)
+                                    and change_old(given) or status),
     "a turn is left out": ("turns", lambda given: [given[0], less(given[1]), *given[2:]], None),
+    "a row has another word": ("columns", None, lambda native, given, status: memories(given)[-1].number() in range(1, 41)
+                               and last_word(given) or status),
     "a text has more behind it": ("disassemble", None, lambda native, given, status: last_byte(memories(given)[-2]) or status),
     "another session changes": ("answer", None, lambda native, given, status: change_other(native, given) or status),
     "back goes one action less": ("back", lambda given: [given[0], less(given[1])], None),
-    "numbers are of the next place": ("numbers", lambda given: [given[0], ("u32", min(given[1][1] + 1, PLACES - 1)), *given[2:]], None),
-    "a number is written behind the buffer": ("numbers", lambda given: [*given[:-1], ("size", given[-1][1] + (0 < given[-1][1] < 64))], None),
+    "numbers are of the next place": (
+    "numbers", lambda given: [given[0], ("u32", min(given[1][1] + 1, PLACES - 1)), *given[2:]], None),
+    "a number is written behind the buffer": (
+    "numbers", lambda given: [*given[:-1], ("size", given[-1][1] + (0 < given[-1][1] < 64))], None),
     "counts are those of before": ("counts", None, lambda native, given, status: next_number(memories(given)[1]) or status),
 }
 
@@ -556,11 +596,17 @@ def change_old(given):
         olds.new[:16 * used - 8] + bytes([1]) + olds.new[16 * used - 7:]
 
 
+def last_word(given):
+    """Changes a bit of the last row."""
+    rows, end = given[2], 16 * given[-1].number()
+    rows.new = rows.new[:end - 1] + bytes([rows.new[end - 1] ^ 1]) + rows.new[end:]
+
+
 def change_other(native, given):
     """Performs a line in the other session."""
     line, room, outs = b"SET A 0 1234\n", ctypes.create_string_buffer(64), [ctypes.c_uint64() for _ in range(4)]
-    native.library.pp6600_answer(ctypes.byref(native.handles[1 - given[0] % 2]), line, ctypes.c_size_t(len(line)), room, ctypes.c_size_t(64),
-                                 *map(ctypes.byref, outs))
+    native.library.pp6600_answer(ctypes.byref(native.handles[1 - given[0] % 2]), line, ctypes.c_size_t(len(line)), room,
+                                 ctypes.c_size_t(64), *map(ctypes.byref, outs))
 
 
 def slipping(name):

@@ -62,7 +62,8 @@ class Timeline:
         asked += [f"DUMP M {number:o} {first:o} {last:o}" for number, first, last in self.looks]
         lines = [*asked, *(line for action in self.actions for line in (action, *asked)), "DUMP CR"]
         console = Console(self.words)
-        answers = [line for line in itertools.chain.from_iterable(console.ask_each(lines)) if line[:2] not in ("OK", "TU", "HI", "CR")]
+        answers = [line for line in itertools.chain.from_iterable(console.ask_each(lines))
+                   if line[:2] not in ("OK", "TU", "HI", "CR")]
         console.end()
         size = len(answers) // (len(self.actions) + 1)
         self.states = [State(answers[at:at + size], self.looks) for at in range(0, len(answers), size)]

@@ -4,8 +4,8 @@ A block begins with == and what it shows. Its other lines:
   NAME| TEXT    a line of a file; those before the first block are for all
   $ panel ..    a panel begins, with options of the tool, --size COLUMNSxROWS and <FILE, whose lines it performs
   > LINE        one more line that it performs
-  : KEYS        keys that are pressed: characters, and names in angles; then may come turn=N, run=FILE, at=PLACE of the cursor, and what
-                they send, as -> STEP, STEP. With a FILE the machine is that of a run of its lines up to this turn
+  : KEYS        keys that are pressed: characters, and names in angles; then may come turn=N, run=FILE, at=PLACE of the cursor, and
+                what they send, as -> STEP, STEP. With a FILE the machine is that of a run of its lines up to this turn
   again: KEYS   the same, of a new panel that begins as the last one
 After the beginning and after keys:
   |TEXT         a row of the screen has this text; the next such line is of the row below
@@ -21,7 +21,8 @@ import os
 import re
 
 from tests.cases import files_in, marked, part, stored_blocks
-from tests.support import EXAMPLES, TOP, Case, program, write
+from tests.steps import StepCase
+from tests.support import Case, program
 
 from pp6600.front.panel.app import Panel
 from pp6600.front.panel.logged_session import LoggedSession
@@ -55,8 +56,8 @@ class PanelCase(Case):
     """A test of panels without a terminal."""
 
     def panel(self, script="", *options, size=(80, 24), turn=None, symbols=(), sources=(), devices=()):
-        """Returns a panel that has performed a script, up to a turn if there is one. Symbols and sources are pairs of a processor and
-        a path."""
+        """Returns a panel that has performed a script, up to a turn if there is one. Symbols and sources are pairs of a processor
+        and a path."""
         names = symbols_from(*([(f"{number:o}", path) for number, path in pairs] for pairs in (symbols, sources)))
         panel = Panel(LoggedSession([PROGRAM, *options], devices), names)
         self.addCleanup(panel.session.close)
@@ -102,41 +103,40 @@ def options():
     return parser
 
 
-class BlockCase(PanelCase):
-    """Tests of blocks, each in a folder of its own."""
+class BlockCase(PanelCase, StepCase):
+    """Tests of blocks."""
 
-    def check(self, lines):
+    def begin(self, lines):
         self.addCleanup(os.chdir, os.getcwd())
         os.chdir(self.folder)
-        os.symlink(EXAMPLES, "examples")
-        os.symlink(os.path.join(TOP, "tests"), "tests")
-        for name, text in files_in(lines, FILES).items():
-            write(self.path(name), text)
-        self.perform([line for line in lines if line[0] == "|" or line[0][-1:] != "|"])
+        self.place(files_in(lines, FILES), "examples", "tests")
 
-    def perform(self, lines):
-        """Performs the lines of a block: each panel and each of its keys with what is expected after them."""
+    def steps(self, lines):
+        """Returns each panel and its keys, with what is expected after them."""
+        lines = [line for line in lines if line[0] == "|" or line[0][-1:] != "|"]
         steps = [at for at, (mark, _) in enumerate(lines) if mark in ("$ panel", ":", "again:")]
-        for first, last in zip(steps, [*steps[1:], len(lines)]):
-            (mark, text), expected = lines[first], lines[first + 1:last]
-            if mark == "$ panel":
-                words, script = text.split(), [line for own, line in expected if own == ">"]
-            if mark != ":":
-                panel = self.begun(words, script)
-            with self.subTest(f"{mark} {text}"):
-                keys, turn, run, place, sent = KEYS.fullmatch(text if mark != "$ panel" else "").groups()
-                before = len(panel.session.sent)
-                self.compare(press(panel, keys), panel.is_ended, expected)
-                self.assertIn(turn and int(turn, 8), (None, panel.session.simulator.turn), "the turn")
-                if run:
-                    self.assert_same(self.panel("\n".join(lines_up_to(int(turn, 8), part(self.folder, run).decode()))), panel)
-                self.assertIn(place, (None, panel.view.cursor.short))
-                self.assertIn(sent and sent.strip(), (None, ", ".join(panel.session.sent[before:])))
+        return [(lines[first], lines[first + 1:last]) for first, last in zip(steps, [*steps[1:], len(lines)])]
+
+    def check_step(self, step, expected):
+        mark, text = step
+        if mark == "$ panel":
+            self.begun_by = text.split(), [line for own, line in expected if own == ">"]
+        if mark != ":":
+            self.shown = self.begun(*self.begun_by)
+        panel, before = self.shown, len(self.shown.session.sent)
+        keys, turn, run, place, sent = KEYS.fullmatch(text if mark != "$ panel" else "").groups()
+        self.compare(press(panel, keys), panel.is_ended, expected)
+        self.assertIn(turn and int(turn, 8), (None, panel.session.simulator.turn), "the turn")
+        if run:
+            self.assert_same(self.panel("\n".join(lines_up_to(int(turn, 8), part(self.folder, run).decode()))), panel)
+        self.assertIn(place, (None, panel.view.cursor.short))
+        self.assertIn(sent and sent.strip(), (None, ", ".join(panel.session.sent[before:])))
 
     def begun(self, words, script):
         """Returns the panel of a command."""
         asked, rest = options().parse_known_args([word for word in words if word[0] != "<"])
-        lines = "".join(part(self.folder, word[1:]).decode() for word in words if word[0] == "<") + "".join(f"{line}\n" for line in script)
+        lines = ("".join(part(self.folder, word[1:]).decode() for word in words if word[0] == "<")
+                 + "".join(f"{line}\n" for line in script))
         pairs = [[(int(number, 8), path) for number, path in some] for some in (asked.symbols, asked.source)]
         return self.panel(lines, *rest, size=asked.size, turn=asked.turn, symbols=pairs[0], sources=pairs[1], devices=asked.device)
 

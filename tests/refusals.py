@@ -1,11 +1,11 @@
 #!/usr/bin/env python3
 """Judges why each mutant is refused, by what rt ci or rt must-fail printed: tests/refusals.py [FILE [CRATE ..]]
 
-It reads FILE, or standard input (-), and wants a line for each mutant, crates/CRATE/must-fail/NAME.edit, of every crate or of these.
-A mutant counts as refused if the first error that rt shows is a goal of the code, or an answer of a proof that no longer follows.
-These fail: a mutant that is not refused, not tried, or cannot be applied or read; one that only met a limit of the prover; one for
-which a proof only names what is gone; and one that only renames. Such a refusal says nothing of the contract. rt prints the line of
-a refusal that it kept from an earlier run again, so each run judges all. The last line is 'N passed, M failed'.
+It reads FILE, or standard input (-), and wants a line for each mutant, crates/CRATE/must-fail/NAME.edit, of every crate or of
+these. A mutant counts as refused if the first error that rt shows is a goal of the code, or an answer of a proof that no longer
+follows. These fail: a mutant that is not refused, not tried, or cannot be applied or read; one that only met a limit of the prover;
+one for which a proof only names what is gone; and one that only renames. Such a refusal says nothing of the contract. rt prints the
+line of a refusal that it kept from an earlier run again, so each run judges all. The last line is 'N passed, M failed'.
 """
 
 import sys

@@ -2,10 +2,10 @@
 
     python3 -m tests.slips [NAME ..]
 
-tests/slips.txt has the slips. A slip is found if a worked row no longer holds, if an example of docs/examples.txt has another value,
-or if a session no longer has the outcome that the program has. The sessions are those of docs/chosen.txt, of tests/cases.txt and random
-ones. It takes some minutes. That all are found says that docs/evaluate reads these definitions. It does not say how likely any slip is
-found: some sessions were chosen for these.
+tests/slips.txt has the slips. A slip is found if a worked row no longer holds, if an example of docs/examples.txt has another
+value, or if a session no longer has the outcome that the program has. The sessions are those of docs/chosen.txt, of tests/cases.txt
+and random ones. It takes some minutes. That all are found says that docs/evaluate reads these definitions. It does not say how
+likely any slip is found: some sessions were chosen for these.
 """
 
 import concurrent.futures
@@ -83,7 +83,8 @@ def with_outcome(case):
 def sessions():
     """Returns the sessions with the outcomes that the program has, the shortest kind first."""
     sources = [source for source in chosen(read("docs", "chosen.txt")) if not source.text]
-    found = [Stored(f"session {number} of docs/chosen.txt", one.words, one.script, one.files) for number, one in enumerate(sources, 1)]
+    found = [Stored(f"session {number} of docs/chosen.txt", one.words, one.script, one.files)
+             for number, one in enumerate(sources, 1)]
     found += [case for case in stored() if not case.how and case.name != "ten-thousand-kept"]
     return list(map(with_outcome, [*found, *itertools.islice(random_cases(MOST_TURNS), RANDOM)]))
 

@@ -32,8 +32,10 @@ LIBRARY = os.environ.get("PP6600_ENGINE") or os.path.join(TOP, "dist", f"libpp66
 PROVED = LIBRARY if os.path.exists(LIBRARY) else ""
 if not PROVED:
     os.environ.setdefault("PP6600_ENGINE", "plain")
-at = [path.endswith("-packages") for path in [*sys.path, "-packages"]].index(True)  # behind Python's own modules
-sys.path.insert(at, os.path.join(TOP, "tools"))  # so that tests can import the tools' package, pp6600
+TOOLS_FOLDER = os.path.join(TOP, "tools")
+with open(os.path.join(TOOLS_FOLDER, "pp6600", "own.py"), encoding="ascii") as own:
+    exec(own.read())
+find_first(pp6600=TOOLS_FOLDER)  # so that tests can import the tools' package
 
 
 def needs_library():
@@ -73,14 +75,15 @@ def run(*words, script="", env=None, encoding="utf-8", **how):
 
 def tool(name, *words, script="", **how):
     """Runs a tool on a script: in this process, or in one of its own if it is said how."""
-    return run(*PYTHON, os.path.join(TOP, "tools", name), *words, script=script, **how) if how else tool_here(name, *words, script=script)
+    return (run(*PYTHON, os.path.join(TOP, "tools", name), *words, script=script, **how) if how
+            else tool_here(name, *words, script=script))
 
 
 @functools.lru_cache(maxsize=None)
 def pack_once():
     """Lets the parts that all films have be packed once, which takes longest of making one."""
     from pp6600.front.film import page
-    page.packed, page.joined = (functools.lru_cache(maxsize=32)(one) for one in (page.packed, page.joined))
+    page.packed, page.joined_with_shared = (functools.lru_cache(maxsize=32)(one) for one in (page.packed, page.joined_with_shared))
 
 
 def tool_here(name, *words, **how):
@@ -96,7 +99,8 @@ def called(task, *words, script="", folder=TOP, is_one=False):
     """Calls what a program does with these words, in this process, with streams of its own; the two that are written may be one."""
     streams, before, here, path = (sys.stdin, sys.stdout, sys.stderr), sys.argv, os.getcwd(), [*sys.path]
     handler, named, status = signal.getsignal(signal.SIGINT), os.environ.get("PP6600"), None
-    made = [io.TextIOWrapper(io.BytesIO(data), encoding="utf-8", write_through=True) for data in (script.encode("latin-1"), b"", b"")]
+    made = [io.TextIOWrapper(io.BytesIO(data), encoding="utf-8", write_through=True)
+            for data in (script.encode("latin-1"), b"", b"")]
     made[2] = made[1 if is_one else 2]
     sys.argv, os.environ["PP6600"] = list(words), program()
     os.chdir(folder)

@@ -12,7 +12,8 @@ import time
 from tests.support import write
 
 PATIENCE = 300  # seconds; a program that works takes a few, and more where the machine is busy
-OPTIONS = "set -g status off\nset -g remain-on-exit on\nset -g remain-on-exit-format ''\nset -s escape-time 0\nset -s exit-empty off\n"
+OPTIONS = ("set -g status off\nset -g remain-on-exit on\nset -g remain-on-exit-format ''\nset -s escape-time 0\nset -s exit-empty "
+           "off\n")
 IS_HERE = shutil.which("tmux") is not None
 
 
@@ -24,7 +25,8 @@ class Terminal:
         atexit.register(self.close)  # an interrupt leaves no program behind
         self.socket = os.path.join(self.room.name, "socket")
         options, given = write(f"{self.socket}.options", OPTIONS), {"LC_ALL": "C.UTF-8", "TERM": kind, **(environment or {})}
-        self.server = subprocess.Popen(["tmux", "-D", "-u", "-S", self.socket, "-f", options])  # it ends with the tests, whatever ends them
+        # it ends with the tests, whatever ends them
+        self.server = subprocess.Popen(["tmux", "-D", "-u", "-S", self.socket, "-f", options])
         while not os.path.exists(self.socket) and self.server.poll() is None:
             time.sleep(0.01)
         self.tmux("new-session", "-d", "-x", f"{columns}", "-y", f"{rows}", "-c", folder,
@@ -34,7 +36,8 @@ class Terminal:
     def tmux(self, *words):
         """Performs a command of tmux, and returns what it writes."""
         begin, environment = ["tmux", "-u", "-S", self.socket], {**os.environ, "LC_ALL": "C.UTF-8"}
-        return subprocess.run([*begin, *words], env=environment, capture_output=True, text=True, timeout=PATIENCE, check=True).stdout
+        return subprocess.run([*begin, *words], env=environment, capture_output=True, text=True, timeout=PATIENCE,
+                              check=True).stdout
 
     def said(self, form):
         return self.tmux("display-message", "-p", form).removesuffix("\n")

@@ -1,12 +1,13 @@
-"""Tests that the artefacts of dist/ for other machines and other programs answer as the program does, byte for byte: the rows of test_scripts,
-the sessions of the pages, the stored cases, and 30 random sessions. What can't run here is skipped, and said. Those for Windows are in
-test_windows.
+"""Tests that the artefacts of dist/ for other machines and other programs answer as the program does, byte for byte: the rows of
+test_scripts, the sessions of the pages, the stored cases, and 30 random sessions. What can't run here is skipped, and said. Those
+for Windows are in test_windows.
 
 PP6600_ARTEFACTS names another folder than dist/."""
 
 import base64
 import concurrent.futures
 import functools
+import glob
 import hashlib
 import itertools
 import json
@@ -21,15 +22,16 @@ import subprocess
 import sys
 import tempfile
 
-from tests import browser, cases, library_calls
+from tests import browser, cases
 from tests.built import FOLDER, artefact, rows
 from tests.cases import Stored, part
 from tests.fixtures import sessions as sessions_of_pages
 from tests.generator import Maker
-from tests.support import EXAMPLES, PATIENCE, TOP, Case, program, read, write
-from tests.ways import CaseTests, outcome
+from tests.support import PATIENCE, TOP, Case, program, read, write
+from tests.ways import outcome, performed
 
 from pp6600.engine import library
+from pp6600.engine.arguments import NUMBERS
 from pp6600.engine.plain.lines import Rejected
 from pp6600.engine.plain.program import read_options, read_words
 
@@ -42,13 +44,6 @@ SONAME = "libpp6600.so.1"  # what is linked with a shared library asks for this 
 WARNINGS = "-Wall -Wextra -Wconversion -Wsign-conversion -Werror".split()
 
 
-def pages():
-    """Yields the sessions of the pages. The files that they name are those of examples/."""
-    for place, (words, script, _) in sessions_of_pages():
-        files = {word: part(EXAMPLES, word) for word in words if os.path.isfile(os.path.join(EXAMPLES, word))}
-        yield Stored(place, words, "".join(script).encode("latin-1"), files)
-
-
 def run_all(sessions, *command, **how):
     """Returns what each session comes to; as many run at a time as there are cores."""
     with concurrent.futures.ThreadPoolExecutor(CORES) as pool:
@@ -59,7 +54,8 @@ def run_all(sessions, *command, **how):
 def all_sessions():
     """Returns all sessions, and what the program comes to."""
     plain = [case for _, case in cases.named() if not case.how]
-    sessions = [*rows(), *pages(), *plain, *(Maker(f"artefacts {seed}").session().stored(f"random {seed}") for seed in range(RANDOM))]
+    sessions = [*rows(), *sessions_of_pages(), *plain,
+                *(Maker(f"artefacts {seed}").session().stored(f"random {seed}") for seed in range(RANDOM))]
     return sessions, run_all(sessions, program())
 
 
@@ -73,10 +69,12 @@ class Artefacts(Case):
 
     def check_all(self, name, sessions, wanted, found):
         differing = [session.name for session, one, other in zip(sessions, wanted, found) if one != other]
-        self.assertEqual((len(sessions), []), (len(found), differing), f"{name} differs from the program in {len(differing)} sessions")
+        self.assertEqual((len(sessions), []), (len(found), differing),
+                         f"{name} differs from the program in {len(differing)} sessions")
 
     def for_node(self, name):
-        """Returns the paths of a client in JavaScript, of the library and of the module, copied: node reads no path that is not UTF-8."""
+        """Returns the paths of a client in JavaScript, of the library and of the module, copied: node reads no path that is not
+        UTF-8."""
         paths = os.path.join(CLIENTS, name), os.path.join(WEB, "engine", "library.mjs"), artefact("pp6600.wasm")
         return [shutil.copy(path, self.folder) for path in paths]
 
@@ -96,19 +94,18 @@ class Programs(Artefacts):
         sessions, wanted = zip(*chosen)
         self.check_all(name, sessions, wanted, run_all(sessions, *command, artefact(name), **how))
 
-    def check_ways(self, name, *command, **how):
+    def check_ways(self, *command, leaves_out=()):
         """Runs the stored cases that are not run in the plain way: with streams that fail, or that end in a dialogue."""
-        words = shlex.join([*command, artefact(name)])
-        path = write(self.path("program"), f'#!/bin/sh\nexec {words} "$@"\n', mode=0o755)
+        path = write(self.path("program"), f'#!/bin/sh\nexec {shlex.join(command)} "$@"\n', mode=0o755)
         for case in cases.stored():
-            if case.how and case.how[0] != "file-size-limit":  # which is the launcher's to handle
+            if case.how and case.how[0] not in ("file-size-limit", *leaves_out):  # that limit is the launcher's to handle
                 with self.subTest(case.name):
-                    CaseTests.check(self, case, path)
+                    self.assertEqual((case.out, case.err, case.status), performed(case, self.room(), path))
 
     def test_static(self):
         self.on("x86_64")
         self.check("pp6600-static")
-        self.check_ways("pp6600-static")
+        self.check_ways(artefact("pp6600-static"))
 
     def test_static_in_an_empty_root(self):
         """With no file beside it but a script."""
@@ -118,7 +115,8 @@ class Programs(Artefacts):
         root = self.folder
         shutil.copy(artefact("pp6600-static"), os.path.join(root, "pp6600"))
         write(os.path.join(root, "script"), b"STEP\n")
-        done = subprocess.run(["/pp6600", "script"], preexec_fn=lambda: (os.chroot(root), os.chdir("/")), capture_output=True, check=False)
+        done = subprocess.run(["/pp6600", "script"],
+                              preexec_fn=lambda: (os.chroot(root), os.chdir("/")), capture_output=True, check=False)
         self.assertEqual((b"TURNS 1 SLOT 01\n", b"", 0), (done.stdout, done.stderr, done.returncode))
 
     def test_static_with_little_memory(self):
@@ -131,14 +129,27 @@ class Programs(Artefacts):
     def test_aarch64(self):
         runner = self.tool("qemu-aarch64", "qemu-aarch64-static")
         self.check("pp6600-aarch64", runner)
-        self.check_ways("pp6600-aarch64", runner)
+        self.check_ways(runner, artefact("pp6600-aarch64"))
+
+    def test_node_command(self):
+        """The program of the package for Node, by the module. Node opens a closed stream to nowhere, so that no write to it
+        fails."""
+        node, folder = self.tool("node", "nodejs"), self.room()
+        for path in (*glob.glob(os.path.join(TOP, "share", "nodejs", "*.mjs")), os.path.join(WEB, "engine", "library.mjs"),
+                     artefact("pp6600.wasm")):
+            shutil.copy(path, folder)
+        command, (sessions, wanted) = os.path.join(folder, "command.mjs"), all_sessions()
+        self.check_all("the package for Node", sessions, wanted, run_all(sessions, node, command))
+        self.check_ways(node, command, leaves_out=["closed-output"])
+        words = [os.fsencode(word) for word in (node, command, "--deck")] + [b"\xff"]
+        self.assertEqual(2, subprocess.run(words, stdin=subprocess.DEVNULL, capture_output=True, check=False).returncode)
 
 
 # ---- the library
 
 def options_of(session):
-    """Returns what the library is given for a session: seven numbers of 32 bits, and the bytes of the deck, the panel and the script.
-    Returns None if the words, or a file that they name, are not for it to judge."""
+    """Returns what the library is given for a session: seven numbers of 32 bits, and the bytes of the deck, the panel and the
+    script. Returns None if the words, or a file that they name, are not for it to judge."""
     try:
         given = read_words(session.words)
         options = read_options(given)
@@ -173,8 +184,8 @@ def answers_in(data):
 
 
 def answer_in_python(options, room):
-    """Runs one of the sessions in this process, with room for so many bytes of answers at a time. Returns the output, standard error and the
-    status, as of the program."""
+    """Runs one of the sessions in this process, with room for so many bytes of answers at a time. Returns the output, standard
+    error and the status, as of the program."""
     *machine, deck, panel, script = struct.unpack_from("<7I", options)
     files = options[28:28 + deck], options[28 + deck:28 + deck + panel]
     try:
@@ -188,7 +199,8 @@ def answer_in_python(options, room):
 
 def compiled(compiler, source, *words):
     """Compiles a file in C, without a warning."""
-    done = subprocess.run([compiler, "-O1", *WARNINGS, "-I", os.path.dirname(HEADER), source, *words], capture_output=True, text=True, check=False)
+    done = subprocess.run([compiler, "-O1", *WARNINGS, "-I", os.path.dirname(HEADER), source, *words], capture_output=True,
+                          text=True, check=False)
     if done.returncode or done.stderr:
         raise AssertionError(f"{compiler} {source}: {done.stderr}")
 
@@ -223,7 +235,8 @@ class Library(Artefacts):
     """The library for other systems and languages: tests/artefacts has a client in C and one in JavaScript, which do the same."""
 
     def check(self, name, answers, every=1):
-        """Checks the answers of a client beside those of the program, and all else that the calls returned beside the client in C."""
+        """Checks the answers of a client beside those of the program, and all else that the calls returned beside the client in
+        C."""
         sessions, wanted, _ = (some[::every] for some in sessions_of_library())
         self.check_all(name, sessions, wanted, answers_in(answers))
         if every == 1:
@@ -231,7 +244,8 @@ class Library(Artefacts):
 
     def test_python(self):
         sessions, wanted, options = sessions_of_library()
-        self.check_all("libpp6600.so by ctypes", sessions, wanted, tuple(map(answer_in_python, options, itertools.cycle((64, 4096, 1 << 20)))))
+        self.check_all("libpp6600.so by ctypes", sessions, wanted,
+                       tuple(map(answer_in_python, options, itertools.cycle((64, 4096, 1 << 20)))))
 
     def test_c(self):
         self.on("x86_64")
@@ -241,7 +255,8 @@ class Library(Artefacts):
 
     def test_aarch64(self):
         compiler, runner = self.tool("aarch64-linux-gnu-gcc"), self.tool("qemu-aarch64", "qemu-aarch64-static")
-        for name, linked, every in (("libpp6600-aarch64.so", SONAME, 1), ("libpp6600-aarch64.a", "libpp6600.a", 8)):  # one object, linked in two ways
+        # one object, linked in two ways
+        for name, linked, every in (("libpp6600-aarch64.so", SONAME, 1), ("libpp6600-aarch64.a", "libpp6600.a", 8)):
             client = client_in_c(self.folder, compiler, name, linked)
             self.check(name, answers_of(self.folder, runner, "-L", "/usr/aarch64-linux-gnu", client, every=every), every)
 
@@ -251,18 +266,28 @@ class Library(Artefacts):
     def test_node_memory(self):
         """The module refuses a size that it has no memory for, and its sessions don't touch each other."""
         shown = run_tool(self.tool("node", "nodejs"), *self.for_node("memory.js"))
-        self.assertEqual(["true true", "TURNS 1 SLOT 01 true", "true true true", "true", "pp6600.wasm: a line is too long TURNS 1 SLOT 01 1"],
+        self.assertEqual(["true true", "TURNS 1 SLOT 01 true", "true true true", "true", "true true true", "TURNS 1 SLOT 01",
+                          "pp6600.wasm: a line is too long TURNS 1 SLOT 01 1",
+                          'pp6600.wasm: no memory {"text":"OK\\nTURNS 1 SLOT 01\\n","lines":2,"refused":0} 2 TURNS 1 SLOT 02'],
                          shown.splitlines())
 
     def test_node_numbers(self):
         shown = run_tool(self.tool("node", "nodejs"), *self.for_node("numbers.js"),
-                         json.dumps(library_calls.NUMBERS))
+                         json.dumps({call: [*bits.values()] for call, bits in NUMBERS.items()}))
         self.assertRegex(shown, r"^true \d+\n$")
 
+    def test_node_wrong_arguments(self):
+        """Each of 2,000 calls with a wrong argument names it, and changes nothing."""
+        self.for_node("wrong_calls.js")
+        package = shutil.copy(os.path.join(TOP, "share", "nodejs", "pp6600.mjs"), self.folder)
+        shown = run_tool(self.tool("node", "nodejs"), self.path("wrong_calls.js"), package, "2000")
+        self.assertEqual("true 2000\n", shown)
+
     def test_node_is_told_what_is_wrong(self):
-        """A session of the module rejects a deck, a count and a place; it answers more lines than one call takes, and none after its end."""
+        """A session of the module rejects a deck, a count and a place; it answers more lines than one call takes, and none after
+        its end."""
         shown = run_tool(self.tool("node", "nodejs"), *self.for_node("wrong.js"))
-        self.assertEqual(["pp6600: DECK LINE 1 NOT OCTAL", "pp6600.wasm: -1 is no number of 32 bits", "pp6600.wasm: rejected",
+        self.assertEqual(["pp6600: DECK LINE 1 NOT OCTAL", "pp6600.wasm: count: -1 is no number of 32 bits", "false false 6",
                           "pp6600.wasm: rejected", "1000001", "pp6600.wasm: the session is closed"], shown.splitlines())
 
     def test_chromium(self):
@@ -286,10 +311,12 @@ class Files(Artefacts):
         self.assertIn("pp6600_answer", calls)
         reader = self.tool("readelf")
         for name in ("libpp6600.a", "libpp6600-aarch64.a"):
-            symbols = re.findall(r"(?:GLOBAL|WEAK) +\w+ +(\w+) (\S+)$", run_tool(reader, "--syms", "--wide", artefact(name)), flags=re.M)
+            symbols = re.findall(r"(?:GLOBAL|WEAK) +\w+ +(\w+) (\S+)$", run_tool(reader, "--syms", "--wide", artefact(name)),
+                                 flags=re.M)
             self.assertEqual(calls, sorted(name for _, name in symbols))
             self.assertNotIn("UND", dict(symbols))
-        self.assertEqual(calls, sorted(re.findall(r"\0(pp6600_\w+)\0pp6600\.dll\0", part(FOLDER, "libpp6600.dll.a").decode("latin-1"))))
+        self.assertEqual(calls,
+                         sorted(re.findall(r"\0(pp6600_\w+)\0pp6600\.dll\0", part(FOLDER, "libpp6600.dll.a").decode("latin-1"))))
         for name in ("libpp6600.so", "libpp6600-aarch64.so"):
             symbols = run_tool(reader, "--dyn-syms", "--wide", artefact(name))
             self.assertEqual(calls, sorted(line.split()[-1] for line in symbols.splitlines()[4:]))
@@ -299,7 +326,9 @@ class Files(Artefacts):
 
     def test_the_module_imports_nothing(self):
         node = self.tool("node", "nodejs")
-        shown = run_tool(node, "-e", "console.log(WebAssembly.Module.imports(new WebAssembly.Module(require('fs').readFileSync(process.argv[1]))))",
+        shown = run_tool(node, "-e",
+                         "console.log(WebAssembly.Module.imports(new "
+                         "WebAssembly.Module(require('fs').readFileSync(process.argv[1]))))",
                          self.for_node("client.js")[-1])
         self.assertEqual("[]\n", shown)
 
@@ -326,8 +355,8 @@ def lines_of(name):
 
 
 class Shims(Artefacts):
-    """What the compiled code calls of its system is compiled without a warning by other compilers than the kit's: a first one lost the
-    sign of a failed write, of which only gcc said a word."""
+    """What the compiled code calls of its system is compiled without a warning by other compilers than the kit's: a first one lost
+    the sign of a failed write, of which only gcc said a word."""
 
     def check(self, compiler, *names):
         compiler = self.tool(compiler)
@@ -345,9 +374,20 @@ class Shims(Artefacts):
 
     def test_memory_of_threads(self):
         """Four threads ask for blocks and give them back, and each block keeps its bytes."""
-        made, shim = self.path("memory"), os.path.join(TARGETS, "shim")
-        compiled(self.tool("gcc"), os.path.join(CLIENTS, "memory.c"), "-I", shim, os.path.join(shim, "linux_memory.c"), "-pthread", "-o", made)
-        self.assertEqual("0\n", run_tool(made))
+        self.assertEqual("0\n", self.blocks_of(4, os.path.join(TARGETS, "shim", "linux_memory.c")))
+
+    def test_memory_of_module(self):
+        """In a module too; given back, all of it is one block."""
+        self.on("x86_64")
+        heap = ["-no-pie", "-Wl,--defsym=__heap_base=0x10000000", "-Wno-attributes"]
+        self.assertEqual("0\n1\n", self.blocks_of(1, os.path.join(CLIENTS, "module_memory.c"), *heap))
+
+    def blocks_of(self, threads, *words):
+        """Returns what blocks in so many threads come to, of the memory of a shim."""
+        made = self.path("memory")
+        compiled(self.tool("gcc"), os.path.join(CLIENTS, "memory.c"), f"-DTHREADS={threads}", "-I", os.path.join(TARGETS, "shim"),
+                 *words, "-pthread", "-o", made)
+        return run_tool(made)
 
     def test_lines(self):
         """targets/README.md counts each file that is trusted."""

@@ -10,7 +10,6 @@ import re
 from .assembler_sources import listing, program, sections, sources
 from .support import TOP, Case, add_tests, blocks, names_of_codes, needs_library, read, run, tool
 
-from pp6600.language.assembling import deck, panel
 from pp6600.language.decks import texts_of
 from pp6600.language.symbol_options import Given
 from pp6600.language.listing import ListingSymbols
@@ -112,6 +111,11 @@ class Faults(Case):
         lines = ["  IFEQ 1,1"] * 200 + ["  ENDIF"] * 200
         self.assertEqual(["100:1: lines are nested more than 100 (decimal) deep"], self.faults(lines))
 
+    def test_references_of_micros(self):
+        lines = [" M MICRO 1,1,*A*", *['  ABS ' + '"M"' * 10] * 10_000]
+        self.assertEqual(["right"], self.faults(lines))
+        self.assertEqual(["10002:1: more than 100000 (decimal) references of micros"], self.faults([*lines, '  ABS "M"']))
+
     def test_no_fault_of_its_own(self):
         """Sources at random give messages or words, never anything else."""
         for lines in sources(300):
@@ -152,7 +156,8 @@ class Listings(Case):
                          {address: word for address, (word, _) in symbols.listing.cells.items()}, printed)
         tables = symbols.names.labels, symbols.names.equates
         self.assertEqual({(name, number) for name, (number, _) in found.names.items() if number <= 0o7777},
-                         {(name, number) for table in tables for number, names in table.items() for name in names if not LOCAL.fullmatch(name)},
+                         {(name, number) for table in tables for number, names in table.items() for name in names
+                          if not LOCAL.fullmatch(name)},
                          "\n".join(printed))
 
     def test_programs(self):
@@ -164,6 +169,11 @@ class Listings(Case):
         choose = random.Random(57)
         for _ in range(200):
             self.check_read_back(program(choose))
+
+
+def is_in_script(path):
+    """Returns whether the words of an example are in its script; the others get theirs by --source."""
+    return os.path.basename(os.path.dirname(path)) not in ("monitor",)
 
 
 class Sources(Case):
@@ -187,7 +197,7 @@ class Sources(Case):
     def test_words(self):
         """Each source has the words of a script, a panel or a deck beside it, and each program of a script has a source."""
         processors = {}  # of each source
-        for path in sorted(glob.glob(f"{TOP}/ex*/**/*.pp", recursive=True)):
+        for path in filter(is_in_script, sorted(glob.glob(f"{TOP}/ex*/**/*.pp", recursive=True))):
             found, there = assembled(read(path).splitlines()), os.listdir(os.path.dirname(path))
             beside = {name: os.path.join(os.path.dirname(path), name) for name in there}
             cells = {address: cell.word for address, cell in found.cells.items()}
@@ -195,10 +205,12 @@ class Sources(Case):
             processors[path] = {number for number, own in programs if own == cells}
             self.assertEqual(0, found.faults, path)
             self.assertTrue(processors[path] or any(
-                self.words_of(read(beside[name]).splitlines()) == self.words_of(form({address: f"{word:04o}" for address, word in cells.items()}))
-                for name, form in (("deck", deck), ("panel", panel)) if name in there), path)
+                self.words_of(read(beside[name]).splitlines()) == [cells.get(address, 0) for address in addresses]
+                for name, addresses in (("deck", range(min(cells, default=0), max(cells, default=-1) + 1)),
+                                        ("panel", range(1, 0o15)))
+                if name in there), path)
         self.assertGreater(len(processors), 20)
-        for path in sorted(glob.glob(f"{TOP}/ex*/*/script")):
+        for path in filter(is_in_script, sorted(glob.glob(f"{TOP}/ex*/*/script"))):
             below = [own for name, own in processors.items() if name.startswith(f"{os.path.dirname(path)}/")]
             self.assertLessEqual(set(self.programs(path)), set().union(*below), path)
 

@@ -1,6 +1,6 @@
 """The assembler of the library: its answers to 3,000 (decimal) sources, which are those that an assembler in Python had; its forms,
-which are all of one program; and tools where there is no library. Sources are those of the repository, and others made at random. What
-has no room, and wrong numbers, tests/library_calls.py tries.
+which are all of one program; and tools where there is no library. Sources are those of the repository, and others made at random.
+What has no room, and wrong numbers, tests/library_calls.py tries.
 
     PP6600_SOURCES=N   makes N at random (decimal)
 """
@@ -9,13 +9,14 @@ import os
 import unittest
 from unittest import mock
 
-from .assembler_sources import differences, sources
+from .assembler_sources import FROZEN_SUM, frozen_sums, sources, sum_of
 from .support import PROVED, Case, tool
 
-from pp6600.engine.assembler import LINES, NAMES, WORDS, assembler_here
+from pp6600.engine.assembler import LINES, NAMES, ROWS, UNITS, WORDS, assembler_here
+from pp6600.language import program as program_module
 from pp6600.language.notation import LITERAL
 from pp6600.language.program import LOCAL, assembled, source_of, written
-from pp6600.language.sources import names_of, set_lines
+from pp6600.language.sources import Source, names_of, set_lines
 
 COUNT = int(os.environ.get("PP6600_SOURCES", "300"))
 
@@ -36,7 +37,7 @@ def names_in(program):
 @unittest.skipUnless(PROVED, "there is no library with an assembler")
 class Library(Case):
     def test_frozen(self):
-        self.assertEqual([], differences())
+        self.assertEqual(FROZEN_SUM, sum_of("\n".join(frozen_sums()).encode()))
 
     def test_forms(self):
         right = 0
@@ -47,6 +48,18 @@ class Library(Case):
                 with self.subTest(number, lines=lines):
                     self.check(lines, program)
         self.assertGreater(right, 20)
+
+    def test_only_what_is_asked(self):
+        """Of a source that is shown nothing is made that is not: each form of it is a call."""
+        with mock.patch.object(program_module, "form_of", wraps=program_module.form_of) as calls:
+            source = Source("source.pp", assembled(["          ORG    100B", " START    LDN    5", "          UJN    START"]))
+            source.loading(3)
+            self.assertEqual([UNITS], [call.args[1] for call in calls.call_args_list])
+            self.assertEqual(("START", "source.pp:2: START    LDN    5"),
+                             (source.name(0o100), source.beside(0o100, (0o1405, 0o377))))
+            self.assertEqual([UNITS, ROWS, NAMES],
+                             sorted((call.args[1] for call in calls.call_args_list), key=[UNITS, ROWS, NAMES].index))
+            self.assertNotIn("rows", vars(source.program))
 
     def check(self, lines, program):
         """Compares the forms of a source that has no fault."""

@@ -1,5 +1,5 @@
-"""The calls that have not returned, and the returns to a wrong address, in random runs with block transfers over the cells of subroutines,
-against a stack of the test's own; cases by hand are in tests/sessions/sources.txt.
+"""The calls that have not returned, and the returns to a wrong address, in random runs with block transfers over the cells of
+subroutines, against a stack of the test's own; cases by hand are in tests/sessions/sources.txt.
 
     PP6600_CALLS=SEED:COUNT   makes COUNT runs from seed SEED on (decimal)
 """
@@ -26,7 +26,8 @@ TURNS = 60  # of PP 00
 
 
 def source_lines(choose):
-    """Returns a program whose subroutines call those after them, and read blocks of central words over each other and over cell 0000."""
+    """Returns a program whose subroutines call those after them, and read blocks of central words over each other and over cell
+    0000."""
     names = [f"S{number}" for number in range(choose.randrange(2, 6))]
     lines = ["          BASE   OCTAL", "          ORG    100", " START    LDN    3", "          STD    20"]
     for number, name in enumerate(["START", *names]):
@@ -42,7 +43,8 @@ def source_lines(choose):
                 lines += [f"          LDN    {choose.randrange(16):o}",
                           f"          CRM    {where if where.isdigit() else f'{where}-{choose.randrange(1, 5)}'},20"]
             elif kind == "store":
-                lines += [f"          LDN    {choose.randrange(64):o}", f"          STM    {choose.choice(names)}-{choose.randrange(2)}"]
+                lines += [f"          LDN    {choose.randrange(64):o}",
+                          f"          STM    {choose.choice(names)}-{choose.randrange(2)}"]
             else:
                 lines.append("          PSN")
         lines.append("          UJN    *" if name == "START" else f"          UJN    {name}{'X' if number % 2 else '-1'}")
@@ -52,7 +54,8 @@ def source_lines(choose):
 def turns_of(lines):
     """Returns the turns of PP 00: before each, and after the last one, P, the phase and the cells."""
     step = f"STEP 12\nDUMP PP 0\nDUMP M 0 0 {LAST:o}\n"
-    answers = run(program(), script="".join(f"{line}\n" for line in lines) + step.replace("STEP 12\n", "") + step * TURNS).out.splitlines()
+    answers = run(program(), script="".join(f"{line}\n" for line in lines) + step.replace("STEP 12\n", "")
+                  + step * TURNS).out.splitlines()
     found, at = [], next(at for at, line in enumerate(answers) if line.startswith("PP 00"))
     while at < len(answers):
         words = answers[at].split()
@@ -63,8 +66,8 @@ def turns_of(lines):
 
 
 class OwnStack:
-    """The stack of calls of PP 00 after each of its turns, one by one: each is the entry with the address of the RJM; and the turns that
-    returned wrongly."""
+    """The stack of calls of PP 00 after each of its turns, one by one: each is the entry with the address of the RJM; and the turns
+    that returned wrongly."""
 
     def __init__(self, turns, jumps):
         self.jumps, self.after, self.wrong, self.astray = jumps, [()], [], []

@@ -1,5 +1,5 @@
-"""Tests how the tools' package is built: its types, its launchers, and that each room of tools/pp6600 imports the rooms below it alone,
-as docs/ARCHITECTURE.md says."""
+"""Tests how the tools' package is built: its types, its launchers, and that each room of tools/pp6600 imports the rooms below it
+alone, as docs/ARCHITECTURE.md says."""
 
 import ast
 import glob
@@ -17,9 +17,10 @@ from pp6600.shell import completions
 from pp6600.shell.options import OPTIONS
 
 TOOLS = os.path.join(TOP, "tools")
-FOR_PYTHON_2 = ("tools/until", "tools/pp6600/__init__.py", "exercises/check-exercise", "exercises/grade", "exercises/hand-out", "exercises/new",
-                "share/install", "share/deb", "pp6600-python", "tests/__init__.py")
-COMMANDS = [os.path.basename(path)[:-len(".py")] for path in glob.glob(os.path.join(TOOLS, "pp6600", "front", "commands", "[!_]*.py"))]
+FOR_PYTHON_2 = ("share/launcher", "tools/pp6600/own.py", "tools/pp6600/__init__.py", "exercises/check-exercise", "exercises/grade",
+                "exercises/hand-out", "exercises/new", "pp6600-python", "tests/__init__.py")
+COMMANDS = [os.path.basename(path)[:-len(".py")]
+            for path in glob.glob(os.path.join(TOOLS, "pp6600", "front", "commands", "[!_]*.py"))]
 USES = runpy.run_path(os.path.join(TOP, "docs", "drawings", "uses.py"))
 imported_by, room_of, IMPORTS = USES["imported_by"], USES["room_of"], USES["imports"]()
 
@@ -29,7 +30,7 @@ class Package(Case):
     def test_types(self):
         """mypy --strict accepts the tools, as pyproject.toml has it; and of a user's script but one line, by docs/PYTHON.md."""
         script = """from typing import Dict, List
-from pp6600 import Attached, Console, Device, Failure, Place, full
+from pp6600 import Attached, Console, Device, Failure, Place, Session, changes, full, instruction, last_write, place, until
 with Console(options=["--history", "5"]) as console:
     answer: List[str] = console.ask("STEP")
     registers: Dict[str, str] = console.registers(0)
@@ -37,27 +38,36 @@ with Console(options=["--history", "5"]) as console:
     status: int = console.end()
 session: Attached = Attached(devices=[Device()])
 reply = full(5)
+with Session(history=5) as own:
+    turns: int = until(own, changes(place("M", 0, 0o10)), most=10)[0]
+    wrote = last_write(own, place("A", 0))
+    name: str = instruction(0o14)[0]
 console.registers("0")
 """
-        done = run("mypy", "--cache-dir", self.path("cache"), "tools/pp6600", self.file(script.encode(), "own.py"))
-        found = [line.partition("own.py:")[2] or line for line in done.out.splitlines() if not line.startswith("Found 1 error in 1 file ")]
-        self.assertEqual(['10: error: Argument 1 to "registers" of "Console" has incompatible type "str"; expected "int"  [arg-type]'], found)
+        examples = glob.glob(os.path.join(TOP, "docs", "library", "*.py"))
+        done = run("mypy", "--cache-dir", self.path("cache"), "tools/pp6600", *examples, self.file(script.encode(), "script.py"))
+        found = [line.partition("script.py:")[2] or line for line in done.out.splitlines()
+                 if not line.startswith("Found 1 error in 1 file ")]
+        self.assertEqual(['14: error: Argument 1 to "registers" of "Console" has incompatible type "str"; expected "int"  '
+                          '[arg-type]'], found)
 
     @unittest.skipUnless(shutil.which("ruff"), "ruff is not installed")
     def test_style(self):
-        done = subprocess.run(["ruff", "check", "--no-cache", "tools/pp6600/run"], cwd=TOP, capture_output=True, text=True, check=False)
+        done = subprocess.run(["ruff", "check", "--no-cache", "tools/pp6600/run"], cwd=TOP, capture_output=True, text=True,
+                              check=False)
         self.assertEqual(0, done.returncode, done.stdout)
 
     def test_launchers(self):
-        """Each tool is a copy of one launcher, is a script of the package, and has a module. What makes and what measures has another one."""
+        """Each tool is a copy of the launcher, is a script of the package, and has a module. What makes is a link to it, and what
+        measures a copy."""
         names = [name for name in os.listdir(TOOLS) if "." not in name and os.path.isfile(os.path.join(TOOLS, name))]
         for name in names:
-            self.assertEqual(read(TOOLS, names[0]), read(TOOLS, name), name)
+            self.assertEqual(read("share", "launcher"), read(TOOLS, name), name)
         for path in glob.glob(os.path.join(TOP, "*", "scripts", "[!_]*.py")):
             folder, name = os.path.split(path)
-            self.assertEqual(read("share", "deb"), read(os.path.dirname(folder), name[:-len(".py")]), name)
-        scripts = re.findall(r'^pp6600-(\S+) = "pp6600.__main__:launch"$', read("pyproject.toml"), re.M)
-        self.assertEqual(sorted(names), sorted(scripts))
+            self.assertEqual(read("share", "launcher"), read(os.path.dirname(folder), name[:-len(".py")]), name)
+        scripts = re.findall(r'^pp6600-(\S+) = "pp6600_commands:launch"$', read("pyproject.toml"), re.M)
+        self.assertEqual(sorted([*names, "python"]), sorted(scripts))
         self.assertEqual(sorted(names), sorted(MODULES))
 
     def test_python_2(self):
@@ -65,12 +75,14 @@ console.registers("0")
         later = (ast.JoinedStr, ast.NamedExpr, ast.AnnAssign, ast.Nonlocal)
         for path in FOR_PYTHON_2:
             nodes = list(ast.walk(ast.parse(read(path))))
-            unpacked = [one for node in nodes if isinstance(node, (ast.List, ast.Tuple, ast.Set)) for one in node.elts if isinstance(one, ast.Starred)]
+            unpacked = [one for node in nodes if isinstance(node, (ast.List, ast.Tuple, ast.Set)) for one in node.elts
+                        if isinstance(one, ast.Starred)]
             with self.subTest(path):
                 self.assertEqual([], [node.lineno for node in nodes if isinstance(node, later)] + [one.lineno for one in unpacked])
 
     def test_options(self):
-        """The table of the simulator's options has those of docs/CONSOLE.md, and the completions of shells have each value of its own."""
+        """The table of the simulator's options has those of docs/CONSOLE.md, and the completions of shells have each value of its
+        own."""
         self.assertEqual(set(OPTIONS), set(re.findall(r"`--(\w+) [A-Z]`", read("docs", "CONSOLE.md"))))
         for shell in completions.ROWS:
             text = completions.filled(shell, read("share", f"completion.{shell}"))
@@ -113,7 +125,8 @@ class Rooms(Case):
         self.assertEqual([], [used for used in found if used not in modules])
 
     def test_every_way_to_import_is_seen(self):
-        text = ("from ..a.b import c\nfrom ..a import d\nfrom .. import a\nfrom pp6600.a.b import c\ndef f():\n    from ..a import e\n"
+        text = ("from ..a.b import c\nfrom ..a import d\nfrom .. import a\nfrom pp6600.a.b import c\ndef f():\n    from ..a import "
+                "e\n"
                 "import os\nimport pp6600.a.f\n")
         modules = {"a.__init__", "a.b", "a.d", "a.e"}
         self.assertEqual(["a.__init__", "a.b", "a.b", "a.d", "a.e", "a.f"], sorted(imported_by("x.y", text, modules)))

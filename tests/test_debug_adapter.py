@@ -7,21 +7,24 @@ import stat
 import unittest
 
 from tests.debug_client import HAS_GO, LOADER, DebugCase, Refusal
-from tests.debug_dialogue import FOLDER, cases, files, performed, text_of
+from tests.debug_dialogue import FOLDER, Dialogue, cases, files, text_of
 from tests.fixtures import DECK
+from tests.steps import StepCase
 from tests.support import PATIENCE, add_tests, read
 
 LOOPS = read(FOLDER, "loops").splitlines()
 
 
-class Dialogues(DebugCase):
+class Dialogues(DebugCase, StepCase):
     """The answers are those of docs/PANEL.md and docs/CONSOLE.md, and of examples/overwritten-loader."""
 
-    def check(self, requests):
+    def begin(self, requests):
         is_run_while_asked = any(request.startswith(("start", "pause")) for request, _ in requests)
         client = self.client(folder=self.folder) if is_run_while_asked else self.own_client(self.folder)
-        got = performed(client, self.folder, requests)
-        self.assertEqual(text_of(requests), text_of(got))
+        self.dialogue = Dialogue(client, self.folder, requests)
+
+    def check_step(self, request, wanted):
+        self.assertEqual(text_of(request, wanted), text_of(request, self.dialogue.answers(request)))
 
 
 add_tests(Dialogues, Dialogues.check, [(f"{os.path.basename(path)[:-len('.txt')]} {shows[1:80]}", requests)
@@ -64,7 +67,8 @@ class Answers(DebugCase):
 
     def test_disassembled_beyond_the_memory(self):
         client = self.session(LOOPS)
-        got = client.ask("disassemble", memoryReference="0x001ffe", instructionOffset=-5000, instructionCount=100000)["instructions"]
+        got = client.ask("disassemble", memoryReference="0x001ffe", instructionOffset=-5000,
+                         instructionCount=100000)["instructions"]
         self.assertEqual((100000, 4096), (len(got), sum(one["instruction"] != "(no cell)" for one in got)))
         self.assertEqual(["(no cell)", "0000  0000  PSN 00", "7777  0000  PSN 00", "(no cell)"],
                          [got[at]["instruction"] for at in (904, 905, 5000, 5001)])
@@ -72,7 +76,8 @@ class Answers(DebugCase):
     def test_pointing_never_acts(self):
         client = self.loader()
         for context in ("hover", "watch", "variables"):
-            for text in ("STEP 12", "BACK", "SET A 0 1", "nonsense", "8", ":STEP" if context != "watch" else "STEP", "", "M 0 10000"):
+            for text in ("STEP 12", "BACK", "SET A 0 1", "nonsense", "8", ":STEP" if context != "watch" else "STEP", "",
+                         "M 0 10000"):
                 with self.subTest(text, context=context), self.assertRaises(Refusal):
                     client.ask("evaluate", expression=text, frameId=1, context=context)
         self.assertEqual("1300", client.turns())

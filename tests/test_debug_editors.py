@@ -109,8 +109,8 @@ class Extension(Case):
 
     def test_debugger(self):
         debugger, = GIVES["debuggers"]
-        self.assertEqual({*"type label languages runtime configurationAttributes initialConfigurations configurationSnippets".split()},
-                         set(debugger))
+        names = "type label languages runtime configurationAttributes initialConfigurations configurationSnippets"
+        self.assertEqual(set(names.split()), set(debugger))
         settings = debugger["configurationAttributes"]["launch"]["properties"]
         for name, setting in settings.items():
             self.assertTrue(setting.get("type") in TYPES or isinstance(setting.get("enum"), list), name)

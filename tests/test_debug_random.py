@@ -1,5 +1,6 @@
-"""Random sessions with the debug adapter, against a search action by action: what the editor is told is what a simulator with an endless
-history would answer, in which nothing is watched but what the user watches. Breakpoints have conditions, counts of hits and texts."""
+"""Random sessions with the debug adapter, against a search action by action: what the editor is told is what a simulator with an
+endless history would answer, in which nothing is watched but what the user watches. Breakpoints have conditions, counts of hits and
+texts."""
 
 import os
 import random
@@ -54,8 +55,8 @@ def places(numbers):
 
 
 class Oracle(Timeline):
-    """A simulator with an endless history, at a position of a run: the program itself, which answers lines, and the states of the run. Up to its
-    end there are actions ahead, then turns that may follow."""
+    """A simulator with an endless history, at a position of a run: the program itself, which answers lines, and the states of the
+    run. Up to its end there are actions ahead, then turns that may follow."""
 
     def __init__(self, lines):
         self.words, self.looks = [program(), "--panel", PANEL], [(0, 0o20, 0o20)]
@@ -122,8 +123,8 @@ class Oracle(Timeline):
     # ---- where it stops
 
     def comes(self, at, cell, is_here=False):
-        """Whether at a position the processor whose turn is next has come to a cell. Where the machine is, what was set last does not
-        matter."""
+        """Whether at a position the processor whose turn is next has come to a cell. Where the machine is, what was set last does
+        not matter."""
         number = self.slot(at)
         here = self.where(at, number)
         if (number, here[0]) != cell or here[1] != "0000":
@@ -271,7 +272,8 @@ class Session(Case):
             self.type(what)
         else:
             oracle = self.oracle
-            expected = {"continue": lambda: oracle.forward(self.shown, self.points), "reverseContinue": lambda: oracle.back(self.points),
+            expected = {"continue": lambda: oracle.forward(self.shown, self.points),
+                        "reverseContinue": lambda: oracle.back(self.points),
                         "stepIn": lambda: oracle.step(number, self.points), "stepBack": lambda: oracle.step_back(number)}[kind]()
             if expected is None:
                 return

@@ -11,7 +11,8 @@ from tests.support import TOP, Case, read
 sys.path.insert(0, os.path.join(TOP, "docs"))
 
 # A definition on the page: its heading, its sentence, its code and what is said below it. Long code is not there.
-ENTRY = re.compile(r"^### (`([^`]+)`.*)\n\n(.*)\n\n(?:Its [0-9]+ lines are in .*\n|```(antt|rust)\n((?:(?!```).*\n)*)```\n)\n?((?:(?!###? |```).*\n)*)", re.M)
+ENTRY = re.compile(r"^### (`([^`]+)`.*)\n\n(.*)\n\n(?:Its [0-9]+ lines are in "
+                   r".*\n|```(antt|rust)\n((?:(?!```).*\n)*)```\n)\n?((?:(?!###? |```).*\n)*)", re.M)
 MOST_WORDS, MOST_OF_THE_THEOREM = 30000, 3500  # to scroll, and of docs/THEOREM.md
 NOT_CODE = re.compile(r'"(?:\\.|[^"\\])*"|(?<!\S)(?:--|//)[^\n]*')
 TOKEN = re.compile(r"[^\s(){};,\[\]]+")
@@ -97,7 +98,7 @@ class Page(Case):
         shown, = re.findall(r"^```antt\n(.*?)^```", page, re.M | re.S)
         self.assertIn(shown, source)
         self.assertEqual("IsRun", re.match(r"pub record (\w+)", shown)[1])
-        of_run, of_whole = page.split(shown)[1].split("\n## ")[0].split("\nA whole course is ")
+        of_run, of_whole = page.split("\n## IsRun in full\n")[1].split("\n## ")[0].split("\nA whole `course` is ")
         for name, table in (("IsRun", of_run), ("IsWhole", of_whole)):
             fields = re.findall(r"^  pub (\w+) :", source.split(f"pub record {name} ")[1].split("pub record")[0], re.M)
             self.assertLess(3, len(fields))
@@ -124,12 +125,14 @@ class Page(Case):
         found = re.findall(r"\[([MP]\d+)\]\(MACHINE\.md#([\w-]+)\)", self.text)
         self.assertEqual(facts, dict(found))
         self.assertLess(100, len(found))
-        kinds = dict(re.findall(r"^\| \*\*([MP](?:1|4\*\* \(invented\)))[*, .MP0-9]+ \| is (.*?)[,:]", read("docs", "MACHINE.md"), re.M))
+        kinds = dict(re.findall(r"^\| \*\*([MP](?:1|4\*\* \(invented\)))[*, .MP0-9]+ \| is (.*?)[,:]", read("docs", "MACHINE.md"),
+                                re.M))
         self.assertEqual(["M1", "P1", "P4** (invented)"], list(kinds))
 
     def test_facts_in_the_margin(self):
         printed = printed_page()
-        for mark, text in (("M16", "Channel 14 is the real-time clock."), ("P12", "A wait changes nothing of the processor, not even P")):
+        for mark, text in (("M16", "Channel 14 is the real-time clock."),
+                           ("P12", "A wait changes nothing of the processor, not even P")):
             self.assertRegex(printed, rf'<div class="facts">.*<a href="MACHINE.md#channels" title="{text}[^"]*">{mark}</a>.*</div>')
 
     def test_constructors(self):

@@ -7,10 +7,11 @@ import os
 import random
 from types import SimpleNamespace
 
-from tests.device_law import DUMPS, PANEL, Definition, FewStates, RandomDevice, TwoOnAChannel, first_difference, random_program
+from tests.device_law import (
+    DUMPS, PANEL, Definition, FewStates, OfCentralMemory, RandomDevice, Session, TwoOnAChannel, first_difference, random_program)
 from tests.support import Case, program
 
-from pp6600 import INACTIVE, NOTHING, Attached, Device, Failure, full
+from pp6600 import INACTIVE, NOTHING, Attached, CentralDevice, Device, Failure, full, store
 from pp6600.language.cells import set_lines
 from pp6600.front.debug.debugged import MachineWithDevices
 from pp6600.front.debug.running import Runner
@@ -32,6 +33,11 @@ class Law(Case):
         panel = self.file(PANEL)
         for number in range(SEED, SEED + 25 * COUNT):
             self.assertIsNone(first_difference(number, panel, 6, kind=TwoOnAChannel))
+
+    def test_devices_of_central_memory(self):
+        panel = self.file(PANEL)
+        for number in range(SEED, SEED + 2 * COUNT):
+            self.assertIsNone(first_difference(number, panel, kind=OfCentralMemory))
 
     def test_walks_of_the_debug_adapter(self):
         panel = self.file(PANEL)
@@ -83,9 +89,8 @@ class Walk:
 
 
 class NothingIsDue(Definition):
-    def call(self, number, *event):
-        super().call(number, *event)
-        self.due[number] = None
+    def due(self, number):
+        return []
 
 
 class RepliesChangeNothingWatched(Definition):
@@ -94,14 +99,48 @@ class RepliesChangeNothingWatched(Definition):
         self.hits[-1] = None if (self.hits[-1] or "").startswith("HIT H") else self.hits[-1]
 
 
+class NewBeforeDue(Definition):
+    def in_order(self, due, new):
+        return [*new, *due]
+
+
+class OwnStoreIsSeen(Definition):
+    def leave(self, number, replies):
+        if not isinstance(self.devices[number], CentralDevice):
+            super().leave(number, replies)
+
+
+class StoreOfAnotherIsNotSeen(Definition):
+    def leave(self, number, replies):
+        for other, device in enumerate(self.devices):
+            if other == number or isinstance(device, CentralDevice) and isinstance(self.devices[number], CentralDevice):
+                super().leave(other, replies)
+
+
+class DueATurnLate(Definition):
+    def due(self, number):
+        self.turn -= 1
+        due = super().due(number)
+        self.turn += 1
+        return due
+
+
+class LastAskedIsFirst(Definition):
+    def due(self, number):
+        return super().due(number)[::-1]
+
+
 class WrongDefinitions(Case):
     """Sessions differ from a definition that is wrong."""
 
     def test_each(self):
         panel = self.file(PANEL)
-        for wrong in NothingIsDue, RepliesChangeNothingWatched:
-            with self.subTest(wrong.__name__):
-                self.assertTrue(any(first_difference(seed, panel, 20, wrong) for seed in range(40)))
+        for kind, slips in ((Session, (NothingIsDue, RepliesChangeNothingWatched)),
+                            (OfCentralMemory, (NewBeforeDue, OwnStoreIsSeen, StoreOfAnotherIsNotSeen, DueATurnLate,
+                                               LastAskedIsFirst))):
+            for wrong in slips:
+                with self.subTest(wrong.__name__):
+                    self.assertTrue(any(first_difference(seed, panel, 20, wrong, kind) for seed in range(40)))
 
 
 class Echo(Device):

@@ -33,8 +33,8 @@ def records_of(text):
 
 
 def tape_program(*steps):
-    """Returns the words that do this with a tape on channel 5, each followed by a status, and lines that set what they write. The words read,
-    what IAM left of its count, and the statuses are kept."""
+    """Returns the words that do this with a tape on channel 5, each followed by a status, and lines that set what they write. The
+    words read, what IAM left of its count, and the statuses are kept."""
     words, data, writes = [], 0o3000, []
     for number, step in enumerate(steps):
         kind, *given = step.split()
@@ -59,7 +59,8 @@ class DeviceCase(Case):
         session = Attached([program()], [device])
         self.addCleanup(session.close)
         words = [f"{0o77 + at:o}" if word == "*" else word for at, word in enumerate(words.split())] + ["300"]
-        for line in (*(f"SET M 0 {0o100 + at:o} {' '.join(words[at:at + 8])}" for at in range(0, len(words), 8)), "SET P 0 100", *lines):
+        for line in (*(f"SET M 0 {0o100 + at:o} {' '.join(words[at:at + 8])}" for at in range(0, len(words), 8)), "SET P 0 100",
+                     *lines):
             self.ask(session, line)
         return session
 
@@ -74,7 +75,8 @@ class Blocks(DeviceCase):
 
     def check(self, lines):
         kind, _, records = lines[0][2:].partition(" ")
-        self.device, self.answers, steps = self.made(kind, records), [], [line.split("|") for line in lines if re.search(r" \| ", line)]
+        self.device, self.answers = self.made(kind, records), []
+        steps = [line.split("|") for line in lines if re.search(r" \| ", line)]
         words, sets = tape_program(*(step for step, _ in steps))
         words += " ".join(line[2:] for line in lines if line[:2] == ": ")
         shown = next((line.split()[1:] for line in lines if line.startswith("show ")), None)
@@ -96,9 +98,11 @@ class Blocks(DeviceCase):
         """Returns a device."""
         ring = "ring" if records.endswith("ring") else ""
         records, _, busy = records.partition(", busy ")
-        return {"card_reader": lambda: CardReader(records_of(records), channel=0o5, busy=busy or 0), "line_printer": lambda: LinePrinter(channel=0o5),
+        return {"card_reader": lambda: CardReader(records_of(records), channel=0o5, busy=busy
+                                                  or 0), "line_printer": lambda: LinePrinter(channel=0o5),
                 "magnetic_tape": lambda: MagneticTape(records_of(records.removesuffix("ring").strip()), ring),
-                "console_display": lambda: ConsoleDisplay(*records.split()), "paper_tape": lambda: PaperTape(records.encode(), 0o5)}[kind]()
+                "console_display": lambda: ConsoleDisplay(*records.split()),
+                "paper_tape": lambda: PaperTape(records.encode(), 0o5)}[kind]()
 
     def check_step(self, number, step, wanted):
         """Checks the status after a step, and the words that were read and how many of 100 IAM left."""
@@ -133,12 +137,14 @@ class Blocks(DeviceCase):
 def marks_on(session, screen):
     """Returns the marks of a screen: each with its symbol, size, x and y."""
     marks = session.devices[0].picture(session.state()).screens[screen]
-    return ", ".join(f"{mark.symbol or '.'} {mark.size:o} {mark.x:o} {mark.y:o}" for mark in sorted(marks, key=lambda one: (one.symbol == "I", one.y, one.x)))
+    return ", ".join(f"{mark.symbol or '.'} {mark.size:o} {mark.x:o} {mark.y:o}"
+                     for mark in sorted(marks, key=lambda one: (one.symbol == "I", one.y, one.x)))
 
 
 LOOKS = {
     "printed": lambda session, _: session.devices[0].output(session.state()).replace("\f", "\\f").replace("\n", "\\n"),
-    "tape": lambda session, _: ", ".join(" ".join(f"{word:o}" for word in block) or "mark" for block in session.devices[0].blocks(session.state())),
+    "tape": lambda session, _: ", ".join(" ".join(f"{word:o}" for word in block) or "mark"
+                                         for block in session.devices[0].blocks(session.state())),
     "left": lambda session, _: marks_on(session, 0), "right": lambda session, _: marks_on(session, 1),
     "punched": lambda session, _: session.devices[0].output(session.state()).decode(),
     "place": lambda session, _: f"{session.state().place:o}",
@@ -204,7 +210,8 @@ class FewMarks(ConsoleDisplay):
 class Displays(DeviceCase):
     def test_all_symbols(self):
         words = ["6000", "7000", *re.findall("....", "".join(f"{code:02o}" for code in range(0o100)))]
-        session = self.begun(ConsoleDisplay(), SHOW.format("7000", len(words)), [f"SET M 0 {0o2000 + at:o} {word}" for at, word in enumerate(words)])
+        session = self.begun(ConsoleDisplay(), SHOW.format("7000", len(words)),
+                             [f"SET M 0 {0o2000 + at:o} {word}" for at, word in enumerate(words)])
         self.ask(session, "STEP 1000")
         symbols = {mark.x // 8: mark.symbol for mark in session.devices[0].picture(session.state()).screens[0]}
         wanted = dict(enumerate("ABCDEFGHIJKLMNOPQRSTUVWXYZ0123456789+-*/()", 1))
@@ -240,7 +247,8 @@ class Pictures(Case):
     L_AND_DOT = Picture((frozenset((Mark(128, 64, 8, "L"),)), frozenset((Mark(0, 511),))))
 
     def test_svg(self):
-        """L goes down 6, then 4 to the right. A screen is upside down in SVG, and its square is in the middle of a circle of 744."""
+        """L goes down 6, then 4 to the right. A screen is upside down in SVG, and its square is in the middle of a circle of
+        744."""
         lines = svg(self.L_AND_DOT).splitlines()
         self.assertEqual('<path stroke-width="1" d="M64 134L64 128L68 128"/>', lines[3])
         self.assertEqual('<path stroke-width="3" d="M511 0h0"/>', lines[7])
@@ -303,7 +311,8 @@ class Examples(Case):
     def written(self, name, script, *words):
         """Returns the bytes of the file that an example writes after these words."""
         folder = os.path.join(EXAMPLES, name)
-        done = run(*PYTHON, os.path.join(folder, script), program(), *words, self.path(name), script=read(folder, "stdin"), cwd=folder)
+        done = run(*PYTHON, os.path.join(folder, script), program(), *words, self.path(name), script=read(folder, "stdin"),
+                   cwd=folder)
         self.assertEqual((read(folder, "stdout"), "", 0), done)
         with open(self.path(name), "rb") as file:
             return file.read()

@@ -33,7 +33,8 @@ class Law(Case):
         for number in range(COUNT // 4):
             cells = window(choose, choose.choice((3, 8, 20, 60)))
             first = min(cells)
-            labels = {(first + choose.randrange(-3, 64)) % CELLS: [choose.choice((f"A{number}", "LDN", "L0100", "SUB", "SUBX", "1A", ".X", "TOOLONGAB"))]
+            labels = {(first + choose.randrange(-3, 64)) % CELLS: [
+                choose.choice((f"A{number}", "LDN", "L0100", "SUB", "SUBX", "1A", ".X", "TOOLONGAB"))]
                       for _ in range(choose.randrange(6))}
             self.check(cells, [choose.choice(list(cells))], labels)
 

@@ -1,5 +1,5 @@
-"""Both engines are the same session of the machine, the simulator in Python and the library: what they answer and reject, and in random
-sessions the turns that searches with random conditions find, forward and back. Random calls are in tests/library_calls.py.
+"""Both engines are the same session of the machine, the simulator in Python and the library: what they answer and reject, and in
+random sessions the turns that searches with random conditions find, forward and back. Random calls are in tests/library_calls.py.
 
     PP6600_SEARCHES=SEED:COUNT   makes COUNT sessions from seed SEED on (decimal)
 """
@@ -32,8 +32,8 @@ def numbers_of(engine):
 
 
 def turns_made(engine, most):
-    """Makes turns. Returns how many, whether the last one changed a watched number, and the numbers before them, which their records give:
-    what turns overwrote is put back from the last turn to the first."""
+    """Makes turns. Returns how many, whether the last one changed a watched number, and the numbers before them, which their
+    records give: what turns overwrote is put back from the last turn to the first."""
     records = engine.records(most)
     numbers = numbers_of(engine)
     for place, number in reversed(list(zip(records.places, records.numbers))):
@@ -48,7 +48,8 @@ class Calls(Case):
         for name in ENGINES:
             engine = engine_of(name, [])
             for line, kind, numbers, wanted in (
-                    ("SET M 3 17 1234", "M", (3, 0o17), 0o1234), ("SET A 11 777776", "A", (9,), 0o777776), ("SET P 2 105", "P", (2,), 0o105),
+                    ("SET M 3 17 1234", "M", (3, 0o17), 0o1234), ("SET A 11 777776", "A", (9,), 0o777776),
+                    ("SET P 2 105", "P", (2,), 0o105),
                     ("SET Q 5 7", "Q", (5,), 7), ("SET C 1000 17", "C", (0o1000,), 0o17), ("SET H 13 F 55", "H", (0o13,), 0o55)):
                 with self.subTest(line, engine=name):
                     self.assertEqual(["OK"], engine.answers(f"{line}\n"))
@@ -72,11 +73,14 @@ class Calls(Case):
     def test_rejections(self):
         """Options and files that are wrong have the line and the status of the program."""
         for name in ENGINES:
-            for words, text in ((["--history", "0"], "BAD ARGUMENTS"), (["--reader", "13"], "SAME CHANNEL"), (["--deck", "/none"], "CANNOT OPEN DECK"),
-                                (["--deck", self.file("8\n")], "DECK LINE 1 NOT OCTAL"), (["--panel", self.file("1\n", "p")], "PANEL PANEL COUNT"),
+            for words, text in ((["--history", "0"], "BAD ARGUMENTS"), (["--reader", "13"], "SAME CHANNEL"),
+                                (["--deck", "/none"], "CANNOT OPEN DECK"),
+                                (["--deck", self.file("8\n")], "DECK LINE 1 NOT OCTAL"),
+                                (["--panel", self.file("1\n", "p")], "PANEL PANEL COUNT"),
                                 (["--panel", self.file("", "none")], "PANEL PANEL COUNT"), (["--central"], "BAD ARGUMENTS"),
                                 (["--history", "5", "--history=5"], "BAD ARGUMENTS"), (["--central=33"], "BAD ARGUMENTS"),
-                                (["--history=010001"], "BAD ARGUMENTS"), (["--none", "5"], "BAD ARGUMENTS"), (["--reader", "014"], "BAD CHANNEL"),
+                                (["--history=010001"], "BAD ARGUMENTS"), (["--none", "5"], "BAD ARGUMENTS"),
+                                (["--reader", "014"], "BAD CHANNEL"),
                                 (["--printer=8", "--deck", "/none"], "BAD CHANNEL")):
                 with self.subTest(words, engine=name), self.assertRaises(Rejection) as caught:
                     engine_of(name, words)
@@ -107,7 +111,8 @@ def test_of(choose, samples):
 
 
 def condition_of(choose, samples):
-    return joined([test_of(choose, samples) for _ in range(choose.choice((1, 1, 2, 3)))] for _ in range(choose.choice((1, 1, 2, 4))))
+    return joined([test_of(choose, samples) for _ in range(choose.choice((1, 1, 2, 3)))]
+                  for _ in range(choose.choice((1, 1, 2, 4))))
 
 
 def samples_of(text):

@@ -1,8 +1,8 @@
 """Tests docs/evaluate: the definitions, run, say what the program does.
 
-Its own check computes the worked rows of crates/pp_worked as statements about data, and performs the cases of tests/cases.txt and of
-examples/. Random sessions are performed by the definitions and by the program, and all that is written is compared. Which faults in the
-definitions this would find is what python3 -m tests.slips says, which takes longer.
+Its own check computes the worked rows of crates/pp_worked as statements about data, and performs the cases of tests/cases.txt and
+of examples/. Random sessions are performed by the definitions and by the program, and all that is written is compared. Which faults
+in the definitions this would find is what python3 -m tests.slips says, which takes longer.
 """
 
 import gc
@@ -20,7 +20,8 @@ from tests.cases import stored
 from tests.support import TOP, Case, add_tests, called, names_of_codes, program, read, run, write
 
 sys.path.insert(0, os.path.join(TOP, "docs"))
-from evaluating.asking import definitions_of  # noqa: E402
+from book.pages import Book, Text  # noqa: E402
+from evaluating.asking import Definitions, definitions_of, performed  # noqa: E402
 from evaluating.checking import faults_of_cases  # noqa: E402
 from evaluating.examples import faults_of, load  # noqa: E402
 
@@ -47,7 +48,8 @@ def typed(command):
 
 
 class Sessions(Case):
-    """Sessions by the definitions and by the program. tests/test_python_program.py and test_random.py compare it with pp6600-python."""
+    """Sessions by the definitions and by the program. tests/test_python_program.py and test_random.py compare it with
+    pp6600-python."""
 
     def test_random(self):
         cases = map(slips.with_outcome, itertools.islice(slips.random_cases(MOST_TURNS), RANDOM))
@@ -79,7 +81,8 @@ class Command(Case):
 
     def test_route_of_the_theorem(self):
         """Each step of the route of 25 minutes shows what it is there for. The prover is not asked."""
-        route = read("docs", "THEOREM.md").split("\n## A route of 25 minutes\n")[1].split("\n## ")[0].replace("/tmp/", self.room() + "/")
+        route = read("docs", "THEOREM.md").split("\n## A route of 25 minutes\n")[1].split("\n## ")[0]
+        route = route.replace("/tmp/", self.room() + "/")
         begin, compare, differ, slip, mutant, _, without = re.findall(r"^```text\n(.*?)\n```", route, re.M | re.S)
         answers = "OK\nOK\nTURNS 13 SLOT 01\nPP 00 P 0102 A 000005 Q 0000 PHASE 0000 SLOT 01\nBACK 1 SLOT 00\n" \
                   "PP 00 P 0101 A 000005 Q 0000 PHASE 0000 SLOT 00\n"
@@ -87,8 +90,9 @@ class Command(Case):
         self.assertEqual((answers, "", 0), run(*shell))
         differs = differ.replace("./pp6600", shlex.quote(program()))
         self.assertEqual(("the same\n", "", 0), run("bash", "-c", f"cd {shlex.quote(TOP)}; {differs}"))
-        first, *planted = slip.splitlines()  # the copy has what is not committed, too, but hardly a case: a worked row finds the slip
-        for name in ("crates", "docs", os.path.join("examples", "first-steps"), "tests"):
+        # the copy has what is not committed, too, but hardly a case: a worked row finds the slip
+        first, *planted = slip.splitlines()
+        for name in ("crates", "docs", os.path.join("examples", "first-steps"), "tests", os.path.join("tools", "pp6600")):
             shutil.copytree(os.path.join(TOP, name), os.path.join(first.split()[2], name), ignore=shutil.ignore_patterns("out"))
         shutil.copy(os.path.join(TOP, "crates.txt"), first.split()[2])
         write(os.path.join(first.split()[2], "tests", "cases.txt"))
@@ -111,11 +115,13 @@ class Command(Case):
                 self.assertEqual(("", 2, 1), (done.out, done.status, done.err.count("error:")))
 
     def test_examples(self):
-        """Each example of the page has the value that the page says, and each case has an example or is said to have none; the worked rows
-        hold, and each stored case has its outcome. What is passed over is counted."""
+        """Each example of the page has the value that the page says, and each case has an example or is said to have none; the
+        worked rows hold, and each stored case has its outcome. What is passed over is counted."""
         done = evaluate("--check")
         self.assertEqual(("", 0), (done.err, done.status), done.out)
-        self.assertRegex(done.out, r"\Acomputed: [0-9]{3,} examples, ([0-9]+) of ([0-9]+) worked rows, ([0-9]+) of ([0-9]+) cases\npassed over: .*\n\Z")
+        self.assertRegex(done.out,
+                         r"\Acomputed: [0-9]{3,} examples, ([0-9]+) of ([0-9]+) worked rows, ([0-9]+) of ([0-9]+) cases\npassed "
+                         r"over: .*\n\Z")
 
     def test_examples_as_typed(self):
         """Examples that are typed are shown as the page shows them."""
@@ -124,6 +130,36 @@ class Command(Case):
 
 
 add_tests(Command, Command.check, [(case.name, case) for case in stored("evaluate.txt")])
+
+
+RELATION = re.compile(r"(?:record|data) \w+ \((?!.*: Type 0\)).* : Type 0 where|\w+ : (?!Type 0 → Type 0\n).*→ Type 0\n", re.S)
+
+
+class Relations(Case):
+    """The statements of docs/DEFINITIONS.md."""
+
+    def called_in_a_run(self):
+        """Returns the names of the definitions that are called while a run with a deck and a panel is computed, and help."""
+        deck, panel = self.file(b"1\n", "deck"), self.file(b"1 2 3 4 5 6 7 10 11 12 13 14\n", "panel")
+        definitions, names = Definitions(TOP), set()
+
+        def task():
+            sys.setprofile(lambda frame, *_: names.add(frame.f_code.co_name))
+            performed(definitions, ["--help"], bytes)
+            performed(definitions, ["--deck", deck, "--panel", panel], lambda: b"SET A 0 5\n")
+            sys.setprofile(None)
+        slips.deep(task)
+        return {one.name for one, function in definitions.functions.items() if function.name in names}
+
+    def test_read_alone(self):
+        """docs/definitions.txt names each that no run is asked for, and that tests/evaluate.txt does not compute."""
+        front = read("docs", "definitions.txt")
+        book = Book(definitions_of(TOP).sources, Text(front))
+        relations = {one.name for chapter in book.chapters for one in chapter
+                     if RELATION.match(re.sub("^(abbrev |unfoldable )?(pub )?", "", one.text.split("\n" + one.name)[0] + "\n"))}
+        alone = set(re.findall(r"\[\[(?:\S+:)?(\w+)\]\]", front.partition("Nothing but the")[2].partition("Written by hand")[0]))
+        typed_ones = " ".join(re.findall(r"^\$ .*", read("tests", "evaluate.txt"), re.M))
+        self.assertEqual(alone, relations - self.called_in_a_run() - set(re.findall(r"\b(?:Is|Are)\w+", typed_ones)))
 
 
 class Tables(Case):
@@ -175,7 +211,7 @@ class Slips(Case):
                 text = definition.text
                 self.assertEqual(1, text.count(slip.old))
                 slip.plant(definitions)
-                definitions.kind(definitions, definition).whole()
+                definitions.kind_of(definition)(definitions, definition).whole()
                 definition.text = text
 
     def test_one_is_found(self):

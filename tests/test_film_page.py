@@ -1,4 +1,5 @@
-"""The page of a film in a browser: the blocks of tests/film.txt, and what these can't show. Expected values are those of the pages of docs/."""
+"""The page of a film in a browser: the blocks of tests/film.txt, and what these can't show. Expected values are those of the pages
+of docs/."""
 
 import json
 import os
@@ -23,12 +24,13 @@ class Tables(PageCase):
     """What the page has of the pages of docs/, and they of it."""
 
     def test_one_table(self):
-        """Each key of the table has its action, and docs/FILM.md has the rows that differ from the panel's."""
+        """Each key of the table has its action, and docs/FILM.md names those that the panel lacks."""
         self.browser.open(shown_film("handshake"))
         keys, actions = self.value("[Object.values(page.store.state.keys.actions), Object.keys(page.moves.actions)]")
         self.assertEqual(set(keys), set(actions))
-        rows = re.findall(r"^\| (.*?) \| (.*) \|$", read("docs/FILM.md").split("## Keys")[1].split("\n## ")[0], re.M)[1:]
-        self.assertEqual([(" ".join(f"`{name}`" for name in row.shown()), row.page) for row in ROWS if row.page not in ("", row.panel)], rows)
+        named = set(re.findall("`(.*?)`", read("docs/FILM.md").split("## Keys")[1].split("\n## ")[0]))
+        of_panel = {name for row in ROWS if row.panel for name in row.shown()}
+        self.assertEqual({name for row in ROWS if row.page for name in row.shown()} - of_panel, named - {"?"})
 
     def test_links(self):
         """In the turn of a link of the pages its place changes."""
@@ -36,14 +38,17 @@ class Tables(PageCase):
             for name, address in re.findall(r"films/([\w-]+)\.html(#turn=[0-7]+&place=[\w+]+)\)", read(page)):
                 self.browser.open(shown_film(name), address)
                 with self.subTest(page, film=name):
-                    chosen, changed = self.value("(({ film, chosen }) => [chosen.name, film.changesOf(film.at).map(({ place }) => place.name)])(page.store.state)")
+                    chosen, changed = self.value(
+                        "(({ film, chosen }) => [chosen.name, film.changesOf(film.at).map(({ place }) => "
+                        "place.name)])(page.store.state)")
                     self.assertIn(chosen, changed)
 
     def test_meanings(self):
         """What is said of an instruction or a directive is what docs/MACHINE.md or docs/ASSEMBLER.md says."""
         rows = [re.sub(r" \((P\d+(, )?)+\)|`", "", line) for page in ("MACHINE.md", "ASSEMBLER.md")
                 for line in read("docs", page).splitlines() if line.startswith("| ")]
-        said = {re.sub(r"^\| (\d\d(, \d\d)* \| )?", "", row).split(" | ")[0] + ": " + row.split(" | ")[-2 + row[2].isdigit()].rstrip(" |")
+        said = {re.sub(r"^\| (\d\d(, \d\d)* \| )?", "", row).split(" | ")[0] + ": "
+                + row.split(" | ")[-2 + row[2].isdigit()].rstrip(" |")
                 for row in rows} | {re.sub(r"^\| ", "", row).split(" | ")[0] for row in rows}
         meanings = about(read(self.film("--source", "0", "examples/overwritten-loader/loader.pp")))["meanings"]
         self.assertEqual(set(), {text for name, one in meanings.items() if name[1:] != "x" for text in one.split("\n")} - said)
@@ -71,11 +76,12 @@ class Lanes(BlockCase):
 
 
 class Screens(PageCase):
-    """Each look in each size of windows, light and dark: nothing is wider or higher than the window, and the header is low. The variable
-    SCREENS names a folder in which pictures of all stay; without it there are those of the first size."""
+    """Each look in each size of windows, light and dark: nothing is wider or higher than the window, and the header is low. The
+    variable SCREENS names a folder in which pictures of all stay; without it there are those of the first size."""
 
     SIZES = ((1280, 800), (1920, 1080), (1024, 768), (800, 600), (390, 844))
-    FITS = """(() => { const { scrollWidth, scrollHeight } = document.documentElement, header = document.querySelector("header").getBoundingClientRect();
+    FITS = """(() => { const { scrollWidth, scrollHeight } = document.documentElement;
+      const header = document.querySelector("header").getBoundingClientRect();
       return [scrollWidth <= innerWidth && scrollHeight <= innerHeight, header.height / innerHeight]; })()"""
 
     def pictures(self, name, path, address, looks):

@@ -1,6 +1,6 @@
-"""The rules of a film's page where Firefox is there: each number is the simulator's, a look changes nothing, an action in the past begins
-a branch, nothing is lost. In Chromium these are in tests/film.txt and tests/test_film_walk.py; here is what needs its protocol, and the
-page of a class. Expected values are those of docs/FILM.md and of the runs' notes."""
+"""The rules of a film's page where Firefox is there: each number is the simulator's, a look changes nothing, an action in the past
+begins a branch, nothing is lost. In Chromium these are in tests/film.txt and tests/test_film_walk.py; here is what needs its
+protocol, and the page of a class. Expected values are those of docs/FILM.md and of the runs' notes."""
 
 import json
 import os
@@ -9,7 +9,7 @@ import re
 import unittest
 
 from tests import firefox
-from tests.films import FilmCase, PageCase, class_page, shown_film
+from tests.films import FilmCase, PageCase, class_page, forget, shown_film
 from tests.support import TOP, add_tests, read, run, write
 
 COUNTER = "SET M 0 100 1405 3420 300\nSET P 0 100\nSTEP 100\n"  # LDN 5, STD 20, UJN 0
@@ -57,7 +57,8 @@ class Rules(Asked):
     def dumped(self, line):
         """Returns the answer of another session, at the moment that is shown."""
         return self.js(f"""const {{ film }} = store.state, given = session.files();
-          return (await session.client.ask("look", {{ given, parts: film.partsInEffect(film.at), text: {json.dumps(line + chr(10))} }})).answer;""")
+          const asked = {{ given, parts: film.partsInEffect(film.at), text: {json.dumps(line)} }};
+          return (await session.client.ask("look", asked)).answers[0];""")
 
     def test_each_number_is_the_simulators(self):
         self.browser.open(shown_film("overwritten-loader"))
@@ -68,7 +69,8 @@ class Rules(Asked):
             n = cells[0][0] >> 12
             first, *rows = (line.split() for line in self.dumped(f"DUMP M {n:o} 0 7777"))
             words = [word for row in (first, *rows) for word in row[1:]]
-            dumps = dict(enumerate(words)) if len(words) == 0o10000 else {int(row[0], 8) + at: word for row in (first, *rows) for at, word in enumerate(row[1:])}
+            of_rows = {int(row[0], 8) + at: word for row in (first, *rows) for at, word in enumerate(row[1:])}
+            dumps = dict(enumerate(words)) if len(words) == 0o10000 else of_rows
             shown = {at % 0o10000: word for at, word in cells if at % 0o10000 in dumps}
             self.assertEqual({at: dumps[at] for at in shown}, shown)
             for number, found in registers:
@@ -83,7 +85,8 @@ class Rules(Asked):
 
     def test_looks(self):
         self.open_counter()
-        for line, answer in (("DUMP PP 0", "PP 00 P"), ("FOO", "ERR 01"), ("BACK 3", "shown"), ("STEP 2", "shown"), ("FORWARD 1", "shown"), ("* a note", "")):
+        for line, answer in (("DUMP PP 0", "PP 00 P"), ("FOO", "ERR 01"), ("BACK 3", "shown"), ("STEP 2", "shown"),
+                             ("FORWARD 1", "shown"), ("* a note", "")):
             with self.subTest(line):
                 found = self.js(f"""moves.moveTo(20); await session.type([{json.dumps(line)}]);
                   return [last().isLook, last().answer.join(" "), octal(store.state.film.count), names()]""")
@@ -94,7 +97,8 @@ class Rules(Asked):
         self.open_counter()
         found = self.js("""moves.moveTo(20); await session.type(["SET A 0 3", "STEP 20"]); const first = [names(), turn()];
           await session.goToBranch(0); const back = [turn(), store.state.film.count];
-          moves.moveTo(10); await session.type(["SET A 0 5"]); await session.goToBranch(1); return [first, back, names(), turn(), store.state.film.number("A", 0)]""")
+          moves.moveTo(10); await session.type(["SET A 0 5"]); await session.goToBranch(1);
+          return [first, back, names(), turn(), store.state.film.number("A", 0)]""")
         self.assertEqual([[["the run", "SET A 0 3"], "42"], ["22", 67], ["the run", "SET A 0 3", "SET A 0 5"], "42", 3], found)
 
     # ---- searches
@@ -102,11 +106,13 @@ class Rules(Asked):
     def test_until(self):
         self.open_counter()
         found = self.js("""moves.moveTo(3); await session.type(["until P 0 = 102"]); const on = [turn(), last().isLook];
-          await session.type(["back until P 0 = 101"]); const back = [turn(), last().isLook]; await session.type(["until A 0 = 777"]);
+          await session.type(["back until P 0 = 101"]); const back = [turn(), last().isLook];
+          await session.type(["until A 0 = 777"]);
           const vain = [turn(), last().answer[0]]; await session.type(["until nonsense"]); const wrong = last().answer[0];
           moves.moveTo(store.state.film.last); await session.type(["until P 1 = 12"]);
           return [on, back, vain, wrong.slice(0, 11), turn(), store.state.film.number("P", 1), names()]""")
-        self.assertEqual([["13", True], ["1", True], ["1", "not in the film after this: at its end a search makes turns"], "a condition", "134", 0o12, ["the run"]], found)
+        self.assertEqual([["13", True], ["1", True], ["1", "not in the film after this: at its end a search makes turns"],
+                          "a condition", "134", 0o12, ["the run"]], found)
 
     # ---- what is kept
 
@@ -197,6 +203,14 @@ class BadSurroundings(PageCase):
                     self.open_in(write(self.path(f"{name}-{part}.html"), damaged))
                     self.assert_fault("it is damaged: a part of it is missing")
 
+    def test_cut_short(self):
+        """A file whose end is missing says so, wherever it is cut."""
+        text = read(self.film(script=COUNTER))
+        for part in (0.2, 0.5, 0.9, 0.999):
+            with self.subTest(part=part):
+                self.open_in(write(self.path("cut.html"), text[:int(part * len(text))]))
+                self.assert_fault("its file is not whole, the end is missing: save or copy it again")
+
     def check(self, row):
         """A browser without something that the page needs."""
         script, reason = row
@@ -204,21 +218,26 @@ class BadSurroundings(PageCase):
         self.assert_fault(reason)
 
     def test_a_worker_that_never_answers(self):
-        self.open_in(self.film(script=COUNTER), "{ const later = setTimeout; window.setTimeout = (act, time, ...more) => later(act, time === 20000 ? 20 : time, ...more); "
+        self.open_in(self.film(script=COUNTER),
+                     "{ const later = setTimeout; window.setTimeout = (act, time, ...more) => later(act, time === 20000 ? 20 : "
+                     "time, ...more); "
                      "window.Worker = class { postMessage() {} }; }")
         self.browser.wait_for("document.querySelector('.opening')?.textContent.startsWith('The simulator does not answer')")
         self.assertEqual(0, self.value("document.querySelectorAll('#app button').length"))
 
     def test_a_page_that_is_only_looked_at(self):
         """As long as the page asks for nothing, it does not say that the worker is silent. Here twenty seconds are one."""
-        self.open_in(self.film(script=COUNTER), "{ const later = setTimeout; window.setTimeout = (act, time, ...more) => later(act, time === 20000 ? 1000 : time, ...more); }")
+        self.open_in(self.film(script=COUNTER),
+                     "{ const later = setTimeout; window.setTimeout = (act, time, ...more) => later(act, time === 20000 ? 1000 : "
+                     "time, ...more); }")
         self.browser.wait_for("document.body && document.body.dataset.open === 'yes'")
         self.assertEqual("", self.value("new Promise((done) => setTimeout(() => done(page.store.state.said.text), 2000))"))
 
     def test_a_script_that_goes_on_too_long(self):
         """What is left of it is said. Here the worker's clock is a thousand times as fast."""
         self.open_in(self.film(script="STEP 777777\n" * 3 + "* a note\n"), """{
-          const make = URL.createObjectURL, fast = "{ const now = performance.now.bind(performance); performance.now = () => 1000 * now(); }";
+          const fast = "{ const now = performance.now.bind(performance); performance.now = () => 1000 * now(); }";
+          const make = URL.createObjectURL;
           URL.createObjectURL = (blob) => make(new Blob([fast, blob], { type: blob.type })); }""")
         self.browser.wait_for("document.body && document.body.dataset.open === 'yes'")
         self.assertRegex(self.value("page.store.state.said.text"), r"^stopped: [1-4] lines of the script are left$")
@@ -235,9 +254,17 @@ class BadSurroundings(PageCase):
 
 add_tests(BadSurroundings, BadSurroundings.check, {
     "no_workers": ("Object.defineProperty(window, 'Worker', { value: undefined })", "this browser has no workers"),
-    "too_old": ("Object.defineProperty(window, 'DecompressionStream', { value: undefined })", "this browser is too old, one of 2023 or later can"),
+    "too_old": ("Object.defineProperty(window, 'DecompressionStream', { value: undefined })",
+                "this browser is too old, one of 2023 or later can"),
     "no_webassembly": ("WebAssembly.instantiate = () => { throw new Error('it is switched off'); }",
                        "this browser does not run the simulator, which is WebAssembly: it is switched off")}.items())
+
+
+def solution(name):
+    """Returns the files of the solution of an exercise, with the note that names it."""
+    folder = os.path.join(TOP, "exercises", name, "solution")
+    parts = {part: read(folder, part) for part in ("script", "panel") if os.path.exists(os.path.join(folder, part))}
+    return {**parts, "script": f"* EXERCISE {name}\n{parts.get('script') or read('exercises', name, 'script')}"}
 
 
 class Solve(PageCase):
@@ -247,9 +274,11 @@ class Solve(PageCase):
 
     def test_sizes(self):
         """docs/EXERCISES.md says how many million bytes are handed out."""
-        for name, size in re.findall(r"`exercises/hand-out (class\.zip|NAME\.html)` makes (?:it|an archive), ([\d.]+) million", read("docs", "EXERCISES.md")):
+        for name, size in re.findall(r"`exercises/hand-out (class\.zip|NAME\.html)` makes (?:it|an archive), ([\d.]+) million",
+                                     read("docs", "EXERCISES.md")):
             with self.subTest(name):
-                run("exercises/hand-out", self.path(name), env={"PP6600": ""})  # with the programs of every machine, as in a checkout
+                # with the programs of every machine, as in a checkout
+                run("exercises/hand-out", self.path(name), env={"PP6600": ""})
                 self.assertAlmostEqual(float(size), os.path.getsize(self.path(name)) / 1e6, delta=0.1 * float(size))
 
     def test_tasks_need_no_shell(self):
@@ -260,29 +289,122 @@ class Solve(PageCase):
                 self.js(f"await exercises.goTo({json.dumps(name)}); await idle()")
                 self.assertNotIn("`", self.value("document.querySelector('.task').textContent"))
 
+    def test_tutorials(self):
+        """A click performs each line of both tutorials, with the answer that it has there, in no session of an exercise."""
+        self.browser.open(class_page())
+        self.assertEqual([[2, True, None], []], self.js("""const { tutorials } = store.state, wrong = [];
+          for (const at of tutorials.keys()) {
+            document.querySelector(`[data-tutorial="${at}"]`).click(); await idle();
+            for (const button of document.querySelectorAll("[data-perform]")) {
+              const [, part, line] = button.dataset.perform.split(" "), [text, answer] = tutorials[at].parts[part].lines[line];
+              await hands.click({ target: button });
+              const last = store.state.transcript.at(-1);
+              if (last.text !== text || last.answer.join("\\n") !== answer) wrong.push([text, answer, last.text, last.answer]);
+            }
+          }
+          return [[tutorials.length, document.querySelectorAll("[data-perform]").length > 20, store.state.exercise], wrong]"""))
+
     def test_check(self):
         """Each exercise is not solved as it was handed out, and solved by its solution; the check is that of check-exercise."""
         self.browser.open(class_page())
         for name in self.value("page.store.state.exercises.map(({ name }) => name)"):
-            folder = os.path.join(TOP, "exercises", name, "solution")
-            parts = {part: read(folder, part) for part in ("script", "panel") if os.path.exists(os.path.join(folder, part))}
-            script = parts.get("script") or read("exercises", name, "script")
-            given = {"deck": "", "panel": parts.get("panel", ""), "script": f"* EXERCISE {name}\n{script}"}
             with self.subTest(name):
-                found = self.js(f"""await exercises.goTo({json.dumps(name)}); await exercises.check(); const first = store.state.checked.wrong.length > 0;
-                  await exercises.show("a solution", {json.dumps(given)}); await exercises.check(); return [first, store.state.exercise, store.state.checked.wrong, names().slice(0, 2)]""")
+                found = self.js(f"""await exercises.goTo({json.dumps(name)}); await exercises.check();
+                  const first = store.state.checked?.wrong.length !== 0;
+                  await exercises.show("a solution", {json.dumps(solution(name))}); await exercises.check();
+                  return [first, store.state.exercise, store.state.checked.wrong, names().slice(0, 2)]""")
                 self.assertEqual([True, name, [], [name, "a solution"]], found)  # one that goes back begins another branch
 
     def test_handed_in(self):
         """What the page saves is what grade takes: a script, a link, and the page with all that was worked on."""
         self.browser.open(class_page())
         self.browser.save_into(self.folder)
-        link = self.js("""await session.type(["SET M 0 100 3020 3121 3422 300", "STEP 7", "SET A 0 1", "BACK 1"]); await exercises.check();
+        link = self.js("""await session.type(["SET M 0 100 3020 3121 3422 300", "STEP 7", "SET A 0 1", "BACK 1"]);
+          await exercises.check();
           return (await m_page_files.linkTo({ script: session.scriptToSave() }, "moment=3"))""")
-        self.assertEqual({"first-program": True}, self.js("return store.state.solved"))
+        self.assertEqual(["first-program", True],
+                         self.js("return Object.entries(store.state.answers).map(([name, { isRight }]) => [name, isRight])[0]"))
         write(self.path("given", "ada.txt"), self.js("return session.scriptToSave()"))
         write(self.path("given", "grace"), f"{link}\n")
         self.js("await exercises.goTo('exchange'); await sharing.savePage()")
         os.rename(self.saved("exchange.html"), self.path("given", "hopper.html"))
         done = run("exercises/grade", self.path("given"))
-        self.assertEqual(["ada      +  .  .  .  .  .  .  .       1", "grace    +  .  .  .  .  .  .  .       1", "hopper   +  .  .  .  -  .  .  .       1"], done.out.splitlines()[1:4])
+        self.assertEqual(["ada      +  .  .  .  .  .  .  .       1", "grace    +  .  .  .  .  .  .  .       1",
+                          "hopper   +  .  .  .  -  .  .  .       1"], done.out.splitlines()[1:4])
+
+
+WAYS = int(os.environ.get("WAYS", "4"))  # of going through a class at random
+# A step of a way: statements in the page, or what the case does. A line is one of the solution or one of these.
+LINES = ("STEP 1000", "STEP 7", "BACK 1", "BACK 20", "FORWARD 3", "WATCH M 0 22", "SET M 0 50 1", "SET A 0 1", "DUMP PP 0", "GO")
+STEPS = {
+    "exercise": "await exercises.goTo(NAME)", "line": "await session.type([LINE])", "right line": "await session.type([RIGHT])",
+    "solution": "await exercises.show('a solution', SOLUTION)", "moment": "moves.moveTo(NUMBER % store.state.film.count)",
+    "back": "await hands.do('back', 1 + NUMBER % 20)", "on": "await hands.do('on', 1 + NUMBER % 20)",
+    "check": "await exercises.check()",
+    "check again": "await exercises.check()", "panel": "exercises.typePanel(PANEL)", "begin again": "await exercises.again()",
+    "branch": "await session.goToBranch(names().length ? NUMBER % store.state.tree.all.length : 0)",
+    "undo": "await session.leaveBranch()",
+    "reload": None, "open again": None,
+}
+
+
+class OneVerdict(PageCase):
+    """What the page says of each exercise is what grade says of the page that was saved."""
+
+    js = Asked.js
+
+    def test_random_ways(self):
+        self.browser.save_into(self.folder)
+        os.mkdir(self.path("handed-in"))
+        wanted = {}
+        for seed in range(WAYS):
+            page = self.walk(random.Random(seed))
+            os.rename(page, self.path("handed-in", f"s{seed:03}.html"))
+            wanted[f"s{seed:03}"] = self.verdicts(self.path("handed-in", f"s{seed:03}.html"))
+        found = {line.split()[0]: line.split()[1:-1]
+                 for line in run("exercises/grade", self.path("handed-in")).out.splitlines()[1:1 + WAYS]}
+        self.assertEqual(wanted, {name: ["+" if mark == "+" else "-" for mark in marks] for name, marks in found.items()})
+
+    def walk(self, choose):
+        """Goes through the exercises at random. Returns the path of the page that is saved at the end."""
+        page, name = class_page(), "first-program"
+        forget(self.browser)
+        self.browser.open(page)
+        names = self.value("page.store.state.exercises.map(({ name }) => name)")
+        for _ in range(16):
+            step = choose.choice(list(STEPS))
+            if step == "open again":
+                page = self.saved_page()
+            if STEPS[step] is None:
+                self.js("session.keepNow()")
+                self.browser.open(page)
+                continue
+            name = choose.choice(names) if step == "exercise" else self.js("return store.state.exercise")
+            files, number = solution(name), choose.randrange(4000)
+            lines = [line for line in files["script"].splitlines() if line.startswith("SET")]
+            panel = read("exercises", "dead-start-from-cards", "solution", "panel")
+            values = {"NAME": name, "NUMBER": number, "LINE": choose.choice(LINES), "RIGHT": choose.choice(lines or LINES),
+                      "SOLUTION": files, "PANEL": choose.choice([panel, "1 2 3", panel.replace("7712", "7713")])}
+            self.js(re.sub("|".join(values), lambda found: json.dumps(values[found[0]]), STEPS[step]))
+        return self.saved_page()
+
+    def saved_page(self):
+        """Saves the page. Returns the path of the file, which the next one does not overwrite."""
+        self.number = getattr(self, "number", 0) + 1
+        name = self.js("const { name } = sharing; await sharing.savePage(); return name")
+        os.rename(self.saved(f"{name}.html"), self.path(f"{self.number}.html"))
+        return self.path(f"{self.number}.html")
+
+    def verdicts(self, page):
+        """Returns what a page says that was saved: what is solved, or else what Check says of each exercise as it was left."""
+        forget(self.browser)
+        self.browser.open(page)
+        return self.js("""const found = [];
+          for (const { name } of store.state.exercises) {
+            if (name !== store.state.exercise) await exercises.goTo(name);
+            store.change({ checked: null });
+            const wasRight = store.state.answers[name]?.isRight;
+            await exercises.check();
+            found.push(wasRight || store.state.checked?.wrong.length === 0 ? "+" : "-");
+          }
+          return found;""")

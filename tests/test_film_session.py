@@ -1,5 +1,5 @@
-"""Tests what is done in the page of a film beside tests/film.txt: origins in random sessions, and devices. Expected values are those of
-docs/FILM.md, and of the program and the tools for the same lines."""
+"""Tests what is done in the page of a film beside tests/film.txt: origins in random sessions, and devices. Expected values are
+those of docs/FILM.md, and of the program and the tools for the same lines."""
 
 import json
 import random
@@ -81,8 +81,8 @@ class Devices(SessionCase):
         return found
 
     def test_console_display(self):
-        """docs/FILM.md: each turn and each step back is a moment with the picture of the session, and so is each reply, which changes
-        none; beyond the script the page says that it has none."""
+        """docs/FILM.md: each turn and each step back is a moment with the picture of the session, and so is each reply, which
+        changes none; beyond the script the page says that it has none."""
         words, wanted = [program()], self.pictures()
         lines = script_with(words, [ConsoleDisplay()], self.SCRIPT.encode())[0].decode().splitlines()
         with Console(words) as console:
@@ -108,11 +108,13 @@ class Devices(SessionCase):
                          self.value(f"[{self.SAID}, {self.PICTURE}]"))
 
     def test_saved_script(self):
-        """A script that was saved has the replies: they play, once, with the same pictures; and so they do in a page that was saved."""
+        """A script that was saved has the replies: they play, once, with the same pictures; and so they do in a page that was
+        saved."""
         options = "--device", "console_display@10"
         first = about(read(shown_film("console-display")))
         path = self.film(*options, script=first["files"][0]["bytes"])
-        self.assertEqual((first["files"][0]["bytes"], first["pictures"]), (about(read(path))["files"][0]["bytes"], about(read(path))["pictures"]))
+        self.assertEqual((first["files"][0]["bytes"], first["pictures"]),
+                         (about(read(path))["files"][0]["bytes"], about(read(path))["pictures"]))
         self.browser.open(path)
         self.act("STEP 12")
         self.browser.save_into(self.folder)

@@ -31,9 +31,10 @@ from pp6600.shell.command_line import arguments
 MODULE = os.path.join(TOP, "dist", "pp6600.wasm")
 SEEDS = "100 25"  # of the random sessions: the first, and how many
 OPTIONS = ("--central", "32", "--panel", f"{EXAMPLES}/dead-start/panel", "--deck", f"{EXAMPLES}/read-a-deck/deck")
-# An exchange and what moves P of the central processor, at the end of central memory too; a block past its end; a return address of zero.
-EXCHANGE = ["SET C 1 12345670123456701234", "SET M 0 100 1400 2600 2700 2077 7776 2600 2700 300", "SET P 0 100", "STEP 200", "BACK 20",
-            "FORWARD 3", "SET M 1 7776 1404 3420 6120 0 7105", "SET P 1 7776", "SET A 1 77776", "STEP 200"]
+# An exchange and what moves P of the central processor, at the end of central memory too; a block past its end; a return address of
+# zero.
+EXCHANGE = ["SET C 1 12345670123456701234", "SET M 0 100 1400 2600 2700 2077 7776 2600 2700 300", "SET P 0 100", "STEP 200",
+            "BACK 20", "FORWARD 3", "SET M 1 7776 1404 3420 6120 0 7105", "SET P 1 7776", "SET A 1 77776", "STEP 200"]
 IDLE, WAITING, BUSY_TURN, BLOCK, LINE, JUMP = range(6)  # what a lane shows of a moment, as docs/FILM.md has it, and other moments
 MOVED, BY_DEVICE, AT_END = 1, 2, 8
 COLUMNS = 80
@@ -49,7 +50,8 @@ def dumped(numbers):
              for first in range(0, PROCESSORS * CELLS, 8)]
     registers = [f"PP {n:02o} P {numbers[P + n]:04o} A {numbers[A + n]:06o} Q {numbers[Q + n]:04o} PHASE {numbers[PHASE + n]:04o} "
                  f"SLOT {numbers[SLOT]:02o}" for n in range(PROCESSORS)]
-    channels = [f"H {c:02o} {LETTERS[numbers[Place('S', (c,)).number]]} {numbers[Place('H', (c,)).number]:04o}" for c in range(CHANNELS)]
+    channels = [f"H {c:02o} {LETTERS[numbers[Place('S', (c,)).number]]} {numbers[Place('H', (c,)).number]:04o}"
+                for c in range(CHANNELS)]
     return [*cells, *registers, *channels, f"H 14 F {numbers[CLOCK]:04o}"]
 
 
@@ -68,8 +70,8 @@ def kind_of(turn, before, after):
 
 
 def written(turn, before, after, punched):
-    """Returns what a turn wrote: of each place its number, what kind of write it was, its constant and its sources. The reader was at
-    the column that is at this place of the page."""
+    """Returns what a turn wrote: of each place its number, what kind of write it was, its constant and its sources. The reader was
+    at the column that is at this place of the page."""
     of_devices = [[one.place, BY_DEVICE, "", [[punched, 0]] if one.operation == of.PUNCHED else []]
                   for one in turn.others if STATES <= one.place < CLOCK]
     return sorted(of_devices + [
@@ -101,7 +103,8 @@ class Truth(Case):
     def page_sessions(self, sessions):
         """Yields what the page's scripts make of sessions."""
         about = {**page.tables(), **page.options(arguments("").parse_args(list(OPTIONS))), "labels": {}, "lines": []}
-        files = {"about": about, "sessions": [{"lines": lines, "deck": read(OPTIONS[-1]), "panel": read(OPTIONS[-3])} for lines in sessions]}
+        files = {"about": about,
+                 "sessions": [{"lines": lines, "deck": read(OPTIONS[-1]), "panel": read(OPTIONS[-3])} for lines in sessions]}
         paths = [self.file(json.dumps(data)) for data in files.values()]
         return map(json.loads, in_node("film_rows.js", MODULE, *paths))
 
@@ -148,14 +151,15 @@ class Truth(Case):
 
 
 SEARCHED = "500 16"  # of the sessions in which conditions are looked for: the first, and how many
-TESTS = ("P {n} = {p}", "A {n} != 0", "A {n} > 7", "Q {n} <= 3", "A {n} < 100", "M {n} 20 >= 1", "P {n} outside 100 117", "A {n} inside 1 77", "M {n} 20 changes", "P {n} changes",
-         "M {n} 0 177 is written", "A {n} is written", "C 0 is written", "H {c} is F", "H {c} changes state", "PP {n} waits", "PP {n} performs {p}", "PP {n} in a block",
-         "PP {n} not in a block")
+TESTS = ("P {n} = {p}", "A {n} != 0", "A {n} > 7", "Q {n} <= 3", "A {n} < 100", "M {n} 20 >= 1", "P {n} outside 100 117",
+         "A {n} inside 1 77", "M {n} 20 changes", "P {n} changes", "M {n} 0 177 is written", "A {n} is written", "C 0 is written",
+         "H {c} is F", "H {c} changes state", "PP {n} waits", "PP {n} performs {p}", "PP {n} in a block", "PP {n} not in a block")
 
 
 def condition_of(choose):
     """Returns a condition, and its forms as the tools read it."""
-    test = lambda: choose.choice(TESTS).format(n=choose.randrange(3), p=f"{choose.randrange(0o100, 0o120):o}", c=choose.choice(("0", "1", "12", "13")))
+    test = lambda: choose.choice(TESTS).format(n=choose.randrange(3), p=f"{choose.randrange(0o100, 0o120):o}",
+                                               c=choose.choice(("0", "1", "12", "13")))
     lists = [[test() for _ in range(choose.choice((1, 1, 2)))] for _ in range(choose.choice((1, 1, 1, 2)))]
     form = lambda text: Form(WAITS, int(text.split()[1], 8)) if text.endswith("waits") else parsed(text).alternatives[0].forms[0][0]
     return " or ".join(" and ".join(tests) for tests in lists), joined([[form(text) for text in tests] for tests in lists])
@@ -216,8 +220,9 @@ def own_lines(source, rows):
 
 def without_literals(source):
     """Returns a source without the words of literals, which are of no line."""
-    rows = [row for row in source.program.rows if row.text != "*         LITERAL"]
-    return Source(source.path, source.program._replace(rows=rows, literals={}))
+    program = source.program
+    program.row_lines, program.literals = [line for line in program.row_lines if not line.endswith("\t*         LITERAL")], {}
+    return Source(source.path, program)
 
 
 @unittest.skipUnless(shutil.which("node"), "there is no node")
@@ -242,16 +247,19 @@ class Assembler(Case):
         self.assertEqual(lines, one["source"]["lines"][:len(lines)])
         labels = wanted["labels"]["3"]
         self.assertEqual(labels["addresses"], one["labels"]["addresses"])
-        self.assertEqual(*({cell: name for cell, name in them["names"].items() if int(cell) in source.at_location} for them in (labels, one["labels"])))
+        self.assertEqual(*({cell: name for cell, name in them["names"].items() if int(cell) in source.at_location}
+                           for them in (labels, one["labels"])))
         for cell, name in one["labels"]["names"].items():  # the page does not see how long a buffer is
             label, sign, _ = name.partition("+")
-            self.assertFalse(sign and int(cell) not in source.at_location and labels["addresses"][label] in source.at_location, name)
+            self.assertFalse(sign and int(cell) not in source.at_location and labels["addresses"][label] in source.at_location,
+                             name)
         self.assertEqual(sorted(labels["entries"]), sorted(one["labels"]["entries"]))
         self.assertEqual(own_lines(source, labels["texts"]), own_lines(source, one["labels"]["texts"]))
 
     def test_products(self):
         """A product that has 63 bits, and one that has more, which the module makes of halves."""
-        texts = [f"          BASE   DECIMAL\n          CON    {factor}*{factor}/9007199254740992\n          END\n" for factor in (3037000499, 3037000500)]
+        texts = [f"          BASE   DECIMAL\n          CON    {factor}*{factor}/9007199254740992\n          END\n"
+                 for factor in (3037000499, 3037000500)]
         fits, does_not = map(json.loads, in_node("film_assembler.js", MODULE, self.file(json.dumps(texts))))
         self.assertEqual((fits["faults"], fits["load"]), (0, ["SET M 3 0 1777"]))  # the quotient is 1023 and a part
         self.assertEqual(does_not["faults"], 1)

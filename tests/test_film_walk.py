@@ -1,9 +1,10 @@
-"""The page of a run beside the dumps of the program at random moments: its numbers, what it shows, the picture of the barrel, and the
-lines of sources, beside `Source.line_of`.
+"""The page of a run beside the dumps of the program at random moments: its numbers, what it shows, the picture of the barrel, and
+the lines of sources, beside `Source.line_of`.
 
-The examples, sessions on channels that do not exist and on the clock, and random sessions are filmed. Which word a turn moves over a
-channel is worked out from the state before it, by the tables of docs/MACHINE.md. Each run is the same: a session follows from its
-seed alone, and the moments of a film from its name. Other seeds: FILM_SEEDS="100 50" compares 50 sessions from seed 100 on (decimal).
+The examples, sessions on channels that do not exist and on the clock, and random sessions are filmed. Which word a turn moves over
+a channel is worked out from the state before it, by the tables of docs/MACHINE.md. Each run is the same: a session follows from its
+seed alone, and the moments of a film from its name. Other seeds: FILM_SEEDS="100 50" compares 50 sessions from seed 100 on
+(decimal).
 """
 
 import os
@@ -34,7 +35,8 @@ CLOCK_IS_READ = ("SET M 0 100 7014 3420 300", "SET P 0 100", "STEP 40")  # IAN 1
 
 
 class Moment(NamedTuple):
-    """A moment: the state before it and after it, the processor whose turn it was, or None, and the dumps after it as tests/film_walk.js has them."""
+    """A moment: the state before it and after it, the processor whose turn it was, or None, and the dumps after it as
+    tests/film_walk.js has them."""
     before: State
     after: State
     number: Optional[int]
@@ -55,14 +57,15 @@ def wait_of(state, number):
 
 def word_moved(state, number):
     """Returns the channel and the word that the next turn of a processor moves over it, with an arrow; or nothing."""
-    (code, channel, in_block), registers, memory = instruction(state, number), state.processors[number].registers, state.memories[number]
+    code, channel, in_block = instruction(state, number)
+    registers, memory = state.processors[number].registers, state.memories[number]
     if channel > 0o14 or in_block and registers["A"] == "000000":
         return []
     letter, register = state.channels[channel].state, state.channels[channel].register
     p = int(registers["P"], 8)
-    moves = {(0o70, False): ("F", f"◂ {register}"), (0o71, True): ("F", f"◂ {register}"), (0o73, True): ("E", f"{memory.word(p)} ▸"),
-             (0o72, False): ("E", f"{registers['A'][2:]} ▸"), (0o76, False): ("I", f"{registers['A'][2:]} ▸"),
-             (0o77, False): ("I", f"{memory.word(p + 1)} ▸")}
+    moves = {(0o70, False): ("F", f"◂ {register}"), (0o71, True): ("F", f"◂ {register}"),
+             (0o73, True): ("E", f"{memory.word(p)} ▸"), (0o72, False): ("E", f"{registers['A'][2:]} ▸"),
+             (0o76, False): ("I", f"{registers['A'][2:]} ▸"), (0o77, False): ("I", f"{memory.word(p + 1)} ▸")}
     wanted, text = moves.get((code, in_block), ("", ""))
     return [[channel, text]] if letter == wanted else []
 
@@ -110,7 +113,8 @@ class Walk(PageCase):
 
     @staticmethod
     def moments(words, lines, windows, total):
-        """Yields the moments that are wanted, each with its number. Of central memory all is dumped at the end, else the first words."""
+        """Yields the moments that are wanted, each with its number. Of central memory all is dumped at the end, else the first
+        words."""
         before = None
         for at, (console, is_turn) in enumerate(moments_of(words, lines)):
             after = state_of(console) if at in windows or at + 1 in windows else None
@@ -192,7 +196,8 @@ CELLS = 0o10000
 WHOLE, NOT_YET = Mark(""), Mark("not yet")
 # In the page: of each source the line where its processor is, and what is said of each line with words.
 LINES = """[...page.store.state.film.sources.values()].map((one) => {
-  const { film } = page.store.state, { number, note } = m_machine_sources.lineOfNext(film, one), rows = one.lines.filter((row) => row.words.length);
+  const { film } = page.store.state, { number, note } = m_machine_sources.lineOfNext(film, one);
+  const rows = one.lines.filter((row) => row.words.length);
   return [number ? [number, note] : [], rows.map((row) => {
     const { text, address } = m_machine_sources.markOf(film, one, row.words);
     return m_machine_sources.isLoaded(film, row) ? [text, address] : ["not yet", null];
@@ -214,8 +219,8 @@ def sources_of(sources):
 
 
 def line_at_p(source, registers, cells):
-    """Returns the line where a processor is, and why it is not performed if it isn't; in a block transfer that of the instruction, which
-    PHASE has, before whose second word the transfer goes on: cell 0000 has this address."""
+    """Returns the line where a processor is, and why it is not performed if it isn't; in a block transfer that of the instruction,
+    which PHASE has, before whose second word the transfer goes on: cell 0000 has this address."""
     phase = int(registers["PHASE"], 8)
     at = (cells[0] - 1) % CELLS if phase else int(registers["P"], 8)
     line = source.line_of(at, phase or cells[at], cells[(at + 1) % CELLS])
@@ -223,8 +228,8 @@ def line_at_p(source, registers, cells):
 
 
 def mark_of(source, row, cells):
-    """Returns what is said of a row of the listing: its words are where they run or where they were loaded, or all but a second word, or
-    not."""
+    """Returns what is said of a row of the listing: its words are where they run or where they were loaded, or all but a second
+    word, or not."""
     mark = None
     for base in (row.location, row.origin):
         found = cells[base:base + len(row.words)]

@@ -1,4 +1,5 @@
-"""Tests that each list of the library's calls is that of the header, crates/pp_library/pp6600.h: the exports, Python's and JavaScript's."""
+"""Tests that each list of the library's calls is that of the header, crates/pp_library/pp6600.h: the exports, Python's and
+JavaScript's."""
 
 import glob
 import os
@@ -6,7 +7,7 @@ import re
 
 from tests.support import TOP, Case, read
 
-from pp6600.engine.numbers_of_calls import WIDTHS
+from pp6600.engine.arguments import NUMBERS as CHECKED
 
 PREFIX_OF = {"disassemble": "cell"}  # a call whose numbers are the first ones of each structure in an array
 
@@ -48,15 +49,17 @@ class Header(Case):
 
     def test_python(self):
         """Python checks the numbers of each call that takes some, by their bits, and names every call."""
-        self.assertEqual([], [name for name, bits in WIDTHS.items() if not in_header(name, tuple(bits))])
-        self.assertEqual(set(), set(NUMBERS) - set(WIDTHS))
+        self.assertEqual([], [name for name, bits in CHECKED.items() if name != "place"
+                              and not in_header(name, tuple(bits.values()))])
+        self.assertEqual(set(), set(NUMBERS) - set(CHECKED))
         text = "".join(map(read, glob.glob(os.path.join(TOP, "tools", "pp6600", "engine", "*.py"))))
         self.assertEqual([], [name for name in CALLS if not re.search(rf'"{name}"|\bpp6600_{name}\b', text)])
 
     def test_javascript(self):
         """JavaScript checks the numbers of the calls that it has by the same bits."""
         text = read("tools", "pp6600", "front", "film", "web", "engine", "library.mjs")
-        table = re.search(r"= \{\s*(open: \[.*?)\}", text, re.S)[1]
-        found = {name: tuple(map(int, bits.split(","))) for name, bits in re.findall(r"(\w+): \[([\d, ]+)\]", table)}
+        table = re.search(r"^const NUMBERS = \{(.*?)^\}", text, re.S | re.M)[1]
+        found = {name: tuple(map(int, re.findall(r"\w+: (\d+)", numbers)))
+                 for name, numbers in re.findall(r"(\w+): \{ ([^}]+) \}", table)}
         self.assertEqual([], [name for name, bits in found.items() if not in_header(name, bits)])
         self.assertLess(8, len(found))

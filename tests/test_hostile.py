@@ -1,5 +1,6 @@
-"""Nothing of the folder that one works in is run: beside each program that Python runs, and where it is started, is a hostile module with
-each name that Python's own library has; none of them is performed. The examples in Python are ordinary scripts, and are not among these."""
+"""Nothing of the folder that one works in is run: beside each program that Python runs, and where it is started, is a hostile
+module with each name that Python's own library has; none of them is performed. The examples in Python are ordinary scripts, and are
+not among these."""
 
 import os
 import shutil
@@ -11,23 +12,26 @@ from tests.support import TOP, Case, add_tests, lasting_room, program, run, writ
 
 SCRIPT = write(os.path.join(lasting_room(), "script"), "STEP\n")
 SOLUTION = os.path.join(TOP, "exercises", "exchange", "solution")
-# The programs of a checkout by their folder, each with words for which it has something to do, or shows its help. The tools are copies
-# of one launcher, as tests/test_core.py says: here are those that import most.
+# The programs of a checkout by their folder, each with words for which it has something to do, or shows its help. The tools are
+# copies of one launcher, as tests/test_core.py says: here are those that import most.
 IN_FOLDERS = {
     "": {"pp6600-python": [SCRIPT]},
     "tools": {**{name: [*WITH_SIMULATOR[name], SCRIPT] for name in ("film", "origin", "talk")},
               "assemble": [], "debug-adapter": [], "panel": ["--help"]},
     "tools/pp6600/engine/plain": {"__main__.py": [SCRIPT]},
-    "exercises": {"check-exercise": ["exchange", SOLUTION], "grade": [os.path.dirname(SOLUTION)], "hand-out": ["--help"], "new": ["--help"]},
-    "share": {"colours": ["--check"], "deb": ["--help"], "install": ["--help"], "manual": ["--print"], "npm": ["--help"], "release": ["--help"],
-              "vsix": ["made"], "wheel": ["--help"]},
+    "exercises": {"check-exercise": ["exchange", SOLUTION], "grade": [os.path.dirname(SOLUTION)], "hand-out": ["--help"],
+                  "new": ["--help"]},
+    "share": {"colours": ["--check"], "deb": ["--help"], "install": ["--help"], "manual": ["--print"], "npm": ["--help"],
+              "release": ["--help"], "vsix": ["made"], "wheel": ["--help"]},
     "docs": {"card.py": ["--check"], "definitions.py": ["--help"], "evaluate": ["--help"], "proofs.py": ["--help"]},
     "docs/drawings": {"draw.py": ["--help"], "panel.py": ["--help"]},
     "bench": {"devices": ["--help"], "run": ["--help"], "tools": ["--help"]},
     "targets": {"build": ["--list"]},
     "tests": {"__main__.py": ["nothing"], "refusals.py": []}}
-NOT_COPIED = shutil.ignore_patterns(".git", "crates", "films", "out", "work", "__pycache__", "libpp6600-aarch64.so", "pp6600-aarch64", "definitions.html")
-OWN = ("checking", "class_page", "pp6600", "tables", "packaging", "wheels", "scripts", "sitecustomize", "usercustomize")
+NOT_COPIED = shutil.ignore_patterns(".git", "crates", "films", "out", "work", "__pycache__", "libpp6600-aarch64.so",
+                                    "pp6600-aarch64", "definitions.html")
+OWN = ("checking", "class_page", "tutorials", "pp6600", "tables", "packaging", "wheels", "scripts", "sitecustomize",
+       "usercustomize")
 
 
 def library_names():
@@ -94,7 +98,8 @@ class Hostile(Case):
     def test_class_and_installation(self):
         """The same in the folder of a class, where students' files are, and where it is installed."""
         made, prefix = os.path.join(self.top, "class"), os.path.join(self.top, "prefix")
-        self.assertEqual(0, self.tried(os.path.join(self.top, "exercises", "hand-out"), ["--program", program(), made], self.top).status)
+        self.assertEqual(0, self.tried(os.path.join(self.top, "exercises", "hand-out"), ["--program", program(), made],
+                                       self.top).status)
         self.infest(made, [*self.names, *OWN])
         done = self.tried(os.path.join(made, "check-exercise"), ["exchange", SOLUTION], made)
         self.assertEqual(("exchange: solved\n", 0), (done.out, done.status))
@@ -105,7 +110,8 @@ class Hostile(Case):
         for name, words in (("bin/pp6600-show", [SCRIPT]), ("bin/pp6600-python", [SCRIPT]), ("libexec/pp6600/install", ["--help"]),
                             ("share/pp6600/exercises/check-exercise", ["exchange", SOLUTION])):
             with self.subTest(name):
-                self.assertEqual(0, self.tried(os.path.join(prefix, name), words, os.path.dirname(os.path.join(prefix, name))).status)
+                self.assertEqual(0, self.tried(os.path.join(prefix, name), words,
+                                               os.path.dirname(os.path.join(prefix, name))).status)
 
 
 add_tests(Hostile, Hostile.check, [(folder or "top", folder) for folder in IN_FOLDERS])

@@ -1,4 +1,5 @@
-"""Tests that every list of the instructions is that of the one table, crates/pp_step/specs/InstructionTable.antt: names, words and modes.
+"""Tests that every list of the instructions is that of the one table, crates/pp_step/specs/InstructionTable.antt: names, words and
+modes.
 
 Lists that are made of one of these are compared where they are made: the card, the film's meanings, the colours of editors."""
 
@@ -11,7 +12,6 @@ from tests.support import PROVED, TOP, Case, names_of_codes, read
 
 from pp6600.engine import library
 from pp6600.engine.plain.instructions import CODES as PLAIN
-from pp6600.language.listed_words import ALONE
 from pp6600.language.notation import MNEMONICS, size_of
 from pp6600.run import turn
 from pp6600.run.forms import STATES
@@ -56,7 +56,8 @@ class Instructions(Case):
 
     def test_code_of_the_step(self):
         """The comments of the codes in pp_step are true."""
-        found = re.findall(r"/// ([0-7]{2}), ([a-z ]+)\. [^\n]*\n(?: +///[^\n]*\n)* +(\w+),", read("crates", "pp_step", "src", "code.rt"))
+        found = re.findall(r"/// ([0-7]{2}), ([a-z ]+)\. [^\n]*\n(?: +///[^\n]*\n)* +(\w+),",
+                           read("crates", "pp_step", "src", "code.rt"))
         self.assertEqual([(f"{code:02o}", re.sub("(?<=o)A", " a", mode).lower(), name) for name, mode, code in ROWS], found)
 
     def test_tools(self):
@@ -64,8 +65,10 @@ class Instructions(Case):
         for mode, codes in (("Indirect", turn.INDIRECT), ("Memory", turn.INDEXED)):
             self.assertEqual([code for _, one, code in ROWS if one == mode], list(codes))
         for word, codes in (("branch", turn.RELATIVE_JUMPS), ("test", turn.CHANNEL_JUMPS), ("[cC]entral", turn.A_IS_AN_ADDRESS),
-                            ("states|issue", turn.CHANNEL_CODES), ("issue", turn.BLOCK_GOES_ON), ("issue_counted", turn.BLOCKS_OF_CENTRAL)):
-            self.assertEqual([code for code, effect in enumerate(EFFECTS) if re.search(rf"\b({word})\b", effect)], list(codes), word)
+                            ("states|issue", turn.CHANNEL_CODES), ("issue", turn.BLOCK_GOES_ON),
+                            ("issue_counted", turn.BLOCKS_OF_CENTRAL)):
+            self.assertEqual([code for code, effect in enumerate(EFFECTS) if re.search(rf"\b({word})\b", effect)], list(codes),
+                             word)
 
     def test_states(self):
         """The tools have the states of a channel in which an instruction completes, or jumps."""
@@ -86,7 +89,7 @@ class Instructions(Case):
         found = [library.instruction(code, PROVED) for code in range(64)]
         self.assertEqual(list(zip(NAMES, WORDS)), [one[:2] for one in found])
         self.assertEqual(TWO, {code for code, (*_, form) in enumerate(found) if form > 2})
-        for number, codes in ((0, ALONE), (2, turn.RELATIVE_JUMPS), (3, turn.CONSTANTS), (4, turn.INDEXED)):
+        for number, codes in ((2, turn.RELATIVE_JUMPS), (3, turn.CONSTANTS), (4, turn.INDEXED)):
             self.assertEqual(list(codes), [code for code, (*_, form) in enumerate(found) if form == number])
 
     def test_sentences(self):
@@ -105,7 +108,8 @@ class Instructions(Case):
 
     def test_kernel(self):
         """The C kernel of the benchmark has a case for each, but for 30 to 57, which it takes apart by their digits."""
-        cases = [int(code, 8) for code in re.findall(r"\bcase 0([0-7]{2}):", read("bench", "kernel.c").split("switch (word >> 6)")[-1])]
+        cases = [int(code, 8) for code in re.findall(r"\bcase 0([0-7]{2}):",
+                                                     read("bench", "kernel.c").split("switch (word >> 6)")[-1])]
         self.assertEqual(set(range(64)) - set(range(0o30, 0o60)), set(cases) & set(range(64)))
 
     def test_origins(self):

@@ -24,7 +24,8 @@ class AtTerminal(Case):
     def at_terminal(self, *typed, words=(), path=(), home=True, folder=None):
         """Types each text when the one before it in its pair is shown. Returns what is shown in all, and the exit status."""
         names = [f"PATH={':'.join([self.path('plain'), *path])}", "TERM=xterm", *([f"HOME={self.folder}"] if home else [])]
-        terminal = Terminal(["/usr/bin/env", "-i", *names, self.path("repository", "pp6600"), *words], 132, folder=folder or self.folder)
+        terminal = Terminal(["/usr/bin/env", "-i", *names, self.path("repository", "pp6600"), *words], 132, folder=folder
+                            or self.folder)
         self.addCleanup(terminal.close)
         for awaited, text in typed:
             terminal.shows(awaited)
@@ -53,7 +54,8 @@ class AtTerminal(Case):
 
     @NO_RLWRAP
     def test_line_editing(self):
-        shown, status = self.at_terminal(("> ", "DEAD\t"), ("> DEADSTART", "\r"), ("ERR 14 NO PANEL", "\x04"), path=["/usr/bin", "/bin"])
+        shown, status = self.at_terminal(("> ", "DEAD\t"), ("> DEADSTART", "\r"), ("ERR 14 NO PANEL", "\x04"),
+                                         path=["/usr/bin", "/bin"])
         self.assertEqual((True, 1), ("ERR 14 NO PANEL" in shown, status), shown)
         self.assertTrue(os.path.exists(self.path(".pp6600_history")))
 

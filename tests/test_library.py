@@ -10,22 +10,22 @@ import shutil
 import subprocess
 import sys
 import unittest
+import unittest.mock
 
-from tests import library_calls
+from tests import library_calls, wrong_calls
 from tests.built import artefact
 from tests.generator import BUSY, Maker
 from tests.support import PATIENCE, PROVED, TOP, Case, blocks, program, read
 
+import pp6600
 from pp6600.engine import library
-from pp6600.engine.assembler import Assembler
-from pp6600.engine.interface import Form
 from pp6600.engine.library import LibrarySession
 from pp6600.failure import Failure
 
 CRATE = os.path.join(TOP, "crates", "pp_library")
 PLACES = 106592 + 32768  # of a machine with the smallest central memory
 SEQUENCES = 50
-STACKS = 40 << 10, 144 << 10, 16 << 10  # bytes of the assembler's calls, of a search and of another, as the header says
+STACKS = 48 << 10, 144 << 10, 16 << 10  # bytes of the assembler's calls, of a search and of another, as the header says
 # Opens sessions with little memory until there is none, and compares the others before and after.
 LITTLE_MEMORY = """
 import resource
@@ -100,7 +100,8 @@ class WrongHands(LibraryCase):
     def one_call(self, session, typed, room):
         """Returns the status of a call of answer, the bytes that it took, and those that it wrote."""
         import ctypes  # pylint: disable=import-outside-toplevel
-        into, found = ctypes.create_string_buffer(max(room, 1)), [ctypes.c_size_t(), ctypes.c_size_t(), ctypes.c_uint32(), ctypes.c_uint32()]
+        into = ctypes.create_string_buffer(max(room, 1))
+        found = [ctypes.c_size_t(), ctypes.c_size_t(), ctypes.c_uint32(), ctypes.c_uint32()]
         status = session.calls["answer"](typed, ctypes.c_size_t(len(typed)), into, ctypes.c_size_t(room), *map(ctypes.byref, found))
         return status, found[0].value, found[1].value
 
@@ -119,40 +120,15 @@ class WrongHands(LibraryCase):
         self.assertIsNone(session.again(1))
         self.assertEqual(session.turns(0), ([], False))
 
-    def test_numbers_that_a_call_does_not_take(self):
-        """C takes their lowest bits: 2**32 + 1 is one action, and 2**32 + 40970 is P of processor 0."""
-        session, assembler = self.open(central=32768), Assembler(PROVED)
+    def test_wrong_arguments(self):
+        found, count = wrong_calls.faults(PROVED)
+        self.assertEqual([], found)
+        self.assertGreater(count, 600)
+
+    def test_more_than_there_is_memory_for(self):
+        session = self.open(central=32768)
         session.answer(b"STEP 20\nBACK 10\n")
         before = session.counts(), session.numbers(0, PLACES)
-        made = {
-            "open": lambda at, number: self.open(**{("history", "central", "reader", "printer")[at]: number}),
-            "numbers": lambda _, number: session.numbers(number, 1),
-            "turns": lambda _, number: session.turns(number),
-            "origins": lambda _, number: session.origins(number),
-            "again": lambda _, number: session.again(number),
-            "looks": lambda at, number: session.looks(*((number, [40960]), (1, [number]))[at]),
-            "until": lambda _, number: session.until([], number),
-            "form": lambda at, number: session.back_until([Form(*[0] * at, number)]),
-            "last_write": lambda at, number: session.last_write(*((number,), (0, number))[at]),
-            "back": lambda _, number: session.back(number),
-            "forward": lambda _, number: session.forward(number),
-            "assemble": lambda _, number: assembler.text(b"", number),
-            "assemble_with": lambda _, number: assembler.text(b"", number, [(b"A", b"")]),
-            "load_lines": lambda _, number: assembler.load_lines(b"", number),
-            "disassemble": lambda at, number: assembler.disassembled(*(({number: 0}, []), ({0: number}, []), ({0: 0}, [number]))[at]),
-            "text_of_status": lambda _, number: library.text_of_status(number, PROVED),
-            "instruction": lambda _, number: library.instruction(number, PROVED),
-        }
-        for call, widths in library_calls.NUMBERS.items():
-            for at, bits in enumerate(widths):
-                for number in (-1, 2 ** bits, 2 ** bits + 1, 2 ** bits + 40970, 2 ** 64, 2 ** 64 + 1):
-                    with self.subTest(call, at=at, number=number), self.assertRaises(Failure):
-                        made[call](at, number)
-                with self.subTest(call, at=at), self.assertRaises(TypeError):
-                    made[call](at, 1.5)
-        for count in (-1, 2 ** 63, 2 ** 64 + 1):
-            with self.assertRaises(Failure):
-                session.numbers(0, count)
         with self.assertRaisesRegex(Failure, "no memory"):
             session.turns(2 ** 32 - 1)
         self.assertEqual((session.counts(), session.numbers(0, PLACES)), before)
@@ -177,10 +153,21 @@ class WrongHands(LibraryCase):
             session.answer(line[5:])
         self.assertEqual(1, session.counts().kept)
 
+    def test_no_memory_for_an_answer(self):
+        """What is performed before it is returned."""
+        session = self.open(central=32768)
+        with unittest.mock.patch.object(library.ctypes, "create_string_buffer", side_effect=MemoryError):
+            answers = session.answer(b"STEP\nDUMP C 0 77777\nSTEP\n")
+            self.assertEqual((b"TURNS 1 SLOT 01\n", 1, 5), (answers.text, answers.lines, answers.taken))
+            with self.assertRaisesRegex(Failure, "no memory for the answer"):
+                session.answer(b"DUMP C 0 77777\n")
+        self.assertEqual(1, session.counts().kept)
+
     def test_little_memory(self):
         """When memory runs out, the other sessions are as they were, and one that is closed makes room for another."""
         environment = {**os.environ, "PYTHONPATH": os.path.join(TOP, "tools"), "PP6600_LIBRARY": os.path.abspath(PROVED)}
-        done = subprocess.run([sys.executable, "-c", LITTLE_MEMORY], capture_output=True, text=True, check=False, timeout=PATIENCE, env=environment)
+        done = subprocess.run([sys.executable, "-c", LITTLE_MEMORY], capture_output=True, text=True, check=False, timeout=PATIENCE,
+                              env=environment)
         self.assertEqual(("pp6600: NO MEMORY True True\n", ""), (done.stdout, done.stderr))
 
     def test_a_closed_session(self):
@@ -196,6 +183,16 @@ class WrongHands(LibraryCase):
             LibrarySession(path=self.path("none.so"))
         with self.assertRaisesRegex(Failure, "the library of the simulator can't be loaded"):
             LibrarySession(path=self.file("not a library"))
+
+
+class Recorder:
+    """A session that keeps the conditions that it is asked for."""
+
+    def __init__(self, found):
+        self.found = found
+
+    def until(self, condition, _):
+        self.found.append(list(map(tuple, condition)))
 
 
 def trace(seed):
@@ -235,11 +232,13 @@ class Header(LibraryCase):
     """What the header says of the library."""
 
     def test_version(self):
-        numbers = re.findall(r"^#define PP6600_VERSION_(?:MAJOR|MINOR|PATCH) (\d+)$", read("crates", "pp_library", "pp6600.h"), re.M)
+        numbers = re.findall(r"^#define PP6600_VERSION_(?:MAJOR|MINOR|PATCH) (\d+)$", read("crates", "pp_library", "pp6600.h"),
+                             re.M)
         self.assertEqual((read("VERSION").strip(), tuple(map(int, numbers))), (".".join(numbers), library.version(PROVED)))
 
     def test_statuses(self):
-        numbers = re.findall(r"^    PP6600_(\w+) = (\d+),?(?: +/\*|$)", read("crates", "pp_library", "pp6600.h").split("enum {")[1], re.M)
+        numbers = re.findall(r"^    PP6600_(\w+) = (\d+),?(?: +/\*|$)",
+                             read("crates", "pp_library", "pp6600.h").split("enum {")[1], re.M)
         self.assertEqual([(str(number), name) for number, name in enumerate(
             ("DONE", "ROOM", "WATCHED", "CLOSED", "OPEN", "NO_MEMORY", "REFUSED", "LIMIT", "NOT_FOUND"))],
             [(number, name) for name, number in numbers[:9]])
@@ -256,8 +255,8 @@ class InC(LibraryCase):
         target, shared = self.path(os.path.basename(source) + ".out"), self.path("libpp6600.so.1")
         if not os.path.exists(shared):
             os.symlink(os.path.abspath(PROVED), shared)
-        subprocess.run(["gcc", "-std=gnu11", "-O1", "-g", "-Wall", "-Wextra", "-Wconversion", "-Werror", "-I", CRATE, source, shared, "-o", target,
-                        f"-Wl,-rpath,{os.path.dirname(shared)}"], check=True, timeout=PATIENCE)
+        subprocess.run(["gcc", "-std=gnu11", "-O1", "-g", "-Wall", "-Wextra", "-Wconversion", "-Werror", "-I", CRATE, source,
+                        shared, "-o", target, f"-Wl,-rpath,{os.path.dirname(shared)}"], check=True, timeout=PATIENCE)
         return target
 
     def run_under(self, *words):
@@ -280,13 +279,40 @@ class InC(LibraryCase):
         for used, most in zip(map(int, shown.split()), STACKS):
             self.assertTrue(0 < used <= most, shown)
 
+    def test_short_examples(self):
+        """An example for each of three questions, of at most 30 lines; that in JavaScript is tried where the package for Node
+        is."""
+        folder = os.path.join(TOP, "docs", "library")
+        for name in ("last-writer.c", "hottest.py", "channel-log.mjs"):
+            self.assertLessEqual(read("docs", "library", name).count("\n"), 30)
+        self.assertEqual(read("docs", "library", "last-writer.txt"),
+                         self.run_under(self.compiled(os.path.join(folder, "last-writer.c"))).stdout)
+        shown = self.in_python(os.path.join(folder, "hottest.py"))
+        self.assertEqual((read("docs", "library", "hottest.txt"), ""), (shown.stdout, shown.stderr))
+
+    def in_python(self, *words):
+        environment = {**os.environ, "PYTHONPATH": os.path.join(TOP, "tools"), "PP6600_LIBRARY": PROVED}
+        return subprocess.run(["python3", *words], capture_output=True, text=True, check=False, timeout=PATIENCE, env=environment)
+
+    def test_searches_of_the_page(self):
+        """Each row of the table is one condition, in C as in Python."""
+        kinds = {name: number for number, name in enumerate(("INSIDE", "OUTSIDE", "CHANGES", "WRITES", "PERFORMS", "WAITS", "OR"))}
+        places = {"STATES": 41000, "A": 40960}
+        rows = re.findall(r"^\| until .*?\| (`\{.*\}`) \| `(.*)` \|$", read("docs", "LIBRARY.md"), re.M)
+        for in_c, in_python in rows:
+            numbers = re.sub(r"PP6600_(\w+)", lambda one: str({**kinds, **places}[one[1]]), in_c.replace("`", ""))
+            forms = eval(re.sub(r"\b0([0-7]+)", r"0o\1", numbers).replace("{", "(").replace("}", ")") + ",")
+            found = []
+            eval(in_python, {**{name: getattr(pp6600, name) for name in pp6600.__all__}, "session": Recorder(found)})
+            self.assertEqual([list(map(tuple, forms))], found)
+        self.assertEqual(3, len(rows))
+
     def test_the_sessions_of_the_page(self):
         (in_c,), (in_python,) = blocks("docs/LIBRARY.md", "c"), blocks("docs/LIBRARY.md", "python")
         done = self.run_under(self.compiled(self.file(in_c.text, "page.c")))
         script = "SET M 0 100 3410 0376\nSET P 0 100\nSTEP 50\nDUMP PP 0\n"
         answers = subprocess.run([program()], input=script, capture_output=True, text=True, check=False, timeout=PATIENCE).stdout
         self.assertEqual((done.returncode, done.stdout), (0, answers))
-        environment = {**os.environ, "PYTHONPATH": os.path.join(TOP, "tools"), "PP6600_LIBRARY": PROVED}
-        shown = subprocess.run(["python3", "-c", in_python.text], capture_output=True, text=True, check=False, timeout=PATIENCE, env=environment)
+        shown = self.in_python("-c", in_python.text)
         self.assertEqual((shown.returncode, shown.stderr), (0, ""))
         self.assertIn("TURNS 50 SLOT 00", shown.stdout)

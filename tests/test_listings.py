@@ -18,7 +18,8 @@ from pp6600.language.listing import Listing, ListingSymbols
 from pp6600.language.program import assembled
 
 setUpModule = needs_library
-LISTINGS = [text.splitlines() for text in re.findall("<<END\n(.*?)^END$", read("tests", "sessions", "printed-listings.txt"), re.M | re.S)]
+LISTINGS = [text.splitlines()
+            for text in re.findall("<<END\n(.*?)^END$", read("tests", "sessions", "printed-listings.txt"), re.M | re.S)]
 SEED, COUNT = map(int, os.environ.get("PP6600_ERRORS", "70:80").split(":"))
 WORDS_OF_LINE = 2
 PAGE = 20  # lines
@@ -59,11 +60,30 @@ def paged(source):
 
 def sequenced(source):
     """With sequence numbers at the right."""
-    return [f"{address:4}  {' '.join(words):11}  {text:50} DECK {number:5}" for number, (address, words, text) in enumerate(rows_of(source), 1)]
+    return [f"{address:4}  {' '.join(words):11}  {text:50} DECK {number:5}"
+            for number, (address, words, text) in enumerate(rows_of(source), 1)]
 
 
-STYLES = (numbered, paged, sequenced, listing)
-ERRORS = {"a digit lost": lambda line, at: f"{line[:at]} {line[at + 1:]}", "a digit deleted": lambda line, at: line[:at] + line[at + 1:],
+def word_by_word(source):
+    """With each word in a line of its own, and no address beside the words that go on."""
+    for row in assembled(source).rows:
+        words = [f"{word:04o}" for word in row.words]
+        yield f" {f'{row.location:04o}' if row.has_address else '':4}  {''.join(words[:1]):4}   {row.text}".rstrip()
+        yield from (f"{'':7}{word}" for word in words[1:])
+
+
+def by_labels(source):
+    """With addresses beside labels, and beside the first words after lines without words."""
+    is_behind_words = False
+    for address, words, text in rows_of(source):
+        is_left_out = bool(words) and is_behind_words and text[:2].strip() == ""
+        yield f" {'' if is_left_out else address:4}  {' '.join(words):9}   {text}".rstrip()
+        is_behind_words = bool(words)
+
+
+STYLES = (numbered, paged, sequenced, listing, lambda source: list(word_by_word(source)), lambda source: list(by_labels(source)))
+ERRORS = {"a digit lost": lambda line, at: f"{line[:at]} {line[at + 1:]}", "a digit deleted": lambda line, at: line[:at]
+          + line[at + 1:],
           "a letter": lambda line, at: f"{line[:at]}{'OISBZG'[at % 6]}{line[at + 1:]}",
           "a point": lambda line, at: f"{line[:at]}.{line[at + 1:]}"}
 
@@ -71,7 +91,8 @@ ERRORS = {"a digit lost": lambda line, at: f"{line[:at]} {line[at + 1:]}", "a di
 class Listings(Case):
     def test_names_of_addresses(self):
         symbols = ListingSymbols(next(lines for lines in LISTINGS if "LIMIT" in lines[0]))
-        self.check_rows(symbols.name, (0o100, "START"), (0o101, "A"), (0o102, "HERE"), (0o103, "HERE+1"), (0o77, "MASK"), (0o76, ""))
+        self.check_rows(symbols.name, (0o100, "START"), (0o101, "A"), (0o102, "HERE"), (0o103, "HERE+1"), (0o77, "MASK"),
+                        (0o76, ""))
         self.check_rows(symbols.address, ("LIMIT", 0o100), ("HERE", 0o102), ("MASK", 0o77), ("NONE", None))
 
     def test_no_fault_of_its_own(self):
@@ -135,9 +156,12 @@ class Errors(Case):
                 return number, choose.choice(digits)
 
     def test_another_digit(self):
-        """Another digit in a word is found if the operand says what it is: here each does but the second word of the SUBR's jump."""
-        lines = listing(["          BASE   OCTAL", " N        EQU    20", "          ORG    100", " A        LDN    N", "          LDC    123456",
-                     "          LDM    B,5", "          UJN    A", " B        CON    1,B", "          DATA   3HABC", "          SHN    -6"])
+        """Another digit in a word is found if the operand says what it is: here each does but the second word of the SUBR's
+        jump."""
+        lines = listing(["          BASE   OCTAL", " N        EQU    20", "          ORG    100", " A        LDN    N",
+                         "          LDC    123456",
+                     "          LDM    B,5", "          UJN    A", " B        CON    1,B", "          DATA   3HABC",
+                         "          SHN    -6"])
         for number, line in enumerate(lines):
             for at in (at for at, symbol in enumerate(line[11:20], 11) if symbol in "01234567"):
                 changed = f"{line[:at]}{int(line[at]) ^ 1}{line[at + 1:]}"
@@ -157,28 +181,78 @@ class Errors(Case):
 
     def test_digits_of_literals(self):
         """Another digit in the words of a literal, in its address, or beside a name on a macro's call is found."""
-        self.check_each_digit(["          BASE   OCTAL", "          ORG    100", " STORE    MACRO  A,B", "          LDN    A", "          STD    B",
-                               "          ENDM", " START    LDN    2", " LAB      STORE  5,20", "          LJM    LAB", "          LDM    =5",
+        self.check_each_digit(["          BASE   OCTAL", "          ORG    100", " STORE    MACRO  A,B", "          LDN    A",
+                               "          STD    B", "          ENDM", " START    LDN    2", " LAB      STORE  5,20",
+                               "          LJM    LAB", "          LDM    =5",
                                "          LDC    =H*ABCD*", "          CON    =7", "          END    START"], 0, 20)
 
     def test_name_without_a_table(self):
         """A name that the listing does not have, as one of the system's, is one number in all lines."""
-        lines = ["0100  5000 7501   START LDM  PPFW", "0102  5400 7501   STM  PPFW", "0104  7013        IAN  CH", "0105  7213        OAN  CH"]
+        lines = ["0100  5000 7501   START LDM  PPFW", "0102  5400 7501   STM  PPFW", "0104  7013        IAN  CH",
+                 "0105  7213        OAN  CH"]
         self.assertEqual(6, len(self.words(lines)))
         for number, wrong in ((1, "0102  5400 7502   STM  PPFW"), (3, "0105  7212        OAN  CH")):
-            with self.assertRaisesRegex(Failure, "in this line, and"):
+            with self.assertRaisesRegex(Failure, "the line has .*, and .* makes .*; .* is .*, as line . .decimal. says"):
+                self.words([*lines[:number], wrong, *lines[number + 1:]])
+
+
+    def test_without_names(self):
+        """A listing without any name is what the operands say."""
+        lines = ["0100 ORG 100", "0100 1405 LDN 5", "0101 3420 STD 20", "0102 0300 UJN *"]
+        self.assertEqual({0o100: 0o1405, 0o101: 0o3420, 0o102: 0o300}, self.words([" " * 5 + lines[0], *lines[1:]]))
+        for number, wrong in ((1, "0100 1406 LDN 5"), (2, "0101 3421 STD 20"), (3, "0102 0307 UJN *")):
+            with self.assertRaisesRegex(Failure, "the line has .*, and .* makes"):
+                self.words([*lines[:number], wrong, *lines[number + 1:]])
+
+    def test_literal_with_a_blank(self):
+        self.check_each_digit(["          BASE   OCTAL", "          ORG    100", " START    LDC    =C*A B*",
+                               "          RJM    START", "          LDC    =C*A B*", "          UJN    START"], 0, 20)
+
+    def test_label_of_a_call_without_its_address(self):
+        lines = [line if "MOVE   5" not in line else f"{'':11}{line[11:]}" for line in listing([
+            "          BASE   OCTAL", "          ORG    100", " MOVE     MACRO  A,B", "          LDN    A", "          STD    B",
+            "          ENDM", " MXJ      MOVE   5,20", "          LJM    MXJ", "          RJM    MXJ"])]
+        self.assertEqual(6, len(self.words(lines)))
+        for wrong in ("0100 0101", "0100 0111", "0101 0100"):
+            with self.assertRaises(Failure):
+                self.words([line.replace("0100 0100", wrong) for line in lines])
+
+    def test_other_assemblers_begin_a_word_with_each_vfd(self):
+        lines = ["0100  0500      A  VFD  6/5", "0101  0600         VFD  6/6", "0102  0700         VFD  6/7",
+                 "0103  0300      B  UJN  *"]
+        self.assertEqual([0o500, 0o600, 0o700, 0o300], list(self.words(lines).values()))
+        for number, wrong in enumerate(
+            ("0100  0501      A  VFD  6/5", "0101  0601         VFD  6/6", "0102  0600         VFD  6/7")):
+            with self.assertRaises(Failure):
                 self.words([*lines[:number], wrong, *lines[number + 1:]])
 
 
 class Own(Case):
+    def test_all_statements(self):
+        """The assembler's own listing of BASE *, micros in names and operands, ORG back, other names of directives, blocks and
+        literals."""
+        lines = ["          IDENT  OWN,100B", "          BASE   DECIMAL", "          ORG    64", " N        MICRO  1,,/5/",
+                 " X\"N\"     LDN    \"N\"", "          BASE   OCTAL", "          LDC    =10", "          BASE   *",
+                 " HERE     LDC    =10", " ROOM     OPSYN  BSS", " BUF      ROOM   3", " Y        LIT    5,6",
+                 "          LDM    Y+1", "          USE    DATA", " D        CON    =C*A B*,HERE", "          USE    *",
+                 " A        VFD    3/1", "          VFD    3/2,6/3", " +        VFD    6/4", "          POS    6",
+                 "          VFD    3/5", "          QUAL   Q", " L        LDN    1", "          QUAL   *", "          LJM    /Q/L",
+                 " S        SUBR", "          UJN    SX", "          LOC    20B", " M        LJM    M", "          LOC    *O",
+                 "          ORG    32", "          LDN    1", "          END    HERE"]
+        program = assembled(lines)
+        self.assertEqual((0, {address: cell.word for address, cell in program.cells.items()}),
+                         (program.faults, Errors.words(listing(lines))))
+
     def test_micro(self):
         """What stands for a micro is not printed, so the words say nothing else."""
-        lines = listing(["          BASE   OCTAL", "          ORG    100", " HI       MICRO  1,,/OK/", "          DIS    ,*\"HI\"*", "          CON    2R\"HI\""])
+        lines = listing(["          BASE   OCTAL", "          ORG    100", " HI       MICRO  1,,/OK/",
+                         "          DIS    ,*\"HI\"*", "          CON    2R\"HI\""])
         self.assertEqual([0o1713, 0, 0o1713], list(Errors.words(lines).values()))
 
     def test_two_programs(self):
         """Of the programs of a source the first is loaded, as by --words."""
         for origin in ("100", "200"):
-            lines = listing(["          IDENT  A", "          BASE   OCTAL", "          ORG    100", " START    LDN    1", "          LDC    =5", "          IDENT  B",
+            lines = listing(["          IDENT  A", "          BASE   OCTAL", "          ORG    100", " START    LDN    1",
+                             "          LDC    =5", "          IDENT  B",
                          f"          ORG    {origin}", " BEGIN    LDN    2", "          UJN    BEGIN", "          END    BEGIN"])
             self.assertEqual({0o100: 0o1401, 0o101: 0o2000, 0o102: 0o103, 0o103: 5}, Errors.words(lines))

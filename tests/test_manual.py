@@ -37,7 +37,8 @@ class ManualPages(Case):
             raise unittest.SkipTest("there is no man here")
         folder = lasting_room()
         cls.made = alone(os.path.join(TOP, "share", "manual"), folder)
-        paths, env = sorted(glob.glob(os.path.join(folder, "*.1"))), {"MANWIDTH": "500", "LC_ALL": "C.UTF-8", "MAN_KEEP_FORMATTING": ""}
+        paths = sorted(glob.glob(os.path.join(folder, "*.1")))
+        env = {"MANWIDTH": "500", "LC_ALL": "C.UTF-8", "MAN_KEEP_FORMATTING": ""}
         cls.done = alone("man", "--warnings", "-l", *paths, env=env)
         _, *parts = re.split(r"^(\S+)\(1\) +User Commands +\1\(1\)$", re.sub(".\b", "", cls.done.out), flags=re.M)
         cls.shown = dict(zip(map(str.lower, parts[::2]), parts[1::2]))  # each page as man shows it

@@ -1,6 +1,6 @@
 """Where numbers come from, as the engines answer it: each number is the one that its origin makes, the answer of the simulator in
-Python is that of the library, and what is read is needed; and as tools/origin follows it, beside the last writes of places turn by turn.
-Whole answers of the tool are in tests/sessions.
+Python is that of the library, and what is read is needed; and as tools/origin follows it, beside the last writes of places turn by
+turn. Whole answers of the tool are in tests/sessions.
 
     PP6600_ORIGINS=SEED:COUNT   compares COUNT random sessions from seed SEED on, the tool by one in ten; the default is 0:150
 """
@@ -57,14 +57,17 @@ def operand(numbers):
     return numbers[0] if len(numbers) == 1 else numbers[0] << 12 | numbers[1]
 
 
-FIELDS = [lambda n: n, lambda n: n & 0o7777, *[lambda n, part=part: n >> 12 * (4 - part) & 0o7777 for part in range(5)], lambda n: n >> 18 << 18,
+FIELDS = [lambda n: n, lambda n: n & 0o7777, *[lambda n, part=part: n >> 12 * (4 - part) & 0o7777
+                                               for part in range(5)], lambda n: n >> 18 << 18,
           lambda n: n >> 36 & 0o777777, lambda n: n >> 6, lambda n: n & 0o77, lambda n: n, lambda n: n & 0o77, lambda n: n]
 MADE = [operand, lambda ns: sum(n << 12 * (4 - at) for at, n in enumerate(ns)), lambda ns: add(ns[0], operand(ns[1:])),
         lambda ns: subtract(ns[0], operand(ns[1:])), lambda ns: ns[0] ^ operand(ns[1:]), lambda ns: ns[0] & operand(ns[1:]),
-        lambda ns: ns[0] & ~ns[1], lambda ns: shifted(*ns), lambda ns: 0o777777 - ns[0], lambda ns: add(ns[0], 1), lambda ns: subtract(ns[0], 1),
+        lambda ns: ns[0] & ~ns[1], lambda ns: shifted(*ns), lambda ns: 0o777777 - ns[0], lambda ns: add(
+    ns[0], 1), lambda ns: subtract(ns[0], 1),
         lambda ns: add(*ns) & 0o7777, lambda ns: add(ns[0], 1) & 0o7777, lambda ns: subtract(ns[0], 1) & 0o7777,
         *[lambda ns, more=more: (ns[0] + more) & 0o7777 for more in (1, 2, 5)], lambda ns: relative(*ns), lambda ns: indexed(*ns),
-        lambda ns: (indexed(*ns) + 1) & 0o7777, lambda ns: (ns[0] + 1) & 0o777777, lambda ns: ns[0] - 1, lambda ns: ns[0] + 1, lambda ns: ns[0] + 2,
+        lambda ns: (indexed(*ns) + 1) & 0o7777, lambda ns: (ns[0] + 1) & 0o777777, lambda ns: ns[0] - 1, lambda ns: ns[0]
+        + 1, lambda ns: ns[0] + 2,
         lambda ns: (ns[0] + 1) % 10, NO_NUMBER, *[lambda ns, constant=constant: constant for constant in (0, 0, 1, 2, 3, 0o100)]]
 
 
@@ -91,7 +94,8 @@ class Explained(SessionCase):
     """Sessions on both engines."""
 
     def engines(self, words):
-        """Returns both engines with these options, or that in Python alone if there is no library for this machine; none if they are refused."""
+        """Returns both engines with these options, or that in Python alone if there is no library for this machine; none if they
+        are refused."""
         path = library_named(program())
         try:
             return [PlainEngine(words), *([engine_of(path, words)] if path else [])]
@@ -140,8 +144,8 @@ CODE_NAMES = names_of_codes()
 
 
 class LastWrite(NamedTuple):
-    """The last write of a place: in which turn (None at the start), how the tool's line goes on after that, and the writes that it has
-    its number from, each with the parts of the word that it read, or None for all."""
+    """The last write of a place: in which turn (None at the start), how the tool's line goes on after that, and the writes that it
+    has its number from, each with the parts of the word that it read, or None for all."""
 
     place: Place
     turn: Optional[str] = None
@@ -287,8 +291,8 @@ class Followed(SessionCase):
 CODES = [*((code, False) for code in range(0o100)), *((code, True) for code in (0o61, 0o63, 0o71, 0o73))]
 TRIES = 400  # of each code
 CHANNELS_TRIED = (0o00, 0o05, 0o13, 0o14, 0o15, 0o77)
-# Rows in which no change of a place that is named can be seen. LJM: the operand's address goes to P and names no cell, so the cells that it
-# comes from are read, but decide nothing.
+# Rows in which no change of a place that is named can be seen. LJM: the operand's address goes to P and names no cell, so the cells
+# that it comes from are read, but decide nothing.
 UNSEEN = {"01": {("control", "M", 0)}}
 
 
@@ -309,7 +313,8 @@ class Needed(Case):
         word = code << 6 | d
         numbers[places.M + p] = choose.randrange(0o10000) if in_block else word
         numbers[places.P], numbers[places.PHASE], numbers[places.SLOT] = p, word if in_block else 0, 0
-        numbers[places.A] = choose.choice([0, 1, 0o377777, 0o400000, 0o777777, choose.randrange(0o1000000), choose.randrange(0o400000)])
+        numbers[places.A] = choose.choice(
+            [0, 1, 0o377777, 0o400000, 0o777777, choose.randrange(0o1000000), choose.randrange(0o400000)])
         numbers[places.Q] = choose.choice([0, 1, choose.randrange(0o10000)])
         for channel in range(places.CHANNELS):
             numbers[places.STATE + channel], numbers[places.H + channel] = choose.randrange(4), choose.randrange(0o10000)
@@ -366,8 +371,10 @@ class Needed(Case):
                     for at, (place, field) in enumerate(origin.reads):
                         key = self.kind(origin.place), origin.operation, at
                         asked.add(key)
-                        if key not in seen and any(self.changed(place, other, lambda: self.after(next_turn(self.machine))).get(origin.place)
-                                                   not in (None, made[origin.place]) for other in self.others(place, field, choose)):
+                        if key not in seen and any(
+                            self.changed(place, other, lambda: self.after(next_turn(self.machine))).get(origin.place)
+                                                   not in (None, made[origin.place])
+                            for other in self.others(place, field, choose)):
                             seen.add(key)
                 for place in turn.control:
                     key = "control", self.kind(place), 0 if place != places.M + self.machine.numbers[places.P] else 1
@@ -382,6 +389,6 @@ class Needed(Case):
     @staticmethod
     def kind(place):
         """Returns what a place is."""
-        kinds = {places.M: "M", places.P: "P", places.H: "H", places.A: "A", places.Q: "Q", places.PHASE: "PHASE", places.STATE: "S",
-                 places.FRAME: "XP", places.SLOT: "SLOT", places.C: "C"}
+        kinds = {places.M: "M", places.P: "P", places.H: "H", places.A: "A", places.Q: "Q", places.PHASE: "PHASE",
+                 places.STATE: "S", places.FRAME: "XP", places.SLOT: "SLOT", places.C: "C"}
         return kinds[max(first for first in kinds if first <= place)]

@@ -1,8 +1,8 @@
 """Tests that the pages name what is there: files, headings, calls, clauses, mutants, options, words of the console.
 
 A name is what stands between backticks in the prose of a page, not in a block of code. Each of its words is an identifier of the
-sources, definitions or proofs, a word of a program, a file or folder, or a word of OTHERS. A name with '::' has its parts in one crate,
-and `Type::call` is a call of that type. A name after a word of KINDS is of that kind. A link has its file and its heading.
+sources, definitions or proofs, a word of a program, a file or folder, or a word of OTHERS. A name with '::' has its parts in one
+crate, and `Type::call` is a call of that type. A name after a word of KINDS is of that kind. A link has its file and its heading.
 """
 
 import functools
@@ -22,17 +22,18 @@ CONTRACTS = PROOFS["contracts"]()
 CRATES = [line.split(":")[0].split()[0] for line in read("crates.txt").splitlines()]
 
 # What the repository does not define: words of the kit and of the system, keys, what is installed, and what recipes invent.
-OTHERS = set("""ci crate doc lemma logic plant version specs proofs ghost prove inline auto using unfolding clause functions proof failed
-    cat pip uname uninstall TO --anew --allow-holes --fix-imports --only --start --test Display Read Write File cd echo cp gz python3 tar zip Ctrl Shift Tab
-    End Home WORD FILE FILE.html FUNCTION word /usr/local ~/.local ~/.pp6600_history PREFIX/bin PREFIX/libexec/pp6600/tools
-    share/pp6600/exercises pp6600-VERSION-linux.tar.gz work.html
+OTHERS = set("""ci crate doc lemma logic plant version specs proofs ghost prove inline auto using unfolding clause functions proof
+    failed cat pip npx uname uninstall TO --anew --allow-holes --fix-imports --only --start --test Display Read Write File cd echo
+    cp gz python3 tar zip Ctrl Shift Tab End Home WORD FILE FILE.html FUNCTION word /usr/local ~/.local ~/.pp6600_history PREFIX/bin
+    PREFIX/libexec/pp6600/tools share/pp6600/exercises pp6600-VERSION-linux.tar.gz work.html
     libpp6600.so.1 PKG_CONFIG_PATH wasm-opt BigInt memory.grow grow XNAME SNAME OP redo crates/.checked /Q/NAME
-    WHO Who slot_text kept_text must-fail/who_shows_p.edit pp_console/who_shows_p pp6600_watched BLANK ABC""".split())
+    WHO Who slot_text kept_text mutants/who_shows_p.edit pp_console/who_shows_p pp6600_watched BLANK ABC""".split())
 COMMENT_OR_TEXT = re.compile(r'//[^\n]*|--[^\n]*|b?("(?:\\.|[^"\\])*")')
 OF_A_PROGRAM = re.compile(r"--?[a-z][a-z-]*|\b[A-Z][A-Z\d_]*\b|(?<=[\"'])\w+(?=[\"'])|(?<=def )\w+|(?<=class )\w+")
 PATH = re.compile(r"(?=.*\w)[~\w.*-]*/[\w./*-]*|[\w*-]+\.(?:antt|edit|html|md|py|rt|txt)")
 WORD = re.compile(r"(?<!\w)[A-Za-z_]\w*(?:-\w+)*(?:::\w+)*")
-PLAIN = re.compile(r"([A-Za-z])\1*|[a-z]\d+|rattle-kit-\w+|[a-f][\da-f]{15}")  # n or aaaa for a number, a key as g106, a kit, its sum
+# n or aaaa for a number, a key as g106, a kit, its sum
+PLAIN = re.compile(r"([A-Za-z])\1*|[a-z]\d+|rattle-kit-\w+|[a-f][\da-f]{15}")
 LINK = re.compile(r"\]\(([^)#:\s]*)(?:#([^)\s]+))?[^)]*\)")
 CONTRACT = re.compile(r"^- ((?:`[\w:]+`(?:, | and )?)+)(?: \(([^)]*)\))?:", re.M)
 KINDS = {"clause": "clauses", "clauses": "clauses", "against": "clauses", "mutant": "mutants", "mutants": "mutants",
@@ -45,7 +46,7 @@ COUNT = re.compile(r"\b(?:\d[\d,]*|two|three|four|five|six|seven|eight|nine|ten|
 
 def is_program(path):
     with open(os.path.join(TOP, path), "rb") as file:
-        return (path.endswith(".py") or file.read(2) == b"#!") and not path.endswith("test_pages.py")
+        return (path.endswith((".py", ".mjs")) or file.read(2) == b"#!") and not path.endswith("test_pages.py")
 
 
 class Known:
@@ -54,7 +55,8 @@ class Known:
     def __init__(self):
         self.files = {f"crates/{crate}/out" for crate in CRATES}
         for folder, folders, names in os.walk(TOP):
-            folders[:] = [name for name in folders if name not in (".git", "out", "__pycache__")]  # what a check leaves is not counted
+            # what a check leaves is not counted
+            folders[:] = [name for name in folders if name not in (".git", "out", "__pycache__")]
             self.files |= {os.path.relpath(os.path.join(folder, name), TOP) for name in folders + names}
         self.paths = "\n".join(sorted(self.files))
         self.code, self.clauses, self.ghosts, self.words = {}, set(), set(), set(OTHERS)
@@ -85,11 +87,12 @@ KNOWN = Known()
 
 
 def is_path(path, page):
-    """Whether a file or folder has this path. NAME, X, x and `*` stand for any name. On a crate's page src/ is that of the crate."""
+    """Whether a file or folder has this path. NAME, X, x and `*` stand for any name. On a crate's page src/ is that of the
+    crate."""
     kept = re.sub(r"/out/.*", "/out", path.lstrip("./").strip("/"))
     ending = re.escape(re.sub(r"NAME|(?<![^/])[xX](?=[A-Z./]|$)", "*", kept)).replace(r"\*", "[^/]*") + r"(?:\.rt)?$"
     first, own = kept.split("/")[0], os.path.dirname(page)
-    if first in ("src", "specs", "proofs", "must-fail", "must-fail-more") and own.startswith("crates/"):
+    if first in ("src", "specs", "proofs", "must-fail", "mutants") and own.startswith("crates/"):
         ending = f"^{own}/{ending}"
     elif first in KNOWN.files and "/" in kept:
         ending = "^" + ending
@@ -169,19 +172,21 @@ class Pages(Case):
             shown = {line.strip() for block in blocks(page, "rust") for line in block.text.splitlines()}
             with self.subTest(page):
                 self.assertEqual(set(), shown - lines - {""})
-                self.assertIn("\n## What is proved\n", read(page))
+                self.assertTrue(read(page).startswith(f"# `{crate}`\n\n"))
 
     def test_layers(self):
-        """The table of docs/ARCHITECTURE.md has the crates of crates.txt."""
-        table = read("docs/ARCHITECTURE.md").split("| Crate |")[1].split("\n\n")[0]
-        listed = re.findall(r"^(\w+)", read("crates.txt"), flags=re.M)
-        self.assertEqual(sorted(listed), sorted(re.findall(r"^\| `(\w+)` \|", table, flags=re.M)))
+        """docs/ARCHITECTURE.md names each crate but those for tests, of the theorems alone and the program, which has the name of
+        all."""
+        named = set(re.findall(r"`(\w+)`", read("docs/ARCHITECTURE.md").split("## The layers")[1].split("\n## ")[0]))
+        self.assertEqual(set(), {crate for crate in CRATES if not crate.startswith("test_")} - named - {"pp6600", "pp_worked"})
 
     def test_what_scripts_make(self):
         """Texts, tables and pictures of the pages, and the colours of editors, are what their scripts make now."""
-        for script in ("docs/proofs.py", "docs/card.py", "docs/definitions.py", "docs/drawings/draw.py", "docs/drawings/panel.py", "share/colours"):
+        for script in ("docs/proofs.py", "docs/card.py", "docs/definitions.py", "docs/drawings/draw.py", "docs/drawings/panel.py",
+                       "share/colours"):
             with self.subTest(script):
-                done = subprocess.run([sys.executable, os.path.join(TOP, script), "--check"], capture_output=True, text=True, check=False)
+                done = subprocess.run([sys.executable, os.path.join(TOP, script), "--check"], capture_output=True, text=True,
+                                      check=False)
                 self.assertEqual(("", 0), (done.stdout + done.stderr, done.returncode))
 
     def test_numbers_of_drawings(self):
@@ -189,17 +194,8 @@ class Pages(Case):
         whole = read("tests", "cases.txt")
         for name in ("session", "turn"):
             case = whole.split(f"\n== drawing-of-a-{name}\n")[1].split("\n== ")[0]
-            numbers = re.findall(r"\b[0-7]{3,}\b", " ".join(re.findall(r">([^<]+)</text>", read("docs", "drawings", f"{name}.svg"))))
+            numbers = re.findall(r"\b[0-7]{3,}\b",
+                                 " ".join(re.findall(r">([^<]+)</text>", read("docs", "drawings", f"{name}.svg"))))
             with self.subTest(name):
                 self.assertLess(10, len(numbers))
                 self.assertEqual(set(), set(numbers) - set(re.findall(r"\b[0-7]{3,}\b", case)))
-
-    def test_order_of_promises(self):
-        """PROOFS has what the lines 'first:' name, and then the sections without promises. INNER has the other promises."""
-        names = "".join(f"## {one}\n\nAll.\n\n### {one}1\n\nSo.\ncall: c\n\n### {one}2\n\nSo.\ncall: c\n\n" for one in "AB")
-        text = f"# Page\n\nfirst: B: B2; B3\nfirst: C: C1\n\n{names}## Last\n\nIt is.\n"
-        pages, faults = PROOFS["ordered"](text)
-        order = {"docs/PROOFS.md": "# Page, ## B, ### B2, ## C, ## Last",
-                 "docs/INNER.md": "# Promises of inner calls, ## A, ### A1, ### A2, ## B, ### B1"}
-        self.assertEqual(order, {name: ", ".join(part.partition("\n")[0] for part, _ in parts) for name, parts in pages.items()})
-        self.assertEqual(["first: B has no promise B3", "first: C has no promise C1"], faults)

@@ -1,5 +1,5 @@
-"""The panel without a terminal: the blocks of tests/panel.txt and of docs/PANEL.md, and what these can't show. Expected values are those
-of README.md, docs/TUTORIAL.md, docs/TOOLS.md, docs/PYTHON.md and docs/PANEL.md."""
+"""The panel without a terminal: the blocks of tests/panel.txt and of docs/PANEL.md, and what these can't show. Expected values are
+those of README.md, docs/TUTORIAL.md, docs/TOOLS.md, docs/PYTHON.md and docs/PANEL.md."""
 
 import os
 import re
@@ -94,7 +94,8 @@ class States(Case):
                 states.append(state_with(numbers))
             for state, before in states, states[::-1]:
                 with self.subTest(what, slot=state.slot):
-                    self.assertEqual(wanted, "".join(f"{at}" for at, line in enumerate(texts(state, before)[2:12]) if line[8] == "*"))
+                    self.assertEqual(wanted,
+                                     "".join(f"{at}" for at, line in enumerate(texts(state, before)[2:12]) if line[8] == "*"))
 
     def test_messages(self):
         """One that is cut ends with a mark; one that just fits has none."""
@@ -168,7 +169,8 @@ class Looks(PanelCase):
         """Each width at some heights, and each height at some widths."""
         panel = self.panel(OVERWRITTEN + "STEP\n" * 20, *LOADED)
         widths, heights = (*range(80, 131), 200, 400), (*range(24, 61), 200)
-        for columns, rows in ((c, r) for c in widths for r in heights if c in (80, 81, 119, 120, 121, 131, 400) or r in (24, 25, 37, 60)):
+        for columns, rows in ((c, r) for c in widths for r in heights if c in (80, 81, 119, 120, 121, 131, 400)
+                              or r in (24, 25, 37, 60)):
             self.check_sizes(panel, columns, rows, "WAITS FOR", "CENTRAL", "WATCHES", "PAPER", "> STEP", "q quit")
 
     def test_sizes_of_instructions_and_sources(self):
@@ -202,10 +204,11 @@ class Keys(PanelCase):
     """One table for the panel and for the page of a film."""
 
     def test_help(self):
-        """The help and docs/PANEL.md have each key, in the same order."""
+        """The help has each key of the table, in its order, and docs/PANEL.md has the first ones."""
+        wanted = [f"{'  '.join(row.shown()):17}{row.panel}" for row in keys.ROWS if row.panel]
         page = read("docs", "PANEL.md").partition("\n## The keys\n")[2].partition("\n## ")[0]
         rows = re.findall(r"^\| (`.*?`) \| (.*) \|$", page, flags=re.M)
-        wanted = [f"{'  '.join(re.findall('`(.*?)`', names)):17}{text}" for names, text in rows]
+        self.assertEqual(wanted[:10], [f"{'  '.join(re.findall('`(.*?)`', names)):17}{text}" for names, text in rows])
         got = [line.rstrip() for line in press(self.panel(size=(80, 60)), "?")]
         first, last = got.index("makes ten turns.") + 1, next(at for at, line in enumerate(got) if line.startswith("A star is"))
         self.assertEqual(wanted, [line for line in got[first:last] if line])
@@ -256,7 +259,8 @@ class Sessions(PanelCase):
         source = [(0, self.file(counter(), "count.pp"))]
         for begun, pressed, text in ((self.panel(FIRST_PROGRAM), "uH 13 is X<Enter>", r"^searched to turn [0-7]+; Ctrl-C stops$"),
                                      (self.panel("SET M 0 20 5\nSTEP 1000\n"), "gM 0 20<Enter>c", "^searched back to turn "),
-                                     (self.panel("STEP 1000\nBACK 10\n", sources=source), "N", r"^searched to turn [0-7]+; Ctrl-C stops$")):
+                                     (self.panel("STEP 1000\nBACK 10\n", sources=source), "N",
+                                      r"^searched to turn [0-7]+; Ctrl-C stops$")):
             shown, before = [], self.of(begun)
             begun.is_stopped, begun.between_reports = lambda: True, 0
             begun.show = lambda some=shown, one=begun: some.append(one.message)
@@ -283,9 +287,10 @@ class Lines(PanelCase):
         self.assertEqual([f"{turn:o}" for turn in turns], [press(panel, key)[0].split()[1] for key in pressed])
 
     def test_as_traced(self):
-        """Each line forward, over turns that were made and over new ones, and each line back: macros with loops, code that moves itself
-        and subroutines."""
-        for path, turns in ((f"{PROGRAMS}/mover.pp", 0o4500), (f"{PROGRAMS}/monitor.pp", 0o600), (f"{EXAMPLES}/loop/loop.pp", 0o200)):
+        """Each line forward, over turns that were made and over new ones, and each line back: macros with loops, code that moves
+        itself and subroutines."""
+        for path, turns in ((f"{PROGRAMS}/mover.pp", 0o4500), (f"{PROGRAMS}/monitor.pp", 0o600),
+                            (f"{EXAMPLES}/loop/loop.pp", 0o200)):
             with self.subTest(path):
                 starts = self.traced(path, turns)
                 panel = self.panel("STEP 300\n", sources=[(0, path)], turn=0)

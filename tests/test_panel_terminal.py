@@ -144,7 +144,8 @@ class Screens(TerminalCase):
 
     def test_plain(self):
         """LANG=C and NO_COLOR: ASCII alone, and no colours. A hang-up ends it."""
-        terminal = self.started("--deck", DECK, self.file(OVERWRITTEN), kind="xterm-256color", environment={**ASCII, "LANG": "C", "NO_COLOR": "1"})
+        terminal = self.started("--deck", DECK, self.file(OVERWRITTEN), kind="xterm-256color",
+                                environment={**ASCII, "LANG": "C", "NO_COLOR": "1"})
         terminal.type("?")
         terminal.shows("The keys")
         terminal.type("q:na\xefve\r")

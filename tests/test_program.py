@@ -12,9 +12,10 @@ from tests.ways import CaseTests
 
 # The loops over many turns, and the functions of a turn that stand in them, and so have no name of their own in the program.
 LOOPS = (b"pp_history::repeatable::repeat_all", b"pp_history::repeatable::repeat_to_mark",
-         b"pp_history::session::Session::take_back", b"pp_history::step::perform_all")
+         b"pp_history::step::undo_all", b"pp_history::step::perform_all")
 OF_A_TURN = (b"pp_rig::rig::RigReversible::perform", b"pp_rig::rig::Rig::perform_turn", b"pp_rig::rig::Rig::turn_short",
-             b"pp_rig::rig::Rig::finish_turn", b"pp_rig::rig::Rig::undo_turn", b"pp_step::stepping::step_short", b"pp_step::effect::effect")
+             b"pp_rig::rig::Rig::finish_turn", b"pp_rig::rig::Rig::undo_turn", b"pp_step::stepping::step_short",
+             b"pp_step::effect::effect")
 
 
 class Cases(CaseTests):
@@ -37,7 +38,7 @@ class Listed(Case):
         self.assertIn(f"    {' '.join(words)}", read("examples", "README.md").splitlines())
 
 
-add_tests(Listed, Listed.check, [(case.name, case) for case in examples()])
+add_tests(Listed, Listed.check, [(case.name, case) for case in examples() if case.out])  # that of a monitor is of tools
 
 
 class Compiled(Case):
@@ -50,7 +51,8 @@ class Compiled(Case):
 
 
 class Reads(Case):
-    """The calls of the system by which the program reads standard input: the proofs count the program's own calls, not the system's."""
+    """The calls of the system by which the program reads standard input: the proofs count the program's own calls, not the
+    system's."""
 
     PIECE = 4096  # bytes that a read asks for
 

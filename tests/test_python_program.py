@@ -1,18 +1,17 @@
-"""pp6600-python is the proved program's double: the cases of tests/cases.txt and of examples/, and the sessions of the pages, in this
-process; and as a program of its own, with odd files and streams of the system. tests/test_random.py compares random sessions.
+"""pp6600-python is the proved program's double: the cases of tests/cases.txt and of examples/, and the sessions of the pages, in
+this process; and as a program of its own, with odd files and streams of the system. tests/test_random.py compares random sessions.
 """
 
 import contextlib
 import itertools
 import os
-import shutil
 import signal
 import subprocess
 
 from tests.cases import named
 from tests.fixtures import sessions
-from tests.support import EXAMPLES, PATIENCE, TOP, Case, add_tests, program, read, write, writer
-from tests.ways import CaseTests
+from tests.support import PATIENCE, TOP, Case, add_tests, program, read, write, writer
+from tests.ways import CaseTests, performed
 
 from pp6600.engine.plain import program as plain
 from pp6600.engine.plain.machine import Machine
@@ -23,34 +22,22 @@ PYTHON_PROGRAM = os.path.join(TOP, "pp6600-python")
 class Cases(CaseTests):
     """What the pages demand of the program."""
 
-    def check_python(self, case):
-        """A case; one that does not run in the plain way is run as a program."""
+    def performed(self, _):
+        """A case is run in this process, in the folder of the test; one that does not run in the plain way is run as a program."""
+        case = self.case
         if case.how:
-            self.check(case, PYTHON_PROGRAM)
-        else:
-            self.compare(case.words, case.script, case.files, (case.out, case.err, case.status))
-
-    def check_session(self, session):
-        """A session of a page; the files that it names are those of examples/."""
-        words, script, answers = session
-        shutil.copytree(EXAMPLES, self.folder, dirs_exist_ok=True)
-        status = int(any(line.startswith("ERR ") for line in answers))
-        self.compare(words, "".join(script).encode(), {}, ("".join(answers).encode(), b"", status))
-
-    def compare(self, words, script, files, wanted):
-        """Runs it in this process, in the folder of the test."""
+            return performed(case, self.folder, PYTHON_PROGRAM)
         self.addCleanup(os.chdir, os.getcwd())
         os.chdir(self.folder)
-        for name, data in files.items():
-            write(self.path(name), data)
+        self.place(case.files)
         answers = []
-        status, fault = plain.run(words, write(self.path("its input"), script), answers.append)
-        self.assertEqual(wanted, ("".join(answers).encode("latin-1"), fault.encode("latin-1"), status))
+        status, fault = plain.run(case.words, write(self.path("its input"), case.script), answers.append)
+        return "".join(answers).encode("latin-1"), fault.encode("latin-1"), status
 
 
 # tests/test_random.py has the limit of lines.
-add_tests(Cases, Cases.check_python, [(name, case) for name, case in named() if len(case.script) < 1000000])
-add_tests(Cases, Cases.check_session, sessions())
+add_tests(Cases, Cases.check, [(name, case) for name, case in named() if len(case.script) < 1000000])
+add_tests(Cases, Cases.check, [(session.name, session) for session in sessions()])
 
 
 @contextlib.contextmanager
@@ -108,7 +95,8 @@ class Compared(Case):
 
     def outcome(self, simulator, words, standard_input, output=subprocess.PIPE):
         with open(standard_input, "rb") as given:
-            done = subprocess.run([simulator, *words], stdin=given, stdout=output, stderr=subprocess.PIPE, timeout=PATIENCE, check=False)
+            done = subprocess.run([simulator, *words], stdin=given, stdout=output, stderr=subprocess.PIPE, timeout=PATIENCE,
+                                  check=False)
         return done.stdout, done.stderr, done.returncode
 
     def compare(self, name, words, standard_input, output=subprocess.PIPE):
@@ -125,9 +113,9 @@ class Compared(Case):
             file.write(b"SET A 0 1\nDUMP PP 0\n")
         for words in (["--", "script"], ["--", "--help"], ["--", "--"], ["--deck", "--", "script"], ["--deck=", "script"],
                       ["--help", b"\xff"], ["-help"], ["-hx"], ["-h="], ["-xh"], ["--help="], ["--history", "-h"],
-                      [b"\xff", "--help"], ["script", "--", "script"], ["--history", "0" * 5000 + "7", "script"], ["--history", "9" * 5000],
-                      ["--deck", "/dev/zero", "script"], ["--panel", "/dev/zero", "script"], ["-"], ["--history", "7\n", "script"],
-                      ["-\n"], ["--deck", "-\n"], ["--\n", "script"]):
+                      [b"\xff", "--help"], ["script", "--", "script"], ["--history", "0" * 5000 + "7", "script"],
+                      ["--history", "9" * 5000], ["--deck", "/dev/zero", "script"], ["--panel", "/dev/zero", "script"], ["-"],
+                      ["--history", "7\n", "script"], ["-\n"], ["--deck", "-\n"], ["--\n", "script"]):
             with self.subTest(words):
                 self.compare(str(words)[:80], words, "script")
 
@@ -136,17 +124,20 @@ class Compared(Case):
         closed = [number for number, stream in enumerate((source, sink)) if stream is None]
         with contextlib.ExitStack() as stack:
             streams = [stack.enter_context(stream()) if stream else subprocess.DEVNULL for stream in (source, sink)]
-            done = subprocess.run([simulator, *words], stdin=streams[0], stdout=streams[1], stderr=subprocess.PIPE, timeout=PATIENCE,
+            done = subprocess.run([simulator, *words], stdin=streams[0], stdout=streams[1], stderr=subprocess.PIPE,
+                                  timeout=PATIENCE,
                                   preexec_fn=lambda: list(map(os.close, closed)), check=False)
         return done.stdout, done.stderr, done.returncode
 
     def test_faults(self):
         """Streams that fail, at their first byte or later."""
         write(os.path.join(os.getcwd(), "script"), b"STEP\n" * 3)
-        cases = [*itertools.product(SOURCES, SINKS, [[]]), *(("a folder", sink, words) for sink in ("read", "a full device") for words in OF_FAULTS)]
+        cases = [*itertools.product(SOURCES, SINKS, [[]]),
+                 *(("a folder", sink, words) for sink in ("read", "a full device") for words in OF_FAULTS)]
         for source, sink, words in cases:
             with self.subTest(source=source, sink=sink, words=words):
-                wanted, got = (self.fault(simulator, SOURCES[source], SINKS[sink], words) for simulator in (program(), PYTHON_PROGRAM))
+                wanted, got = (self.fault(simulator, SOURCES[source], SINKS[sink], words)
+                               for simulator in (program(), PYTHON_PROGRAM))
                 self.assertEqual(wanted, got)
         self.assertGreaterEqual(len(cases), 50)
 
@@ -162,10 +153,12 @@ class Compared(Case):
             self.assertEqual((b"", b"pp6600: LINE LIMIT\n"), (process.stdout.read(), process.stderr.read()))
 
     def test_byte_limit(self):
-        """A long line leaves three bytes of the 268,435,456: a line that they end is performed, and one that they do not end is not."""
+        """A long line leaves three bytes of the 268,435,456: a line that they end is performed, and one that they do not end is
+        not."""
         size = (1 << 28) - 4
         path = self.file(b"*" * size + b"\n")
-        for rest, answers, status in ((b"XYZ", b"ERR 01 NOT A COMMAND\n", 1), (b"X\nYZ", b"ERR 01 NOT A COMMAND\n", 3), (b"WXYZ", b"", 3)):
+        for rest, answers, status in ((b"XYZ", b"ERR 01 NOT A COMMAND\n", 1), (b"X\nYZ", b"ERR 01 NOT A COMMAND\n", 3),
+                                      (b"WXYZ", b"", 3)):
             with self.subTest(rest), open(path, "r+b") as file:
                 file.seek(size + 1)
                 file.write(rest)
@@ -190,6 +183,7 @@ class Said(Case):
         """It ends without a word, here before its package is there."""
         own = write(self.path("pp6600-python"), read("pp6600-python"), 0o755)
         os.mkfifo(self.path("fifo"))
+        write(self.path("tools", "pp6600", "own.py"), read("tools", "pp6600", "own.py"))
         write(self.path("tools", "pp6600", "__init__.py"), f"open({self.path('fifo')!r}).read()\n")
         with subprocess.Popen([own], stdin=subprocess.DEVNULL, stderr=subprocess.PIPE,
                               preexec_fn=lambda: signal.signal(signal.SIGINT, signal.SIG_DFL)) as process:

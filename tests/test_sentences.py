@@ -1,5 +1,5 @@
-"""What a processor is about to do, as a sentence, and cells as instructions. The sentences are those of the tables in docs/MACHINE.md;
-what they say of P, A and cells is compared with the simulator."""
+"""What a processor is about to do, as a sentence, and cells as instructions. The sentences are those of the tables in
+docs/MACHINE.md; what they say of P, A and cells is compared with the simulator."""
 
 import random
 import re
@@ -63,7 +63,8 @@ class Sentences(Case):
             return f"{chance.randrange(8 ** digits):0{digits}o}"
 
         d, state = chance.choice((0, 5, 0o14, 0o20, 0o37, 0o40, 0o76, 0o77, chance.randrange(0o100))), chance.choice("IEF")
-        lines = [f"SET M 0 {chance.choice(('100', '7777'))} {code:02o}{d:02o} {number(4)}", f"SET A 0 {chance.choice(('0', number(6)))}"]
+        lines = [f"SET M 0 {chance.choice(('100', '7777'))} {code:02o}{d:02o} {number(4)}",
+                 f"SET A 0 {chance.choice(('0', number(6)))}"]
         lines += [f"SET M 0 {d:o} {chance.choice(('0', '2', number(4)))}"] if d else []
         lines += [f"SET P 0 {lines[0].split()[3]}"] + ([f"SET H {d:o} {state} {number(4)}"] if d < 0o14 else [])
         for line in lines:
@@ -104,8 +105,8 @@ add_tests(Sentences, Sentences.check, rows_by_heading())
 
 
 class Rows(Case):
-    MEMORY = {0o100: 0o7712, 0o101: 0o0001, 0o102: 0o7412, 0o103: 0o1477, 0o104: 0o7112, 0o105: 0o0060, 0o106: 0o7512, 0o107: 0o0100,
-              0o110: 0o0060}
+    MEMORY = {0o100: 0o7712, 0o101: 0o0001, 0o102: 0o7412, 0o103: 0o1477, 0o104: 0o7112, 0o105: 0o0060, 0o106: 0o7512,
+              0o107: 0o0100, 0o110: 0o0060}
 
     def word(self, address):
         return self.MEMORY.get(address % CELLS, 0)

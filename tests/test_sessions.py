@@ -7,66 +7,66 @@ and `continued` goes on with the session before. A block `shell` has commands af
 
 A transcript, tests/sessions/NAME.txt, has such commands too; tests/transcripts.py says how it is written.
 
-An exercise is a folder: script (the lines to begin with), check (the lines that follow the finished script), expected (the last lines
-that the program must then write), args, and solution, a folder with the files that replace those of the same name.
+An exercise is a folder: script (the lines to begin with), check (the lines that follow the finished script), expected (the last
+lines that the program must then write), args, and solution, a folder with the files that replace those of the same name.
 """
 
 import glob
 import os
-import shutil
 
 from tests.fixtures import PAGES, sessions
-from tests.support import EXAMPLES, TOP, Case, add_tests, blocks, program, quick_path, read, run, write
-from tests.transcripts import Shell, TranscriptCase, transcripts
+from tests.support import TOP, Case, add_tests, blocks, program, read, run
+from tests.transcripts import TranscriptCase, commands_in, transcripts
+from tests.ways import CaseTests
 
 from pp6600 import Console
 
-EXERCISES = [path for path in sorted(glob.glob(os.path.join(TOP, "exercises", "*"))) if os.path.isdir(os.path.join(path, "solution"))]
+EXERCISES = [path for path in sorted(glob.glob(os.path.join(TOP, "exercises", "*")))
+             if os.path.isdir(os.path.join(path, "solution"))]
 
 
 def shell_blocks():
     """Returns the place of each block of commands, and a list of the commands, what they write, and the page's files."""
     found = []
     for page in PAGES:
-        files = {block.words[1]: block.text for kind in ("python", "compass") for block in blocks(page, kind) if len(block.words) == 2}
+        files = {block.words[1]: block.text for kind in ("python", "compass") for block in blocks(page, kind)
+                 if len(block.words) == 2}
         for some in filter(None, [*([block] for block in blocks(page, "shell")), blocks(page, "tools")]):
-            lines = "".join(block.text for block in some).splitlines(keepends=True)
-            commands = [line[2:-1] for line in lines if line.startswith("$ ")]
-            found.append((some[0].place, (commands, "".join(line for line in lines if not line.startswith("$ ")), files)))
+            found.append((some[0].place, (commands_in("".join(block.text for block in some)), files)))
     return found
 
 
-class Sessions(Case):
-    """The sessions of the pages. The files that they name are those of examples/."""
+class Sessions(CaseTests):
+    """The sessions of the pages."""
 
-    def check(self, session):
-        words, script, answers = session
-        shutil.copytree(EXAMPLES, self.folder, dirs_exist_ok=True)
-        done = run(program(), *words, script="".join(script), cwd=self.folder)
-        self.assertEqual("".join(answers), done.out)
-        self.assertEqual(("", int(any(line.startswith("ERR ") for line in answers))), done[1:])
-        files = [os.path.join(self.folder, word) if os.path.exists(os.path.join(self.folder, word)) else word for word in words]
-        with Console([program(), *files]) as console:
-            asked = [f"{line}\n" for answer in console.ask_each(line.rstrip("\n") for line in script) for line in answer]
-        self.assertEqual(answers, asked, "the tools know each answer")
+    def check_step(self, name, wanted):
+        super().check_step(name, wanted)
+        words = [self.path(word) if word in self.case.files else word for word in self.case.words]
+        with Console([program(), *words]) as console:
+            asked = [f"{line}\n" for answer in console.ask_each(self.case.script.decode().split("\n")[:-1]) for line in answer]
+        self.assertEqual(self.case.out.decode(), "".join(asked), "the tools know each answer")
 
 
-class Commands(Case):
-    """The shell commands of the pages, which a reader types at the top of the repository. What they write there git does not see."""
+class Commands(TranscriptCase):
+    """The shell commands of the pages, which a reader types at the top of the repository. What they write there git does not
+    see."""
 
-    def check(self, block):
-        commands, wanted, files = block
-        os.symlink(program(), self.path("pp6600"))
-        for name in ("examples", "exercises", "tools"):
-            os.symlink(os.path.join(TOP, name), self.path(name))
-        there = ["bin", *os.listdir(self.folder)]  # and what the shell has
-        for name, text in files.items():
-            write(self.path(name), text)
-        shell = Shell(self.folder, quick_path())
-        self.addCleanup(shell.end)
-        self.assertEqual(wanted, "".join(map(shell.perform, commands)))
+    def begin(self, block):
+        _, files = block
+        self.there = os.listdir(self.shell.folder)
+        self.place(files)
+        self.addCleanup(self.check_ignored)
+
+    def steps(self, block):
+        return block[0]
+
+    def performed(self, command):
+        return self.shell.perform(command)
+
+    def check_ignored(self):
+        """Fails if there is a file that git would see."""
         ignored = [pattern.strip("/") for pattern in read(".gitignore").splitlines()]
-        self.assertEqual([], [name for name in os.listdir(self.folder) if name not in (*there, *ignored)])
+        self.assertEqual([], [name for name in os.listdir(self.folder) if name not in (*self.there, *ignored)])
 
 
 class Transcripts(TranscriptCase):
@@ -88,7 +88,7 @@ class Exercises(Case):
         self.assertIn(f"    tools/talk{arguments} {name}/script", read("docs", "EXERCISES.md").splitlines())
 
 
-add_tests(Sessions, Sessions.check, sessions())
+add_tests(Sessions, Sessions.check, [(session.name, session) for session in sessions()])
 add_tests(Commands, Commands.check, shell_blocks())
 add_tests(Transcripts, Transcripts.check, transcripts("sessions"))
 add_tests(Exercises, Exercises.check, [(os.path.basename(path), path) for path in EXERCISES])

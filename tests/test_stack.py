@@ -1,9 +1,9 @@
 """Tests how much stack the program needs: by the call graphs of the artefacts, and by running it with little.
 
-The language proves that each call returns, on a machine with enough stack. How much is enough, the compiled code says: the sum of the
-frames on the deepest way of calls. None of our own functions calls itself, by whatever way, or calls through a pointer. Of the kit some do:
-clap for each level of commands, of which there is one; a B-tree for each of its levels when it is dropped, or a name is taken out of it;
-and a sort for each halving."""
+The language proves that each call returns, on a machine with enough stack. How much is enough, the compiled code says: the sum of
+the frames on the deepest way of calls. None of our own functions calls itself, by whatever way, or calls through a pointer. Of the
+kit some do: clap for each level of commands, of which there is one; a B-tree for each of its levels when it is dropped, or a name
+is taken out of it; and a sort for each halving."""
 
 import collections
 import functools
@@ -21,7 +21,7 @@ from tests.support import Case, program, run
 from tests.ways import outcome
 
 MOST = 48 * 1024  # bytes of stack from `run`
-OF_CALLS = {"until": 144 * 1024, "assemble": 40 * 1024, "load_lines": 40 * 1024}  # from a call of the library; 16 KB from another
+OF_CALLS = {"until": 144 * 1024, "assemble": 48 * 1024, "load_lines": 48 * 1024}  # from a call of the library; 16 KB from another
 LITTLE = 64 * 1024  # bytes, with which the system runs the program; it needs some for itself
 OURS = re.compile(r"^pp_[a-z]+::(?!clap)|pp6600")
 RECURSIVE = re.compile(r"clap(::|\+\+)|^std_collections::btree::node::Node::(destroy|take_at|pop_last)\b|^core::slice::sort::")
@@ -131,7 +131,8 @@ class Artefacts(Case):
 
     def test_a_circle_is_found(self):
         """A function of ours that calls itself, by another one, is found, and so is a call through a pointer."""
-        graph = Graph("0 <pp_a::f>:\n 1: subq $0x20, %rsp\n 2: callq 0 <pp_a::g>\n3 <pp_a::g>:\n 4: jmp 0 <pp_a::f>\n 5: call *%rax\n"
+        graph = Graph("0 <pp_a::f>:\n 1: subq $0x20, %rsp\n 2: callq 0 <pp_a::g>\n3 <pp_a::g>:\n 4: jmp 0 <pp_a::f>\n 5: call "
+                      "*%rax\n"
                       "6 <pp_a::h>:\n 7: stp x29, x30, [sp, #-32]!\n 8: sub sp, sp, #1, lsl #12\n 9: bl 0 <pp_a::f>\n")
         self.assertEqual(({"pp_a::f", "pp_a::g"}, {"pp_a::g"}), (graph.circles(), graph.indirect))
         self.assertEqual({"pp_a::f": 64, "pp_a::g": 64, "pp_a::h": 4208}, graph.depths(frozenset(graph.circles())))
@@ -148,7 +149,8 @@ class Runs(Case):
     def test_rows_and_random_sessions(self):
         if os.name != "posix" or not sys.platform.startswith("linux"):
             self.skipTest("the limit is that of Linux")
-        sessions = [*rows(), *(case for _, case in cases.named() if not case.how), *itertools.islice(slips.random_cases(4000), RANDOM)]
+        sessions = [*rows(), *(case for _, case in cases.named() if not case.how),
+                    *itertools.islice(slips.random_cases(4000), RANDOM)]
         little = ["sh", "-c", f'ulimit -s {LITTLE // 1024}; exec "$@"', "sh", program()]
         for one in sessions:
             with self.subTest(one.name):

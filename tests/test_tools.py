@@ -1,11 +1,17 @@
 """The tools, by rules that no single transcript of tests/sessions shows. Expected values are those of the pages."""
 
+import io
 import random
 import re
+import sys
+from unittest import mock
 
 from tests.fixtures import at_terminal
 from tests.generator import BUSY, JUNK, Maker
 from tests.support import TOOLS, Case, names_of_codes, program, read, run, tool
+
+from pp6600.front.commands import waits
+from pp6600.shell import progress
 
 DEVICES = ("--central", "32", "--panel", "examples/dead-start/panel", "--deck", "examples/read-a-deck/deck")
 
@@ -90,6 +96,27 @@ class Answers(Case):
             saved = tool("save", *option.split(), "3", "6777", "7777", script=lines, encoding="latin-1").out
             with self.subTest(option):
                 self.assertEqual(text.split() if not option else text, saved.split() if not option else saved)
+
+    def test_how_far(self):
+        """A search at a terminal says how far it is, and clears that before it writes what it finds; elsewhere it says nothing."""
+        class Terminal(io.StringIO):
+            def isatty(self):
+                return True
+
+        for stream, wanted in ((Terminal(), "\rat turn 5 of 100\x1b[K\r\x1b[K"), (io.StringIO(), "")):
+            with mock.patch.multiple(progress, PATIENCE=-1, BETWEEN=60), mock.patch.object(sys, "stderr", stream):
+                shown = progress.Progress(0o100)
+                found = list(shown.passed(f"{turn}" for turn in (5, 6) if not shown.show(turn)))
+            self.assertEqual((["5", "6"], wanted), (found, stream.getvalue()))
+
+    def test_each_search_says_how_far(self):
+        """`waits` says it also of the turns after the end, which it tries, and `compare` of those whose ways it compares."""
+        script = self.file("SET M 0 100 7205 300\nSET P 0 100\nSTEP 100\n")
+        for words, turn in ((("waits", script), 0o10100), (("compare", "--path", script, script), 0)):
+            with self.subTest(words), mock.patch.object(waits, "MOST_TURNS", 0o10000), mock.patch.object(progress.Progress,
+                                                                                                         "show") as shown:
+                self.assertEqual(0, tool(*words).status)
+                self.assertIn(mock.call(turn), shown.mock_calls)
 
     def test_help_and_version(self):
         for name in TOOLS:

@@ -9,7 +9,8 @@ from tests.support import PATIENCE, PYTHON, TOP, Case, program, run, tool, write
 
 STEP = "STEP\n"
 # More words, with which no tool does anything, and what the message says.
-WORDS = ((["--nonsense"], "--help shows what may be given"), (["A", "B", "C"], "not also B C|not also C|unrecognized arguments|takes one file"),
+WORDS = ((["--nonsense"], "--help shows what may be given"),
+         (["A", "B", "C"], "not also B C|not also C|unrecognized arguments|takes one file"),
          (["no-such-file"], "can't read no-such-file"), (["/"], "can't read /: Is a directory"))
 # The same of tools with a simulator.
 OPTIONS = ((["--panel", "/dev/null"], "status 2: pp6600: PANEL"), (["--deck", "a", "--deck", "b"], "--deck is given twice"),
@@ -37,15 +38,17 @@ class Hands(Case):
     def test_words(self):
         for name, words in {**WITH_SIMULATOR, **WITHOUT}.items():
             for more, text in (*WORDS, *(OPTIONS if name in WITH_SIMULATOR else ())):
-                self.check(name, [*words, *more], text)
+                self.check(name, [*words, *more], text if name != "words" else f"{text}|is no octal number to 7777")
 
     def test_full_output(self):
         os.symlink("/dev/full", self.path("full"))
         for name, words in {**WITH_SIMULATOR, **WITHOUT}.items():
             words = ["-o", self.path("full")] if name == "film" else words
-            done = run("bash", "-c", '"$0" "$@" >/dev/full', *PYTHON, os.path.join(TOP, "tools", name), *words, script=GIVEN.get(name, STEP))
+            done = run("bash", "-c", '"$0" "$@" >/dev/full', *PYTHON, os.path.join(TOP, "tools", name), *words,
+                       script=GIVEN.get(name, STEP))
             with self.subTest(name):
-                self.assert_one_line(name, "can't write to standard output: No space left on device|full: No space left on device", done.err)
+                self.assert_one_line(name, "can't write to standard output: No space left on device|full: No space left on device",
+                                     done.err)
                 self.assertEqual(2, done.status)
 
     def test_strange_bytes(self):
@@ -53,7 +56,8 @@ class Hands(Case):
         refused = "one line was refused: line 1 (decimal), ERR 06 NOT ASCII: * \\xff"
         for name, words in {**WITH_SIMULATOR, **WITHOUT}.items():
             text, status = ("is not text in UTF-8", 2) if name in WITHOUT else (refused, 1)
-            self.check(name, words, text, status, "* \xff \xc3\xa9\n")
+            if GIVEN.get(name) != "":  # which reads nothing
+                self.check(name, words, text, status, "* \xff \xc3\xa9\n")
 
     def test_interrupt(self):
         """An interrupt ends a tool that waits for a writer of its deck, without a word."""

@@ -1,4 +1,5 @@
-"""Tests that the tests pass for a user who is not root, in a folder whose name has a blank: some modules are run so, where this user is root."""
+"""Tests that the tests pass for a user who is not root, in a folder whose name has a blank: some modules are run so, where this
+user is root."""
 
 import os
 import shutil
@@ -27,7 +28,8 @@ class User(Case):
         shutil.copytree(TOP, clone, symlinks=True, ignore=NOT_COPIED)
         tested = shutil.copy(program(), os.path.join(clone, "dist", "pp6600"))
         subprocess.run(["chown", "-R", OTHER, clone], check=True)
-        done = subprocess.run([ITS_PYTHON, "tests/__main__.py", *MODULES], cwd=clone, user=OTHER, group="nogroup", extra_groups=[], timeout=PATIENCE,
+        done = subprocess.run([ITS_PYTHON, "tests/__main__.py", *MODULES], cwd=clone, user=OTHER, group="nogroup", extra_groups=[],
+                              timeout=PATIENCE,
                               env={"PATH": os.defpath, "PP6600": tested}, capture_output=True, text=True, check=False)
         self.assertEqual(0, done.returncode, done.stdout + done.stderr)
         self.assertRegex(done.stdout, "\n[1-9][0-9]* passed, 0 failed\n$")

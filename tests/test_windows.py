@@ -1,5 +1,6 @@
-"""Tests what dist/ has for Windows under Wine, beside the program: pp6600.exe, pp6600.dll and pp6600.cmd. Windows itself is not tried. Wine takes
-long to start, so all share one Windows, and no command has a limit of its own: that of a module, of processor time, ends one that hangs."""
+"""Tests what dist/ has for Windows under Wine, beside the program: pp6600.exe, pp6600.dll and pp6600.cmd. Windows itself is not
+tried. Wine takes long to start, so all share one Windows, and no command has a limit of its own: that of a module, of processor
+time, ends one that hangs."""
 
 import atexit
 import functools
@@ -21,7 +22,8 @@ def environment(wine):
     server = shutil.which("wineserver")
     for word in ("-w", "-k") if server else ():  # what is registered last is done first
         atexit.register(subprocess.run, [server, word], env=found, check=False)
-    subprocess.run([wine, "cmd", "/c", "ver"], env=found, stdin=subprocess.DEVNULL, stdout=subprocess.DEVNULL, stderr=subprocess.DEVNULL, check=True)
+    subprocess.run([wine, "cmd", "/c", "ver"], env=found, stdin=subprocess.DEVNULL, stdout=subprocess.DEVNULL,
+                   stderr=subprocess.DEVNULL, check=True)
     return found
 
 
@@ -32,12 +34,13 @@ class Windows(artefacts.Artefacts):
 
     def test_program(self):
         """But for words that name a file of Unix."""
-        artefacts.Programs.check(self, "pp6600.exe", self.wine, leaves_out=lambda session: any("/dev/" in word for word in session.words),
+        artefacts.Programs.check(self, "pp6600.exe", self.wine,
+                                 leaves_out=lambda session: any("/dev/" in word for word in session.words),
                                  env=self.environment, timeout=None)
 
     def test_program_in_other_ways(self):
         words = [f"{name}={self.environment[name]}" for name in (*OF_WINE, "WINEPREFIX", "HOME")]
-        artefacts.Programs.check_ways(self, "pp6600.exe", "env", *words, self.wine)
+        artefacts.Programs.check_ways(self, "env", *words, self.wine, artefacts.artefact("pp6600.exe"))
 
     def test_library(self):
         compiler = self.tool("x86_64-w64-mingw32-gcc")

@@ -1,6 +1,6 @@
-"""Tests the tools as on Windows, where pipes can't be waited for and only Python runs: by tests/without_unix.py, which takes away all
-else. They write what they write elsewhere. Windows itself is not tried. tests/sessions/without-unix.txt has the simulator, the exercises
-and what is said."""
+"""Tests the tools as on Windows, where pipes can't be waited for and only Python runs: by tests/without_unix.py, which takes away
+all else. They write what they write elsewhere. Windows itself is not tried. tests/sessions/without-unix.txt has the simulator, the
+exercises and what is said."""
 
 import os
 
@@ -11,7 +11,7 @@ from tests.support import PYTHON, TOOLS, TOP, Case, Done, run, tool
 WITHOUT_UNIX = (*PYTHON, os.path.join(TOP, "tests", "without_unix.py"))
 SCRIPT, DECK = (f"examples/overwritten-loader/{name}" for name in ("script", "deck"))
 LOADER = ["--deck", DECK, SCRIPT]
-WITH_ASSEMBLER = ("assemble", "disassemble")  # which only the library has
+WITH_ASSEMBLER = ("assemble", "disassemble", "symbols")  # which only the library has
 NO_LIBRARY = "pp6600: there is no library of the proved program for this machine; this is pp6600-python, which is not proved\n"
 
 

@@ -1,7 +1,8 @@
-"""Checks the machine of pp6600-python by the worked rows of crates/pp_worked, which were found by hand and are proved of the program.
+"""Checks the machine of pp6600-python by the worked rows of crates/pp_worked, which were found by hand and are proved of the
+program.
 
-A row says that some steps lead from some numbers to others: of a processor, a device, or the whole machine. Not here: rows about sums
-and shifts alone, which are no places of a machine, those about undo, and those about each x."""
+A row says that some steps lead from some numbers to others: of a processor, a device, or the whole machine. Not here: rows about
+sums and shifts alone, which are no places of a machine, those about undo, and those about each x."""
 
 import os
 import re
@@ -92,7 +93,8 @@ def performed(kind, words):
         machine = after(Machine(central=0o2000), numbers_of(words[0], of_processor), int(words[1], 0), processor)
         return machine, numbers_of(words[2], of_processor)
     if kind == "Leads":
-        return after(Machine(deck_of(words[0])), numbers_of(words[1], of_machine), int(words[2], 0)), numbers_of(words[3], of_machine)
+        return (after(Machine(deck_of(words[0])), numbers_of(words[1], of_machine), int(words[2], 0)),
+                numbers_of(words[3], of_machine))
     if kind == "ReaderLeads":
         place = of_device(READER)
         return after(Machine(deck_of(words[0])), numbers_of(words[1], place), 1, reader), numbers_of(words[2], place)

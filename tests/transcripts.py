@@ -1,8 +1,9 @@
 """Transcripts: commands of a shell and what they write, standard error too, in one folder.
 
-A line that begins with $ is a command, and the lines from <<END to END are its own; the others are what it writes. A line that begins
-with # is a note; `# needs NAME ..` names commands, and modules of Python as module:NAME and a machine as machine:NAME, without which what
-follows is skipped. `at-terminal COMMAND` runs a command at a terminal. The name of the folder is left out of what is written, as is that of the repository.
+A line that begins with $ is a command, and the lines from <<END to END are its own; the others are what it writes. A line that
+begins with # is a note; `# needs NAME ..` names commands, and modules of Python as module:NAME and a machine as machine:NAME,
+without which what follows is skipped. `at-terminal COMMAND` runs a command at a terminal. The name of the folder is left out of
+what is written, as is that of the repository.
 """
 
 import functools
@@ -16,7 +17,8 @@ import shutil
 import subprocess
 
 from tests.cases import part
-from tests.support import PATIENCE, TOP, Case, program, quick_path, read, tool_here, write
+from tests.steps import StepCase
+from tests.support import PATIENCE, TOP, program, quick_path, read, tool_here, write
 
 AT_TERMINAL = """#!/bin/sh
 exec python3 -c 'import pty, sys; sys.exit(pty.spawn(sys.argv[1:]) >> 8)' "$@" </dev/null | tr -d '\\r'
@@ -24,10 +26,11 @@ exec python3 -c 'import pty, sys; sys.exit(pty.spawn(sys.argv[1:]) >> 8)' "$@" <
 COMMAND = re.compile(r"^\$ (.*<<END.*\n(?:.*\n)*?END|.*)\n", re.M)  # with its own lines
 MARK = "====\n"
 OUTPUT = "bin/output"  # of a tool, for what reads it
-# A tool with words that need no shell, on what some commands write, a file, the lines that follow or nothing; where its output goes, or what
-# reads it, and with it what it says; and whether its status is shown. Such a tool runs in the tests' own process.
+# A tool with words that need no shell, on what some commands write, a file, the lines that follow or nothing; where its output
+# goes, or what reads it, and with it what it says; and whether its status is shown. Such a tool runs in the tests' own process.
 ALONE = re.compile(r"""(?:(printf\ '[^']*'(?:\ "[^"$`]*")*|echo\ [^|&;<>`$]*|\([^|&<>()]*\))\ \|\ )?
-                       tools/(?!panel|debug|talk\ .*--save)([\w-]+)((?:\ (?:[\w./:=,+@%-]+|'[^']*'))*)(?:\ <([\w./-]+)|\ <<END\n((?:.*\n)*)END)?
+                       tools/(?!panel|debug|talk\ .*--save)([\w-]+)((?:\ (?:[\w./:=,+@%-]+|'[^']*'))*)
+                       (?:\ <([\w./-]+)|\ <<END\n((?:.*\n)*)END)?
                        (?:\ >([\w.-]+)|(\ 2>&1)?\ \|\ ((?!.*tools/|.*PIPESTATUS).*))?(;\ echo\ \$\?)?""", re.X)
 ONE_BY_ONE = re.compile(r"; (?!echo \$\?)")  # between tools
 DEFINED = re.compile(r"([a-z]+)\(\) \{ (.*); \}")  # a function of the shell
@@ -41,7 +44,8 @@ class Shell:
 
     def __init__(self, folder, path):
         self.folder, self.functions, self.is_here = folder, {}, True
-        self.process = subprocess.Popen(["bash"], cwd=folder, stdin=subprocess.PIPE, stdout=subprocess.PIPE, stderr=subprocess.STDOUT,
+        self.process = subprocess.Popen(["bash"], cwd=folder, stdin=subprocess.PIPE, stdout=subprocess.PIPE,
+                                        stderr=subprocess.STDOUT,
                                         env={**os.environ, "PP6600": program(), "PATH": f"{folder}/bin:{path}"})
 
     def perform(self, command):
@@ -90,6 +94,13 @@ class Shell:
         self.process.communicate(timeout=PATIENCE)
 
 
+def commands_in(text):
+    """Returns the commands of a text, each with what it writes."""
+    begin, *commands = COMMAND.split(text)
+    assert not begin, begin
+    return list(zip(commands[::2], commands[1::2]))
+
+
 def is_here(name):
     """Returns whether a command is here, or a module of Python, or whether this is such a machine."""
     kind, _, rest = name.rpartition(":")
@@ -98,38 +109,35 @@ def is_here(name):
     return platform.machine() == rest if kind == "machine" else shutil.which(name) is not None
 
 
-class TranscriptCase(Case):
-    """Tests of transcripts, each in a folder of its own."""
+class TranscriptCase(StepCase):
+    """Tests of transcripts."""
 
-    def check(self, path):
+    def steps(self, path):
+        """Yields commands, each with what it writes, up to those for which something is missing."""
         before, *parts = re.split("^# needs (.*)$", read(path), flags=re.M)
         for names, text in zip(["", *parts[::2]], [before, *parts[1::2]]):
             missing = [name for name in names.split() if not is_here(name)]
             if missing:
                 self.skipTest(f"{', '.join(missing)} is not here")
-            begin, *commands = COMMAND.split(re.sub("^#.*\n|^\n", "", text, flags=re.M))
-            self.assertEqual("", begin)
-            for command, wanted in zip(commands[::2], commands[1::2]):
-                with self.subTest(command):
-                    self.assertEqual(wanted, self.written(self.shell, command))
+            yield from commands_in(re.sub("^#.*\n|^\n", "", text, flags=re.M))
 
     @functools.cached_property
     def shell(self):
         """A shell in the folder of the test, where the repository's parts are."""
-        for name in ("examples", "exercises", "tests", "tools"):
-            os.symlink(os.path.join(TOP, name), self.path(name))
+        self.place({}, "examples", "exercises", "tests", "tools")
         os.symlink(program(), self.path("pp6600"))
         write(self.path("bin", "at-terminal"), AT_TERMINAL, 0o755)
         shell = Shell(self.folder, quick_path())
         self.addCleanup(shell.end)
         return shell
 
-    def written(self, shell, command):
+    def performed(self, command):
         """Returns what a command writes, without empty lines and names of folders."""
-        text = re.sub("^\n", "", shell.perform(command), flags=re.M)
+        text = re.sub("^\n", "", self.shell.perform(command), flags=re.M)
         return text.replace(f"{self.folder}/", "").replace(f"{TOP}/", "")
 
 
 def transcripts(folder):
     """Returns the names of the transcripts of a folder of tests/, and their paths."""
-    return [(os.path.basename(path)[:-len(".txt")], path) for path in sorted(glob.glob(os.path.join(TOP, "tests", folder, "*.txt")))]
+    return [(os.path.basename(path)[:-len(".txt")], path)
+            for path in sorted(glob.glob(os.path.join(TOP, "tests", folder, "*.txt")))]

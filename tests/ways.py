@@ -7,25 +7,31 @@ import sys
 import tempfile
 
 from tests.cases import part
-from tests.support import PATIENCE, TOP, Case, program, write, writer
+from tests.steps import StepCase
+from tests.support import PATIENCE, TOP, program, write, writer
 
 
 def outcome(case, *command, **how):
-    """Runs a case in a folder of its own. Returns what is written to standard output and to standard error, and the status."""
+    """Runs a case by a command in a folder of its own. Returns what is written to standard output and to standard error, and the
+    status."""
     with tempfile.TemporaryDirectory(prefix="pp6600-test-") as folder:
-        for name, data in case.files.items():
-            write(os.path.join(folder, name), data)
-        how = {"cwd": folder, "input": case.script, "capture_output": True, "timeout": PATIENCE, "check": False, **how}
-        done = subprocess.run([*command, *case.words], **how)
-    return done.stdout, done.stderr, done.returncode
+        return Ways(case, folder, *command).plain(**how)
+
+
+def performed(case, folder, *command):
+    """Runs a case in a folder in its own way, by a command, else by the program. Returns the same."""
+    way, *words = case.how or ["plain"]
+    return getattr(Ways(case, folder, *command or [program()]), way.replace("-", "_"))(*words)
 
 
 class Ways:
     """The ways to run a case. Each returns what the program wrote to standard output and error, and its status."""
 
-    def __init__(self, case, folder, simulator=None):
+    def __init__(self, case, folder, *command):
         self.case, self.folder = case, folder
-        self.script, self.words = case.script, [simulator or program(), *case.words]
+        self.script, self.words = case.script, [*command, *case.words]
+        for name, data in case.files.items():
+            write(os.path.join(folder, name), data)
 
     def plain(self, **how):
         how = {"stdout": subprocess.PIPE, "stderr": subprocess.PIPE, **how}
@@ -80,7 +86,8 @@ class Ways:
         return out, err, process.returncode
 
     def line_by_line(self, name=""):
-        """With a program at the other end, of standard input or of a named pipe, that reads the answer to each line before it writes the next."""
+        """With a program at the other end, of standard input or of a named pipe, that reads the answer to each line before it
+        writes the next."""
         seen = b""
         if name:
             os.mkfifo(os.path.join(self.folder, name))
@@ -101,14 +108,14 @@ class Ways:
         return subprocess.Popen(self.words, cwd=self.folder, stdin=pipe, stdout=pipe, stderr=pipe, bufsize=0)
 
 
-class CaseTests(Case):
-    """Tests of stored cases."""
+class CaseTests(StepCase):
+    """Tests of stored cases, each of one step."""
 
-    def check(self, case, simulator=None):
-        folder = self.room()
-        for name, data in case.files.items():
-            write(os.path.join(folder, name), data)
-        way, *words = case.how or ["plain"]
-        out, err, status = getattr(Ways(case, folder, simulator), way.replace("-", "_"))(*words)
-        self.assertEqual(case.out, out)
-        self.assertEqual((case.err, case.status), (err, status))
+    def begin(self, case):
+        self.case = case
+
+    def steps(self, case):
+        return [(case.name, (case.out, case.err, case.status))]
+
+    def performed(self, _):
+        return performed(self.case, self.folder)

@@ -12,9 +12,10 @@ import subprocess
 import sys
 
 MODULES = ("_curses", "curses", "fcntl", "grp", "pty", "pwd", "readline", "resource", "termios", "tty")
-NAMES = {os: ("O_NONBLOCK", "fchmod", "fork", "geteuid", "getpgid", "getuid", "killpg", "mkfifo", "openpty", "pwrite", "sched_getaffinity",
-              "set_blocking", "setsid", "ttyname"),
-         select: ("poll", "epoll"), signal: ("SIGALRM", "SIGCONT", "SIGHUP", "SIGKILL", "SIGPIPE", "SIGTSTP", "SIGWINCH", "SIGXFSZ")}
+NAMES = {os: ("O_NONBLOCK", "fchmod", "fork", "geteuid", "getpgid", "getuid", "killpg", "mkfifo", "openpty", "pwrite",
+              "sched_getaffinity", "set_blocking", "setsid", "ttyname"),
+         select: ("poll", "epoll"),
+         signal: ("SIGALRM", "SIGCONT", "SIGHUP", "SIGKILL", "SIGPIPE", "SIGTSTP", "SIGWINCH", "SIGXFSZ")}
 BEGIN = subprocess.Popen.__init__
 
 

@@ -1,4 +1,4 @@
-"""Measures sessions with a device, for docs/SPEED.md. Prints a table in Markdown.
+"""Measures sessions with devices, for docs/SPEED.md. Prints a table in Markdown.
 
     bench/devices [--rounds N]
 
@@ -10,7 +10,7 @@ import os
 import resource
 import statistics
 
-from pp6600 import Attached
+from pp6600 import Attached, CentralDevice, store
 from pp6600.devices.paper_tape import PaperTape
 
 TOP = os.path.dirname(os.path.dirname(os.path.dirname(os.path.abspath(__file__))))
@@ -21,11 +21,26 @@ INPUT = "7711 1 7411 2000 3000 7111 1000 373"
 OUTPUT = "7711 2 7411 2000 3000 7311 1000 373"
 BY_WORDS = "7711 1 7411 7011 376"
 BUSY = "3650 1400 6250 5000 305 3420 371"  # AOD, LDN, CWD, LDM, STD, UJN
+WRITES = "3650 2000 100 6250 373"  # AOD, LDC 100, CWD, UJN: word 100 changes each four turns of the processor
+
+
+class Answers(CentralDevice):
+    """Watches eight words, and answers each change of the first by one of the last."""
+
+    words, start = range(0o100, 0o110), 0
+
+    def changed(self, state, event):
+        return state + 1, store(0o107, event.new)
 
 
 def script(program, processors):
     """Returns the settings that start a program in so many processors."""
     return [line for number in range(processors) for line in (f"SET M {number:o} 100 {program}", f"SET P {number:o} 100")]
+
+
+def changes(session):
+    """Returns how many changes were answered."""
+    return session.state()
 
 
 def words_moved(session):
@@ -34,12 +49,20 @@ def words_moved(session):
     return tape.place + tape.punched.length
 
 
-# What is measured: its name, the program, in how many processors, the turns, and what is counted: turns if None.
-RUNS = (("words of block input", INPUT, 1, 1 << 17, words_moved),
-        ("words of block output", OUTPUT, 1, 1 << 17, words_moved),
-        ("words of a loop with IAN", BY_WORDS, 1, 1 << 17, words_moved),
-        ("turns, an idle device, ten busy processors", BUSY, 10, 1 << 20, None),
-        ("turns, an idle device, one busy processor", BUSY, 1, 1 << 22, None))
+def tape():
+    return PaperTape(bytes(BYTES))
+
+
+# What is measured: its name, the program, in how many processors, the turns, what is counted, turns if None, and the devices.
+RUNS = (("words of block input", INPUT, 1, 1 << 17, words_moved, tape),
+        ("words of block output", OUTPUT, 1, 1 << 17, words_moved, tape),
+        ("words of a loop with IAN", BY_WORDS, 1, 1 << 17, words_moved, tape),
+        ("changes of a central word, each answered", WRITES, 1, 1 << 18, changes, Answers),
+        ("turns, no device, ten busy processors", BUSY, 10, 1 << 22, None),
+        ("turns, an idle device, ten busy processors", BUSY, 10, 1 << 20, None, tape),
+        ("turns, an idle device of central memory, ten busy processors", BUSY, 10, 1 << 22, None, Answers),
+        ("turns, both idle, ten busy processors", BUSY, 10, 1 << 20, None, Answers, tape),
+        ("turns, an idle device, one busy processor", BUSY, 1, 1 << 22, None, tape))
 
 
 def used():
@@ -48,10 +71,10 @@ def used():
     return sum(usage.ru_utime + usage.ru_stime for usage in usages)
 
 
-def rate(program, processors, turns, moved):
+def rate(program, processors, turns, moved, *devices):
     """Returns how many words or turns a session makes in a second, from its start to its end."""
     before = used()
-    session = Attached([os.path.join(TOP, "dist", "pp6600")], [PaperTape(bytes(BYTES))])
+    session = Attached([os.path.join(TOP, "dist", "pp6600")], [device() for device in devices])
     for line in script(program, processors):
         session.act(line)
     for _ in range(turns // MOST):

@@ -1,12 +1,14 @@
-"""Measures the page of a film, for docs/SPEED.md: in Chromium the processor milliseconds of the page for a turn in the film, a turn that is
-made at its end, and a step of a drag, with their drawing; the seconds to open a film of 983,044 moments, and a turn more there; and in both
-browsers the milliseconds from a key to its picture. All numbers are decimal. The load of the machine is printed too.
+"""Measures the page of a film, for docs/SPEED.md: in Chromium the processor milliseconds of the page for a turn in the film, a turn
+that is made at its end, and a step of a drag, with their drawing; the processor seconds of the renderer, with all its threads, to
+open a film; the seconds to open one of 983,044 moments, and a turn more there; and in both browsers the milliseconds from a key to
+its picture. All numbers are decimal. The load of the machine is printed too.
 
     bench/page [--beside CLONE]
 
 measures the page of another clone, as of an older version, in the same browser in turn."""
 
 import argparse
+import glob
 import os
 import statistics
 import subprocess
@@ -21,7 +23,8 @@ LOADER = os.path.join("examples", "overwritten-loader")
 # All ten processors run, a source and a deck are shown, and a number is chosen whose changes have a lane.
 LOOP = ("SET M {n:o} 100 1405 3420 3021 3121 3422 1004", "SET M {n:o} 106 7014 3440 300", "SET P {n:o} 100")
 LONG = [line.format(n=n) for n in range(1, 8) for line in LOOP] + ["STEP 777700"] * 4
-LONG_OPTIONS = ("--source", "0", os.path.join("tests", "programs", "monitor.pp"), "--deck", os.path.join("examples", "read-a-deck", "deck"))
+LONG_OPTIONS = ("--source", "0", os.path.join("tests", "programs", "monitor.pp"), "--deck",
+                os.path.join("examples", "read-a-deck", "deck"))
 CHOSEN = "#place=M+1+20"
 LANES = "document.querySelector('#lanes svg#lanes-picture, svg#lanes')"  # of pages before 6.0.0, and of this one
 TURN = "(document.querySelector('.turn b') || document.querySelector('#position')).textContent"
@@ -33,8 +36,12 @@ WATCH = f"""(() => {{
   new MutationObserver(() => {{
     const began = since;
     since = 0;
-    if (began) requestAnimationFrame(() => setTimeout(() => {{ times.push(performance.now() - began); document.body.dataset.times = times.join(" "); }}));
-  }}).observe(document.querySelector(".turn") || document.querySelector("#position"), {{ characterData: true, childList: true, subtree: true }});
+    if (began) requestAnimationFrame(() => setTimeout(() => {{
+      times.push(performance.now() - began);
+      document.body.dataset.times = times.join(" ");
+    }}));
+  }}).observe(document.querySelector(".turn") || document.querySelector("#position"),
+    {{ characterData: true, childList: true, subtree: true }});
   return true;
 }})()"""
 TIMES = "(document.body.dataset.times || '').split(' ').filter(Boolean).map(Number)"
@@ -61,13 +68,34 @@ class Measured:
 
     def spent(self):
         """Returns the processor milliseconds that the page has taken."""
-        return 1000 * next(one["value"] for one in self.browser.ask("Performance.getMetrics")["metrics"] if one["name"] == "TaskDuration")
+        return 1000 * next(one["value"] for one in self.browser.ask("Performance.getMetrics")["metrics"]
+                           if one["name"] == "TaskDuration")
 
     def open(self, path, address=""):
         """Returns the seconds of opening a film."""
         begin = time.monotonic()
         self.browser.open(path, address)
         return time.monotonic() - begin
+
+    def renderers(self):
+        """Returns the processor seconds of each renderer of the browser, with its threads."""
+        found = {}
+        for path in glob.glob("/proc/[0-9]*/stat"):
+            try:
+                with open(path, encoding="utf-8", errors="replace") as stat, open(path.replace("stat", "cmdline"), "rb") as words:
+                    numbers, is_renderer = stat.read().rpartition(")")[2].split(), b"--type=renderer" in words.read()
+            except OSError:
+                continue  # it has ended
+            if is_renderer and int(numbers[3]) == self.browser.process.pid:
+                found[path] = (int(numbers[11]) + int(numbers[12])) / os.sysconf("SC_CLK_TCK")
+        return found
+
+    def spent_to_open(self, path):
+        """Returns the processor seconds of opening a film."""
+        self.browser.leave()
+        before = self.renderers()
+        self.browser.open(path)
+        return sum(seconds - before.get(one, 0) for one, seconds in self.renderers().items())
 
     def per_key(self, key, count):
         """Returns the milliseconds of a key, each of which leads to another turn."""
@@ -81,8 +109,10 @@ class Measured:
 
     def per_drag(self):
         """Returns the milliseconds of a step of a drag over the run."""
-        x, y, width, height = self.browser.evaluate(f"(({{ x, y, width, height }}) => [x, y, width, height])({LANES}.getBoundingClientRect())")
-        move = lambda kind, at: self.browser.ask("Input.dispatchMouseEvent", type=kind, x=x + width * 0.2 + at, y=y + height / 2, button="left", buttons=1, clickCount=1)
+        x, y, width, height = self.browser.evaluate(
+            f"(({{ x, y, width, height }}) => [x, y, width, height])({LANES}.getBoundingClientRect())")
+        move = lambda kind, at: self.browser.ask("Input.dispatchMouseEvent", type=kind, x=x + width * 0.2 + at, y=y + height / 2,
+                                                 button="left", buttons=1, clickCount=1)
         move("mousePressed", 0)
         begin = self.spent()
         for step in range(DRAGGED):
@@ -96,11 +126,13 @@ def in_chromium(clones, room):
     """Measures films of the clones in turn, and prints the least of the rounds."""
     one, found = Measured(), {}
     long = {clone: film(clone, room, f"long {at}", os.path.join(room, "script"), *LONG_OPTIONS) for at, clone in enumerate(clones)}
-    short = {clone: film(clone, room, f"short {at}", os.path.join(LOADER, "script"), "--source", "0", os.path.join(LOADER, "loader.pp"), "--deck",
+    short = {clone: film(clone, room, f"short {at}", os.path.join(LOADER, "script"), "--source", "0",
+                         os.path.join(LOADER, "loader.pp"), "--deck",
                          os.path.join(LOADER, "deck")) for at, clone in enumerate(clones)}
     note = lambda clone, what, value: found.setdefault((what, clone), []).append(value)
     for _ in range(ROUNDS):
         for clone in clones:
+            note(clone, "opening, processor s", one.spent_to_open(short[clone]))
             one.open(short[clone], "#turn=200&place=M+0+106")
             note(clone, "a turn in the film, ms", one.per_key("s", KEYS))
             note(clone, "a step of a drag, ms", one.per_drag())
@@ -112,7 +144,8 @@ def in_chromium(clones, room):
     for (what, clone), values in sorted(found.items()):
         print(f"{what:48} {min(values):8.2f}  {clone}", flush=True)
     for clone in clones:
-        print(f"{os.path.getsize(short[clone]):8} bytes of a film, {os.path.getsize(long[clone])} of the long one  {clone}; {load()}")
+        print(f"{os.path.getsize(short[clone]):8} bytes of a film, {os.path.getsize(long[clone])} of the long one  {clone}; "
+              f"{load()}")
     one.browser.end()
 
 
@@ -124,7 +157,8 @@ def from_key_to_picture(name, one, path):
         one.key("s")
         one.wait_for(f"{TIMES}.length >= {count}")
     ordered = sorted(one.evaluate(TIMES))
-    print(f"{name}, from a key to its picture: median {statistics.median(ordered):.0f} ms, 90 % {ordered[len(ordered) * 9 // 10]:.0f} ms; {load()}", flush=True)
+    print(f"{name}, from a key to its picture: median {statistics.median(ordered):.0f} ms, 90 % "
+          f"{ordered[len(ordered) * 9 // 10]:.0f} ms; {load()}", flush=True)
     one.end()
 
 

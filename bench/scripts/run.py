@@ -1,5 +1,5 @@
-"""Measures the simulator, as a program and as a library, beside a small C kernel and prints one table in Markdown; README.md tells how to
-read it.
+"""Measures the simulator, as a program and as a library, beside a small C kernel and prints one table in Markdown; README.md tells
+how to read it.
 
 First both must come to the same machine. Then they run by turns on one processor, and only their own time on it counts.
 Each rate is set against the kernel's just before and after it. Of all rounds the half in which the kernel ran fastest
@@ -26,8 +26,8 @@ PROCESSOR = max(os.sched_getaffinity(0))
 KEPT = 10000
 TURNS = 1 << 18  # the most that one STEP takes
 STEP, BACK, FORWARD = f"STEP {TURNS:o}", f"BACK {KEPT:o}", f"FORWARD {KEPT:o}"
-RECORDED, LOOKED_AT = f"turns {TURNS:o}", f"looks {TURNS:o}"  # lines of bench/library.c alone
-TURNS_OF = {STEP: TURNS, RECORDED: TURNS, LOOKED_AT: TURNS}  # of other lines KEPT
+RECORDED, LOOKED_AT, IN_ROWS = f"turns {TURNS:o}", f"looks {TURNS:o}", f"rows {TURNS:o}"  # lines of bench/library.c alone
+TURNS_OF = {STEP: TURNS, RECORDED: TURNS, LOOKED_AT: TURNS, IN_ROWS: TURNS}  # of other lines KEPT
 ANSWERS = {STEP: "TURNS", "BACK W": "ERR 10", "DUMP PP 0": "PP"}  # how they begin, where not as the line does
 QUIET = ("M 0 7700", "M 1 7701", "M 2 7702", "M 3 7703", "M 4 7704", "C 7700", "H 12", "H 13")
 
@@ -181,8 +181,8 @@ Rate = namedtuple("Rate", "turn, value, ratio")  # a turn of the kernel; million
 
 
 def measure(table, program, folder, name, kernel, records, counted, plain, watching, others, lines):
-    """One round of one program. The others have a row, a machine and a line of turns each, and are set beside STEP. The lines have a row
-    and a function that performs one line."""
+    """One round of one program. The others have a row, a machine and a line of turns each, and are set beside STEP. The lines have
+    a row and a function that performs one line."""
 
     def beside(take):
         """What is taken while the kernel runs before and after, and the nanoseconds of a turn of the kernel."""
@@ -264,13 +264,14 @@ class Libraries:
         self.shared, self.module = (os.path.join(artefacts, name) for name in ("libpp6600.so", "pp6600.wasm"))
         self.program, linked = os.path.join(folder, "library"), os.path.join(folder, "libpp6600.so.1")
         os.symlink(self.shared, linked)
-        subprocess.run(["gcc", "-O2", "-I", os.path.join(TOP, "crates", "pp_library"), "-o", self.program, os.path.join(HERE, "library.c"),
-                        linked, f"-Wl,-rpath,{folder}"], check=True)
+        subprocess.run(["gcc", "-O2", "-I", os.path.join(TOP, "crates", "pp_library"), "-o", self.program,
+                        os.path.join(HERE, "library.c"), linked, f"-Wl,-rpath,{folder}"], check=True)
 
     def machines(self, name):
         """Returns a row, a machine and a line of turns of each kind."""
         found = [(row, Machine(self.program, name), line) for row, line in (
-            ("`STEP`, library", STEP), ("Turns with records, library", RECORDED), ("Looks at two places, library", LOOKED_AT))]
+            ("`STEP`, library", STEP), ("Turns with records, library", RECORDED), ("Turns in columns, library", IN_ROWS),
+            ("Looks at two places, library", LOOKED_AT))]
         if shutil.which("node"):
             words = [os.path.join(HERE, "library.js"), os.path.join(WEB, "engine", "library.mjs"), self.module]
             found.append(("`STEP`, module in Node", Machine("node", name, *words), STEP))

@@ -9,7 +9,7 @@
  * - Each pointer is to as many elements as the call says. None is null, also for 0 elements. What a call writes overlaps nothing
  *   else that it is given: the lines of pp6600_answer are not in `into`, and no two out-parameters are one variable.
  * - One call at a time works on a session, and no call is made from a signal handler.
- * - The stack has 40 KB for a call of the assembler, 144 KB for a search, and 16 KB for another.
+ * - The stack has 48 KB for a call of the assembler, 144 KB for a search, and 16 KB for another.
  *
  * What each call says of its out-parameters holds for every status. Those of which it says nothing are as they were.
  */
@@ -17,8 +17,8 @@
 #define PP6600_H
 
 /* The version of this header; pp6600_version() returns that of the library. */
-#define PP6600_VERSION_MAJOR 5
-#define PP6600_VERSION_MINOR 8
+#define PP6600_VERSION_MAJOR 6
+#define PP6600_VERSION_MINOR 0
 #define PP6600_VERSION_PATCH 0
 #define PP6600_VERSION (1000000 * PP6600_VERSION_MAJOR + 1000 * PP6600_VERSION_MINOR + PP6600_VERSION_PATCH)
 
@@ -44,6 +44,14 @@ typedef struct {
 typedef struct {
     uint32_t processor, count;
 } pp6600_turn;
+
+/* What a processor is about to do before its turn: the processor, 0 to 9; its P, A, Q and phase; and the words in the cell P and in the
+ * one after it. Its instruction is `word`, or in a block transfer `phase`. `m` is its second word, if it has two. */
+typedef struct {
+    uint16_t processor, p;
+    uint32_t a;
+    uint16_t q, phase, word, m;
+} pp6600_row;
 
 /* A cell of a program: its address and its word, each of 12 bits, and the line of the source, or 0. */
 typedef struct {
@@ -253,6 +261,10 @@ uint32_t pp6600_last_write(pp6600 *session, uint32_t first, uint32_t count, uint
  * are not 1 to 16 places, or the machine does not have one. */
 uint32_t pp6600_looks(pp6600 *session, uint32_t most, const uint32_t *places, size_t place_count, uint64_t *into, size_t room,
     size_t *turns);
+
+/* Performs turns as pp6600_turns does, and writes the processor before each: rows[0] to rows[*turns - 1]. What is in rows behind these
+ * may change. ROOM: there is no room for one more. */
+uint32_t pp6600_columns(pp6600 *session, uint32_t most, pp6600_row *rows, size_t room, size_t *turns);
 
 /* A condition is at most 64 alternatives, each of at most 8 tests that must hold together. An alternative comes to hold in an
  * action if all its tests hold of it, and not all held of the machine before; a condition, if one of its alternatives does. The

@@ -1,4 +1,5 @@
-"""Makes the page to print, with numbers, an index, a link at each name, and the place, the users and the examples of each definition."""
+"""Makes the page to print, with numbers, an index, a link at each name, and the place, the users and the examples of each
+definition."""
 
 import os
 import re
@@ -99,7 +100,8 @@ def text_of(text, book):
 def facts_of(entry, book):
     """Returns the facts that a definition names, for the margin: each leads to its section, and has its text as a title."""
     found = [(mark, book.facts.facts[mark]) for mark in entry.definition.marks() if mark in book.facts.facts]
-    links = "".join(f'<a href="{os.path.basename(PAGE)}#{slug(fact.heading)}" title="{escape(fact.text)}">{mark}</a>' for mark, fact in found)
+    links = "".join(f'<a href="{os.path.basename(PAGE)}#{slug(fact.heading)}" title="{escape(fact.text)}">{mark}</a>'
+                    for mark, fact in found)
     return f'<div class="facts">{links}</div>\n' if found else ""
 
 

@@ -11,7 +11,8 @@ from evaluating.tables import made as made_table
 
 MADE = "<!-- docs/definitions.py makes this page from docs/definitions.txt and the sources: change those. -->\n\n"
 COMMENT = re.compile(r"^\s*(?:--|//)")
-FOR_THE_PROVER = re.compile(r"^( *)(?:(?:abbrev|unfoldable|irreducible) )?(?:pub(?:\([a-z]+\))? )?(?=\S)", re.M)  # words that readers need not
+# words that readers need not
+FOR_THE_PROVER = re.compile(r"^( *)(?:(?:abbrev|unfoldable|irreducible) )?(?:pub(?:\([a-z]+\))? )?(?=\S)", re.M)
 LONG = 60  # lines: a longer definition is only in the printed page, or folded there
 
 # A chapter of the text, with the files whose definitions it has. Those of the machine name their source.
@@ -143,7 +144,8 @@ class Book:
 
 
 def full_name(piece, target, own, members):
-    """Returns a constructor with its type in front if its name alone does not say which type, and a word of the kit as the kit has it."""
+    """Returns a constructor with its type in front if its name alone does not say which type, and a word of the kit as the kit has
+    it."""
     if isinstance(target, Library) and not {".", "◌"} & set(piece + target.name):
         return target.name
     name = piece.split(".")[-1]
@@ -184,7 +186,8 @@ def notes(entry, entries):
 def fact_links(entry, book):
     """Returns links to the facts that a definition names."""
     facts = book.facts.facts
-    return ", ".join(f"[{mark}]({os.path.basename(PAGE)}#{slug(facts[mark].heading)})" for mark in entry.definition.marks() if mark in facts)
+    return ", ".join(f"[{mark}]({os.path.basename(PAGE)}#{slug(facts[mark].heading)})" for mark in entry.definition.marks()
+                     if mark in facts)
 
 
 def without_folds(text):

@@ -53,8 +53,8 @@ class Reach:
         return sorted((target for target in self.users if isinstance(target, Library)), key=lambda word: (word.module, word.name))
 
     def ordered(self):
-        """Returns the definitions: first the statement that the first contract names, and then each after all its users but for those
-        in a circle."""
+        """Returns the definitions: first the statement that the first contract names, and then each after all its users but for
+        those in a circle."""
         met, order, used = set(), [], {}
         for target, users in self.users.items():
             for user in users if isinstance(target, Definition) else ():

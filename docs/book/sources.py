@@ -42,7 +42,8 @@ class Scope:
 
 
 def used_names(module, names):
-    """Yields the whole name of each part of a `use`, and what it is called here; in a group `a.{b, c.d}` a part may be a path or a group."""
+    """Yields the whole name of each part of a `use`, and what it is called here; in a group `a.{b, c.d}` a part may be a path or a
+    group."""
     depth, part = 0, ""
     for letter in names + ",":
         depth += (letter == "{") - (letter == "}")

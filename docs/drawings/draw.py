@@ -1,6 +1,6 @@
 #!/usr/bin/env python3
-"""Draws the pictures that follow from other files, beside this file: layers.svg from crates.txt, rooms.svg from the imports of the tools,
-and speed.svg from the table of docs/SPEED.md. The other pictures are kept as they are.
+"""Draws the pictures that follow from other files, beside this file: layers.svg from crates.txt, rooms.svg from the imports of the
+tools, and speed.svg from the table of docs/SPEED.md. The other pictures are kept as they are.
 
 Without a word it writes them. With `--check` it writes nothing, and fails if a picture is not what it draws.
 """
@@ -122,7 +122,7 @@ LAYERS_KEY = [
     "Left out are arrows that others imply,",
     "those for tests or of a theorem, and the kit.",
 ]
-ROOMS_KEY = ["An arrow goes from a room", "to one that it imports.", "Left out are arrows", "that others imply."]
+ROOMS_KEY = ["An arrow goes from a layer", "to one that it imports.", "Left out are arrows", "that others imply."]
 
 
 def reached(uses, user):
@@ -197,7 +197,7 @@ def layers():
 
 
 def rooms():
-    title = "The rooms of the tools: each imports those below it alone"
+    title = "The layers of the tools: each imports those below it alone"
     return Graph(USES["rooms"](), ROOMS, "docs/ARCHITECTURE.md").drawn(title, ROOMS_KEY)
 
 
@@ -243,13 +243,47 @@ def speed():
     ]
     bars = [bars_of(i, program, cost, scale) for i, (program, cost) in enumerate(zip(SHOWN, costs))]
     title = "The nanoseconds of a turn, for each program of the benchmark"
-    return picture(BAR_TOP + len(SHOWN) * BAR_ROW + 16, title, [key, text(BAR_X, 58, "nanoseconds a turn", 12, fill=SOFT, anchor="start"), bars])
+    return picture(BAR_TOP + len(SHOWN) * BAR_ROW + 16, title,
+                   [key, text(BAR_X, 58, "nanoseconds a turn", 12, fill=SOFT, anchor="start"), bars])
+
+
+# ---- a listing, from paper to the machine
+
+
+STEPS = [
+    ("the paper", ["a printed listing,", "or a scan of it"], GREY, GREY_EDGE),
+    ("the file", ["address, words and", "source line, as printed"], AMBER, AMBER_EDGE),
+    ("load --listing", ["the assembler makes", "each line once more"], BLUE, BLUE_EDGE),
+    ("SET lines", ["all words agree:", "the program is loaded"], GREEN, GREEN_EDGE),
+]
+STEP_LEFT, STEP_TOP, STEP_WIDTH, STEP_HEIGHT, STEP_PITCH = 20, 30, 170, 84, 230
+
+
+def listing():
+    starts = [STEP_LEFT + STEP_PITCH * at for at in range(len(STEPS))]
+    middle, bottom = STEP_TOP + STEP_HEIGHT / 2, STEP_TOP + STEP_HEIGHT
+    boxes = [
+        [box(x, STEP_TOP, STEP_WIDTH, STEP_HEIGHT, fill, edge), text(x + STEP_WIDTH / 2, STEP_TOP + 22, name, 15, True),
+         lines(x + STEP_WIDTH / 2, STEP_TOP + 46, rows, 12)]
+        for x, (name, rows, fill, edge) in zip(starts, STEPS)
+    ]
+    ways = [
+        [arrow(f"M {x + STEP_WIDTH + 4} {middle:g} L {x + STEP_PITCH - 4} {middle:g}"),
+         text(x + STEP_WIDTH + 30, middle - 12, word, 12, fill=SOFT)]
+        for x, word in zip(starts, ("type", "load", "right"))
+    ]
+    load, file = (starts[at] + STEP_WIDTH / 2 for at in (2, 1))
+    back = arrow(f"M {load:g} {bottom + 4:g} L {load:g} {bottom + 36:g} L {file:g} {bottom + 36:g} L {file:g} {bottom + 4:g}")
+    said = "FILE:5:7: the line has 3421, and STD COUNT makes 3420; COUNT is 0020, as line 2 (decimal) says"
+    notes = [text((load + file) / 2, bottom + 24, "mend each line in doubt", 12, fill=SOFT), text(WIDTH / 2, bottom + 62, said, 13)]
+    return picture(bottom + 86, "A listing is typed, loaded and mended until all its words agree", [boxes, ways, back, notes])
 
 
 # ---- the files
 
 
 PICTURES = {
+    "listing.svg": listing,
     "layers.svg": layers,
     "rooms.svg": rooms,
     "speed.svg": speed,

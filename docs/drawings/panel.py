@@ -2,8 +2,8 @@
 """Draws the pictures of the panel beside this file: panel.svg of docs/PANEL.md, before the loader of README.md is overwritten, and
 panel-source.svg of README.md, where the panel has the loader's source.
 
-Without a word it writes the pictures. With `--check` it writes nothing, and fails if one is not what it draws. The simulator is $PP6600,
-or else the one that ./pp6600 runs.
+Without a word it writes the pictures. With `--check` it writes nothing, and fails if one is not what it draws. The simulator is
+$PP6600, or else the one that ./pp6600 runs.
 """
 
 import sys
@@ -15,8 +15,10 @@ from html import escape
 
 HERE = os.path.dirname(os.path.abspath(__file__))
 TOP = os.path.dirname(os.path.dirname(HERE))
-at = [path.endswith("-packages") for path in [*sys.path, "-packages"]].index(True)  # behind Python's own modules
-sys.path.insert(at, os.path.join(TOP, "tools"))
+TOOLS = os.path.join(TOP, "tools")
+with open(os.path.join(TOOLS, "pp6600", "own.py"), encoding="ascii") as own:
+    exec(own.read())
+find_first(pp6600=TOOLS)
 
 from pp6600.shell.command_line import Failure, arguments, run, script_lines, simulator
 from pp6600.front.panel.app import Panel

@@ -1,6 +1,7 @@
 """What uses what: the crates, by crates.txt, and the rooms of the tools, by their imports.
 
-A room of tools/pp6600 imports the rooms below it alone. They are in the order of the table of docs/ARCHITECTURE.md, the uppermost first."""
+A room of tools/pp6600 imports the rooms below it alone. They are in the order of the table of docs/ARCHITECTURE.md, the uppermost
+first."""
 
 import ast
 import glob
@@ -17,13 +18,14 @@ def crates():
     with open(os.path.join(TOP, "crates.txt"), encoding="utf-8") as file:
         rows = [row.split(":") for row in file.read().splitlines()]
     listed = {name.split()[0]: words for name, words in rows}  # a static library has a second word
-    return {crate: [used for used in words.split() if used in listed] for crate, words in listed.items() if not FOR_TESTS.match(crate)}
+    return {crate: [used for used in words.split() if used in listed] for crate, words in listed.items()
+            if not FOR_TESTS.match(crate)}
 
 
 def order_of_rooms():
     """Returns the rooms in the order of their table, the uppermost first."""
     with open(os.path.join(TOP, "docs", "ARCHITECTURE.md"), encoding="utf-8") as file:
-        return re.findall(r"^\| `(\w+)`", file.read().split("\n| Room | ")[1].split("\n\n")[0], re.M)
+        return re.findall(r"^\| `(\w+)`", file.read().split("\n| Layer | ")[1].split("\n\n")[0], re.M)
 
 
 def module_at(path):

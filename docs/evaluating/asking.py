@@ -1,7 +1,6 @@
 """Asks for the value of an expression, for the steps of a processor, and for a run of the program."""
 
 import functools
-import operator
 import os
 import re
 from typing import Any, Callable, Dict, Iterator, List, Optional, Set, Tuple
@@ -10,9 +9,10 @@ from book.expressions import Apply, Parser
 from book.names import Names, Sources, Unresolved
 from book.sources import Definition, Scope
 from evaluating import lists
-from evaluating.functions import Facts, Function, remembering
+from evaluating.functions import Facts, Function, Ways, remembering
 from evaluating.kit import KIT, NONE, text_of
 from evaluating.lists import NIL, Stuck, items, listed, replicate
+from evaluating.runs import Run
 
 # Of several definitions with one name, the only one of the first crate has it alone, or else the only one outside of the second;
 # those of inner files count as the second's, and a definition comes before the constructors with its name. What the crates
@@ -64,7 +64,9 @@ class Definitions:
         self.names = functools.lru_cache(None)(functools.partial(Names, self.sources))  # what the names of a scope stand for
         self.memory: Dict = {}  # what remembered functions have returned
         self.python = {**vars(lists), **{f"kit_{name}": function for name, function in KIT.items()}, "NONE": NONE,
-                       "once": functools.lru_cache(None), "remembered": functools.partial(remembering, self.memory)}
+                       "once": functools.lru_cache(None), "remembered": functools.partial(remembering, self.memory),
+                       "witness": self.witness}
+        self.witnesses: Dict[str, Callable] = {}  # what a fact asks for and does not compute, by its name
         self.functions: Dict[Definition, Function] = {}
         self.queue: List[Function] = []
 
@@ -86,12 +88,22 @@ class Definitions:
         self.python[name] = value
         return name
 
+    def kind_of(self, definition: Definition) -> Any:
+        """Returns what makes a function of this definition."""
+        return {"record": Facts, "data": Ways}.get(definition.kind, self.kind)
+
     def function(self, definition: Definition) -> Function:
         """Returns the function of a definition, which is made before anything is computed."""
         if definition not in self.functions:
-            self.functions[definition] = (Facts if definition.kind == "record" else self.kind)(self, definition)
+            self.functions[definition] = self.kind_of(definition)(self, definition)
             self.queue.append(self.functions[definition])
         return self.functions[definition]
+
+    def witness(self, name: str, *given: Any) -> Any:
+        """Returns what a fact asks for, with these arguments."""
+        if name not in self.witnesses:
+            raise Stuck(f"{name}, which asks for a value")
+        return self.witnesses[name](*given)
 
     def finish(self) -> None:
         """Makes the functions that are used, and those that they use."""
@@ -121,7 +133,10 @@ class Definitions:
         if not text.strip():
             raise Stuck("nothing: write an expression, as 'add18 0o777776 1'")
         try:
-            return self.value(text, self.scope)
+            value = self.value(text, self.scope)
+            if isinstance(value, lists.Partial) and getattr(self.head(text), "kind", "") in ("record", "data"):
+                raise Stuck(f"{text}, which is a type or a relation")
+            return value
         except Unresolved as fault:
             self.named(str(fault))  # says which definitions have the name, if several have it
             raise
@@ -173,35 +188,21 @@ def meaning(definitions: Definitions, words: tuple) -> tuple:
     raise Stuck("words of which `Means` allows no meaning")
 
 
-# What is outside of a run: what each device shows of itself to contracts, before it.
-HOST = {"known_words": NONE, "known_files": lambda path: NONE, "log": NIL, "failure_count": 0}
-SOURCE = {"rest": NONE, "given": NIL, "ended": False, "calls": NIL, "failure_count": 0}
-SINK = {"text": {"bytes": NIL, "held": ("Some", NIL)}, "failure_count": 0}
+class Files:
+    """The files that the options name. Each is opened when it is first asked for, while the run lasts."""
 
+    def __init__(self, path_of: Callable):
+        self.path_of, self.is_over = path_of, False
+        self.found: Dict[tuple, tuple] = {}
+        self.opened: List[dict] = []
 
-def outside(definitions: Definitions, output: dict, errors: dict) -> dict:
-    """Returns what is outside of a run, with these sinks."""
-    shown = [{name: operator.itemgetter(name) for name in device} for device in (HOST, SOURCE, SINK, SINK)]
-    terminal = {"source": {"now": SOURCE}, "output": {"now": output}, "log": {"at_reads": NIL}}
-    return definitions.call("outside_of", *shown, HOST, terminal, errors)
-
-
-def holds(definitions: Definitions, name: str, *given: Any) -> bool:
-    """Tells whether a relation holds. If one way to fulfil it can't be computed, the others do not hold."""
-    try:
-        return definitions.call(name, *given)
-    except Stuck:
-        return False
-
-
-def check_written(definitions: Definitions, course: dict, output: Any, errors: Any) -> None:
-    """Asks whether what is written, to sinks that did not fail, is as IsOutput and IsReported say."""
-    before = outside(definitions, SINK, SINK)
-    after = outside(definitions, *({**SINK, "text": {"bytes": text, "held": ("Some", text)}} for text in (output, errors)))
-    if not holds(definitions, "IsOutput", course["ended"], course["answers"], before["output"], after["output"]):
-        raise Stuck("a run whose output is not as IsOutput says")
-    if not holds(definitions, "IsReported", course["ended"], before["errors"], after["errors"]):
-        raise Stuck("a run whose errors are not as IsReported says")
+    def __call__(self, kind: tuple) -> tuple:
+        path = self.path_of(kind) if kind not in self.found else NONE
+        if self.is_over or kind in self.found:
+            return self.found.get(kind, ("Found.Missing",))
+        self.opened.extend([{"kind": kind, "path": path[1]}] if path != NONE else [])
+        self.found[kind] = content(path)
+        return self.found[kind]
 
 
 def performed(definitions: Definitions, words: List[str], read: Callable[[], bytes]) -> Tuple[bytes, bytes, int]:
@@ -210,34 +211,30 @@ def performed(definitions: Definitions, words: List[str], read: Callable[[], byt
     texts = ("Words.Texts", listed(listed(os.fsencode(word)) for word in ["pp6600", *words]))
     means = meaning(definitions, texts)
     asked = means[1] if means[0] == "Ok" else None
-    opened: List[dict] = []
-
-    @functools.lru_cache(None)
-    def files(kind: tuple) -> tuple:
-        """Returns the file of a kind, and notes that it was opened, if the options name it."""
-        path = definitions.call("path_of", asked, kind)
-        opened.extend([{"kind": kind, "path": path[1]}] if path != NONE else [])
-        return content(path)
-
+    files = Files(lambda kind: definitions.call("path_of", asked, kind))
     try:
         typed = read() if asked and definitions.call("path_of", asked, ("FileKind.Script",)) == NONE else b""
     except OSError:
         raise Stuck(CUT) from None
-    course = definitions.call("program", {"words": texts, "files": files, "input": listed(typed)}, means)
-    if list(items(course["opened"])) != opened:
+    given = {"words": texts, "files": files, "input": listed(typed)}
+    course = definitions.call("program", given, means)
+    files.is_over = True
+    if not course["reads_input"]:  # then nothing is known of it
+        typed, given = b"", {**given, "input": NIL}
+    if list(items(course["opened"])) != files.opened:
         raise Stuck("a run whose course opens other files, or in another order")
-    output, errors = course["answers"], NIL
+    output, errors, status = course["answers"], NIL, definitions.call("exit_of", course["ended"])
     if course["ended"][0] == "Err":
         line = definitions.call("line_of", course["ended"][1])
         output, errors = (line, NIL) if course["ended"][1] == ("Trouble.Help",) else (output, line)
-    check_written(definitions, course, output, errors)
-    return bytes(items(output)), bytes(items(errors)), definitions.call("exit_of", course["ended"])
+    Run(definitions, given, means, course, typed).check(output, errors, status)
+    return bytes(items(output)), bytes(items(errors)), status
 
 
 # ---- the steps of a processor
 
-# The places of a processor: how they are typed, their names in PpPlace, the fields with their numbers in what it sees of the machine,
-# the digits of their addresses and of their numbers, and the largest number.
+# The places of a processor: how they are typed, their names in PpPlace, the fields with their numbers in what it sees of the
+# machine, the digits of their addresses and of their numbers, and the largest number.
 PLACES = (("P", "P", "p", 0, 4, 0o7777), ("A", "A", "a", 0, 6, 0o777777), ("Q", "Q", "q", 0, 4, 0o7777),
           ("PHASE", "Phase", "phase", 0, 4, 0o7777), ("M", "Cell", "cells", 4, 4, 0o7777), ("S", "State", "states", 2, 1, 3),
           ("H", "Register", "registers", 2, 4, 0o7777), ("C", "Central", "central", 6, 20, 2 ** 60 - 1),

@@ -1,8 +1,8 @@
-"""Checks the definitions as they are now: the examples of docs/examples.txt, the worked rows, and the cases of tests/cases.txt and of
-examples/.
+"""Checks the definitions as they are now: the examples of docs/examples.txt, the worked rows, and the cases of tests/cases.txt and
+of examples/.
 
-The examples were recorded from these definitions. The worked rows, which the prover proves, and the cases, whose answers are those of
-the pages, say what the definitions should be. What can't be computed is passed over, and counted.
+The examples were recorded from these definitions. The worked rows, which the prover proves, and the cases, whose answers are those
+of the pages, say what the definitions should be. What can't be computed is passed over, and counted.
 """
 
 import os
@@ -70,8 +70,10 @@ def check(top: str) -> int:
     others = [*faults_of_rows(top, definitions, rows_over), *faults_of_cases(definitions, cases, cases_over)]
     advice = ["if the definitions are right, run docs/evaluate --record"] * bool(examples and not others)
     count, rows = sum(bool(one.text) for own in load(text).values() for one in own), sum(1 for _ in worked(top, definitions))
-    said = [f"computed: {count} examples, {rows - len(rows_over)} of {rows} worked rows, {len(cases) - len(cases_over)} of {len(cases)} cases",
-            f"passed over: rows about each or some x: {', '.join(rows_over)}; cases with a device that fails, or run in another way: "
+    said = [f"computed: {count} examples, {rows - len(rows_over)} of {rows} worked rows, {len(cases) - len(cases_over)} of "
+            f"{len(cases)} cases",
+            f"passed over: rows about each or some x: {', '.join(rows_over)}; cases with a device that fails, or run in another "
+            f"way: "
             f"{', '.join(cases_over)}"]
     print("".join(f"{line}\n" for line in [*examples, *others, *advice, *said]), end="")
     return 1 if examples or others else 0

@@ -5,8 +5,8 @@ effects, so when and how often one is computed can't be seen. Four things rest o
 remember their results; an argument of some is computed when it is read; and a pattern `x ∷ xs` that is built again is the list that
 it took apart. Types are not checked.
 
-A statement is true or false. One about each or some x is computed if x is one of a few constructors, and a record of facts if none of
-its fields is data.
+A statement is true or false. One about each or some x is computed if x is one of a few constructors. The data of a record of facts, and
+what a constructor of a fact takes, are a witness that is asked for.
 """
 
 import functools
@@ -21,7 +21,7 @@ from evaluating.kit import KIT, VALUES
 from evaluating.lists import Stuck, listed
 
 # Without memory a session of n turns would take n * n steps, since each definition replays it from its start.
-REMEMBERED = ("replay", "turn", "finished", "lines_of_file")
+REMEMBERED = ("replay", "turn", "finished", "lines_of_file", "program", "session_with")
 LAZY = {"hit_or": 1}  # the argument that is computed when it is read: the rest of a run of turns, which may stop early
 ESCAPES = {"n": "\n", "t": "\t", "r": "\r"}
 # The constructors that are not tuples with their names: the test of each, and its parts.
@@ -239,7 +239,7 @@ class Function:
         if fields:
             base = word[:-len(".".join(["", *fields]))]
             return applied(self.call(scope, base, []) + fields_text(fields), self.texts(given, scope))
-        what = self.word(target, len(given)) if target else Word("", 0, scope[word]) if word in scope else kit_word(word)
+        what = self.word(target) if target else Word("", 0, scope[word]) if word in scope else kit_word(word)
         parts = list(what.own)
         for at, one in enumerate(given, len(parts)):
             is_lazy = target and LAZY.get(target.name) == at
@@ -248,15 +248,15 @@ class Function:
             return f"Partial({', '.join([what.function, str(what.arity - len(parts)), *parts])})"
         return applied(what.call.format(*parts) if what.arity else what.call, parts[what.arity:])
 
-    def word(self, target: Any, given: int) -> Word:
-        """Returns what a word of the kit, a constructor or a definition is, with so many arguments."""
+    def word(self, target: Any) -> Word:
+        """Returns what a word of the kit, a constructor or a definition is."""
         if isinstance(target, Library):
             return kit_word(target.name.strip("◌"))
         if isinstance(target, Constructor):
             return word_of("together", 1 + target.arity, [repr(target.whole_name)], "({1},)")
         if target.kind == "const":
             return Word("", 0, re.search(r"= ([\d_]+);", target.text)[1])
-        is_facts = target.kind == "record" and 0 < len(parameters(target)) <= given
+        is_facts = target.kind in ("record", "data") and parameters(target)
         if target.kind != "function" and not is_facts:
             return Word("", 0, f"Partial(stuck, 1, '{target.name}, which is a type or a relation')")
         is_near = (target.scope, target.header) == (self.definition.scope, self.definition.header)
@@ -268,16 +268,44 @@ class Function:
 
 
 class Facts(Function):
-    """A record of facts, which becomes a function of Python that tells whether all of them hold."""
+    """A record of facts, which becomes a function that tells whether all hold. A field of which later ones speak is data."""
 
     def __init__(self, maker: Any, definition: Definition):  # pylint: disable=super-init-not-called
         self.maker, self.definition, self.names, self.count = maker, definition, maker.names(definition.scope), 0
         self.module, self.result, self.clauses = names_in(definition.header), Name("Type"), []
         self.given = [f"_{at}" for at in range(len(parameters(definition)))]
         self.name = self.fresh(f"{definition.name}_{len(maker.functions)}")
+        self.scope = dict(zip(parameters(definition), self.given))
+        self.members = MEMBER.findall(re.sub(r"^ *--.*\n", "", definition.text, flags=re.M) + "\n")
 
     def whole(self) -> str:
-        """Returns the text of the function."""
-        text, scope = re.sub(r"^ *--.*\n", "", self.definition.text, flags=re.M), dict(zip(parameters(self.definition), self.given))
-        facts = [self.text(Parser(fact, self.maker.fixity).whole(), scope) for _, fact in MEMBER.findall(text + "\n")]
-        return f"def {self.name}({', '.join(self.given)}):\n    return {' and '.join(facts)}\n"
+        later = {name: "".join(fact for _, fact in self.members[at + 1:]) for at, (name, _) in enumerate(self.members)}
+        data = {name: f"found[{name!r}]" for name in later if re.search(rf"(?<![\w.]){name}\b", later[name])}
+        trees = [Parser(fact, self.maker.fixity).whole() for name, fact in self.members if name not in data]
+        facts = self.texts(trees, {**self.scope, **data})
+        return self.with_witness([f"return {' and '.join(facts)}"], "found" if data else "")
+
+    def with_witness(self, lines: List[str], names: str) -> str:
+        """Returns the text of the function, which begins with its witness if it asks for one."""
+        asks = [f"{names} = witness({', '.join([repr(self.definition.name), *self.given])})"] if names else []
+        return "\n".join([*block(f"def {self.name}({', '.join(self.given)}):", [*asks, *lines]), ""])
+
+
+class Ways(Facts):
+    """A fact with constructors, which becomes a function of Python that tells whether all holds that the witness's one takes."""
+
+    def whole(self) -> str:
+        lines = [line for name, signature in self.members for line in block(f"if way == {name!r}:", [self.way(signature)])]
+        return self.with_witness([*lines, "return False"], "way, found")
+
+    def way(self, signature: str) -> str:
+        """Returns the line that returns whether all facts hold that a constructor takes."""
+        tree, scope, facts = Parser(signature, self.maker.fixity).whole(), dict(self.scope), ["True"]
+        while isinstance(tree, Apply) and tree.head == Name("→"):
+            left, tree = tree.given
+            parts = [left.head, *left.given] if isinstance(left, Apply) else [left]
+            if isinstance(parts[0], Binder):
+                scope.update((name, f"found[{name!r}]") for part in parts for name in part.names)
+            else:
+                facts.append(self.text(left, scope))
+        return f"return {' and '.join(facts)}"

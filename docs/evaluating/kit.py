@@ -78,9 +78,12 @@ KIT: Dict[str, Any] = {
     "DisplayHelp": "('ErrorKind.DisplayHelp',)",
     "IsAmong": lambda kind, kinds: kind in items(kinds),
     "Appends": lambda old, new, more: old == NONE or new != NONE and is_same(new[1], append(old[1], more)),
+    "Consumes": lambda old, new, taken: old == NONE or new != NONE and is_same(old[1], append(taken, new[1])),
     "IfOk": lambda x, fact: x[0] != "Ok" or fact(x[1]),
     "IfSome": lambda x, fact: x[0] != "Some" or fact(x[1]),
     "All": lambda test, xs: all(map(test, items(xs))),
+    "AllByRecursion": lambda test, xs: all(map(test, items(xs))),
+    "IsTrue": "{0}",
 
     "[]": "NIL", "∷": "Cons({0}, {1})", "++": "append({0}, {1})", "codes": "{0}", "slice_index": "element({0}, {1}, 0)",
     "length": lambda xs: getattr(xs, "size", 0) or sum(1 for _ in items(xs)),

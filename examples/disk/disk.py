@@ -12,7 +12,8 @@ Its codes are this example's own; a real disk had others, and a converter or a c
     4000       status: 0001 ready, 0002 the arms move, 0004 the last code had no such track or sector; bits 3 to 11 are the track
 
 A code that is given while the arms move stays on the channel until they have come to rest. IMAGE is a file of bytes, two words in
-three, the upper bits first; without one the disk is blank. It is read at the beginning and never written: `disk.save(state, path)` does.
+three, the upper bits first; without one the disk is blank. It is read at the beginning and never written: `disk.save(state, path)`
+does.
 """
 
 import os

@@ -1,6 +1,12 @@
 /** The proved simulator of the CDC 6600's peripheral processors. Numbers are decimal; the machine's own are 64 bits wide, as BigInt. */
 
-/** What the machine and its history are. */
+/** Bytes, or an array of numbers from 0 to 255. */
+export type Bytes = Uint8Array | Uint8ClampedArray | number[];
+
+/** Places, by their numbers. */
+export type Places = number[] | Uint8Array | Uint16Array | Uint32Array | Int32Array;
+
+/** What the machine and its history are. Another name than these is a TypeError. */
 export interface Options {
   /** How many actions can be undone, 1 to 10000; else 10000. */
   history?: number;
@@ -11,9 +17,9 @@ export interface Options {
   /** The channel of the printer, 0 to 11; else 11. */
   printer?: number;
   /** The bytes of a deck of cards. */
-  deck?: Uint8Array | ArrayLike<number>;
+  deck?: Bytes;
   /** The bytes of a dead start panel. */
-  panel?: Uint8Array | ArrayLike<number>;
+  panel?: Bytes;
 }
 
 /** What lines of the console came to. */
@@ -89,11 +95,13 @@ export interface OriginTurn {
 /** What the assembler writes of a source. */
 export declare const FORM: Readonly<Record<"COMPLAINTS" | "WORDS" | "LISTING" | "LINES" | "NAMES" | "ROWS" | "UNITS", number>>;
 
-/** A call failed. If an option or a file was rejected, the message is the program's line, and `exit` is the program's exit status. */
+/** A call failed, by its status of STATUS. If an option or a file was rejected, the message is the program's line, and `exit` is the
+ *  program's exit status. */
 export declare class LibraryError extends Error {
+  name: "LibraryError";
   status: number;
   exit?: number;
-  /** What the lines before the one that is too long came to. */
+  /** Of `answer`: what the lines came to before the one that is too long, or for whose answer there is no memory. They were performed. */
   done?: Answers;
 }
 
@@ -109,26 +117,33 @@ export declare function open(options?: Options, module?: Module): Promise<Sessio
 /** Returns the assembler. */
 export declare function assembler(module?: Module): Promise<Assembler>;
 
-/** Returns the version of the module, as "5.8.0". */
+/** Returns the version of the module, as "6.0.0". */
 export declare function version(module?: Module): Promise<string>;
 
 /** Returns the name of the instruction with a code, 0 to 0o77, how many words it has, and its operand, as pp6600.h numbers it. */
 export declare function instruction(code: number, module?: Module): Promise<{ name: string; words: number; form: number }>;
 
-/** A machine with its undo history. A number that a call does not take is a RangeError, and else what fails is a LibraryError; then nothing
- *  has changed. */
+/** A machine with its undo history. An argument of a wrong type is a TypeError, and a number that a call does not take a RangeError, which
+ *  name it; else what fails is a LibraryError. Then nothing has changed, but for the lines that `answer` names. A session that has fewer
+ *  actions than `back`, `forward` or `moments` are asked for is no failure: they return false or undefined. */
 export declare class Session {
   constructor(module: Module, options?: Options);
-  /** Performs lines of the console. */
-  answer(typed: string | Uint8Array): Answers;
+  /** Performs lines of the console. If that fails after some of them, `done` of the error is what these came to. */
+  answer(typed: string | Bytes): Answers;
   /** Returns the numbers at `count` places from the place `first` on. */
   numbers(first: number, count: number): BigUint64Array;
-  /** Makes turns, up to the first that changes a watched number; or by "again" performs actions that were undone. */
-  moments(most: number, call?: "turns" | "again"): Moment[];
+  /** Makes turns, up to the first that changes a watched number. */
+  moments(most: number, call?: "turns"): Moment[];
+  /** Performs actions that were undone. Returns undefined if there are too few, and then none is performed. */
+  moments(count: number, call: "again"): Moment[] | undefined;
   /** Makes turns in the same way, and returns the numbers at 1 to 16 places after each. */
-  looks(most: number, places: ArrayLike<number>): BigUint64Array[];
+  looks(most: number, places: Places): BigUint64Array[];
+  /** Makes turns in the same way, up to the room for so many. Returns what their processors were about to do, as columns: P, A, Q, the phase,
+   *  and the words in the cell P and in the one after it, each with one number of each turn. */
+  columns(most: number, room?: number): { status: number; processor: Uint16Array; p: Uint16Array; a: Uint32Array; q: Uint16Array;
+    phase: Uint16Array; word: Uint16Array; m: Uint16Array };
   /** As `moments`, in arrays, up to the room for so many actions and old numbers. `made` has two numbers for each action: its processor, and
-   *  how many pairs of `olds`, a place and a number, are its own. */
+   *  how many pairs of `olds`, a place and a number, are its own. By "again" the status is STATUS.REFUSED if there are too few. */
   turns(most: number, room?: number, oldRoom?: number, call?: "turns" | "again"): { status: number; made: Uint32Array; olds: BigUint64Array };
   /** Makes turns as `turns` does, each with where the numbers that it wrote come from. */
   origins(most: number, room?: number, linkRoom?: number, oldRoom?: number): { status: number; made: OriginTurn[]; olds: BigUint64Array };
@@ -142,12 +157,12 @@ export declare class Session {
   /** Goes back to the end of the last action before the newest in which a condition came to hold. Returns how many actions were undone; 0 if
    *  there is none. */
   backUntil(condition: Form[]): number;
-  /** Undoes actions. */
-  back(count: number): number;
-  /** Performs actions again that were undone. */
-  forward(count: number): number;
+  /** Undoes actions. Returns whether there were enough; if not, none is undone. */
+  back(count: number): boolean;
+  /** Performs actions again that were undone. Returns whether there were enough; if not, none is performed. */
+  forward(count: number): boolean;
   counts(): Counts;
-  /** Ends the session, and gives its memory back. */
+  /** Ends the session, and gives its memory back. To close it again does nothing. */
   close(): void;
 }
 

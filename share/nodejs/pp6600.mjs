@@ -1,6 +1,7 @@
 // The proved simulator of the CDC 6600's peripheral processors, for Node, Deno and pages: `open` begins a session. pp6600.d.ts has each call.
 // Numbers of the machine are BigInt; others are plain numbers, so write 0o106 for an octal one.
-import { Assembler, FORM as CONDITION, LINK_BYTES, LibraryError, LibrarySession, MADE_BYTES, STATUS, openLibrary } from "./library.mjs";
+import { Assembler, FORM as CONDITION, LINK_BYTES, LibraryError, LibrarySession, MADE_BYTES, STATUS, checked, openLibrary,
+  placesOf } from "./library.mjs";
 
 export { Assembler, CONDITION, LibraryError, STATUS };
 
@@ -39,23 +40,17 @@ export const open = async (options = {}, module = undefined) => new Session(modu
 // Returns the assembler.
 export const assembler = async (module = undefined) => new Assembler(module ?? await ownModule());
 
-// Returns the version of the module, as "5.8.0".
+// Returns the version of the module, as "6.0.0".
 export async function version(module = undefined) {
   const number = (module ?? await ownModule()).pp6600_version();
   return [Math.floor(number / 1e6), Math.floor(number / 1e3) % 1e3, number % 1e3].join(".");
 }
 
-// Returns places as the module takes them.
-function placesOf(places) {
-  const wrong = [...places].find((place) => !Number.isInteger(place) || place < 0 || place >= 2 ** 32);
-  if (wrong !== undefined) throw new RangeError(`pp6600.wasm: ${wrong} is no number of 32 bits`);
-  return Uint32Array.from(places);
-}
-
 // Returns the name of the instruction with a code, how many words it has, and the number of its operand. It needs no session.
 export async function instruction(code, module = undefined) {
-  const rooms = new Assembler(module ?? await ownModule()), into = rooms.room("name", NAME_BYTES), outs = rooms.outs(3);
-  const status = rooms.calls.pp6600_instruction(...placesOf([code]), into, BigInt(NAME_BYTES), ...outs), [count, words, form] = rooms.results(3);
+  const rooms = new Assembler(module ?? await ownModule()), numbers = checked("instruction", code);
+  const into = rooms.room("name", NAME_BYTES), given = [...numbers, into, BigInt(NAME_BYTES), ...rooms.outs(3)];
+  const status = rooms.calls.pp6600_instruction(...given), [count, words, form] = rooms.results(3);
   const name = status === STATUS.DONE ? rooms.text(into, count) : "";
   rooms.release();
   if (!name) throw new LibraryError(status);
@@ -78,9 +73,12 @@ function turnsIn(made, links) {
 // A session, with turns one by one.
 export class Session extends LibrarySession {
   // Makes turns, up to the first that changes a watched number, or by "again" performs actions that were undone. Returns each: its
-  // processor, 10 if it is no turn, and the places that it overwrote with the numbers that were there.
+  // processor, 10 if it is no turn, and the places that it overwrote with the numbers that were there. Returns undefined if there are
+  // too few to be performed again, and then none is.
   moments(most, call = "turns") {
-    const { made, olds } = this.turns(most, Math.max(most, 1), 76 * Math.max(most, 1), call), found = [];
+    checked("turns", most);
+    const { status, made, olds } = this.turns(most, Math.max(most, 1), 76 * Math.max(most, 1), call), found = [];
+    if (status === STATUS.REFUSED) return undefined;
     for (let turn = 0, at = 0; turn < made.length; turn += 2) {
       const overwritten = [];
       for (const end = at + 2 * made[turn + 1]; at < end; at += 2) overwritten.push({ place: Number(olds[at]), number: olds[at + 1] });
@@ -100,7 +98,7 @@ export class Session extends LibrarySession {
   nextOrigins() {
     const made = this.room("made", MADE_BYTES), links = this.room("links", LINK_BYTES * MOST_LINKS), control = this.room("control", 8 * MOST_CONTROL);
     const outs = this.outs(2);
-    this.call("next_origins", made, links, BigInt(MOST_LINKS), outs[0], control, BigInt(MOST_CONTROL), outs[1]);
+    this.call("next_origins", [made, links, BigInt(MOST_LINKS), outs[0], control, BigInt(MOST_CONTROL), outs[1]]);
     const [linked, count] = this.results(2), words = this.view(Uint32Array, links, LINK_BYTES / 4 * linked);
     const [turn] = turnsIn(this.view(Uint16Array, made, MADE_BYTES / 2), words);
     return { ...turn, control: [...this.view(BigUint64Array, control, count)].map(Number) };
@@ -109,18 +107,28 @@ export class Session extends LibrarySession {
   // Returns the newest action that can be undone and wrote one of so many places, as `origins` has a turn, with `newer`, how many actions
   // are newer; undefined if there is none. The processor of one that is no turn is 10.
   lastWrite(first, count = 1) {
-    const made = this.room("made", MADE_BYTES), links = this.room("links", LINK_BYTES * MOST_TURN_LINKS), room = BigInt(MOST_TURN_LINKS);
-    const status = this.call("last_write", ...placesOf([first, count]), ...this.outs(1), made, links, room), [newer] = this.results(1);
+    const places = checked("last_write", first, count), made = this.room("made", MADE_BYTES);
+    const links = this.room("links", LINK_BYTES * MOST_TURN_LINKS), into = [...this.outs(1), made, links, BigInt(MOST_TURN_LINKS)];
+    const status = this.call("last_write", [...places, ...into]), [newer] = this.results(1);
     if (status === STATUS.NOT_FOUND) return undefined;
     const words = this.view(Uint32Array, links, LINK_BYTES / 4 * MOST_TURN_LINKS);
     return { newer, ...turnsIn(this.view(Uint16Array, made, MADE_BYTES / 2), words)[0] };
   }
 
+  // Makes turns as `turns` does, up to so many. Returns the status, and what their processors were about to do: of each number a column, with
+  // one of each turn.
+  columns(most, room = 4096) {
+    const { status, rows } = this.rows(most, room), column = (at) => Uint16Array.from({ length: rows.length / 8 }, (_, turn) => rows[8 * turn + at]);
+    const a = Uint32Array.from({ length: rows.length / 8 }, (_, turn) => rows[8 * turn + 2] + 0x10000 * rows[8 * turn + 3]);
+    const [processor, p, q, phase, word, m] = [0, 1, 4, 5, 6, 7].map(column);
+    return { status, processor, p, a, q, phase, word, m };
+  }
+
   // Makes turns in the same way, and returns the numbers at 1 to 16 places after each.
   looks(most, places) {
-    const width = places.length, room = most * width, given = this.given("places", placesOf(places));
-    const into = this.room("seen", 8 * Math.max(room, 1));
-    this.call("looks", ...placesOf([most]), ...given, into, BigInt(room), ...this.outs(1));
+    const numbers = checked("looks", most), chosen = placesOf(places), width = chosen.length, room = most * width;
+    const given = this.given("places", chosen), into = this.room("seen", 8 * Math.max(room, 1));
+    this.call("looks", [...numbers, ...given, into, BigInt(room), ...this.outs(1)]);
     const [turns] = this.results(1), seen = this.view(BigUint64Array, into, turns * width).slice();
     return Array.from({ length: turns }, (_, turn) => seen.subarray(turn * width, (turn + 1) * width));
   }

@@ -3,8 +3,9 @@
     deb [FOLDER]   makes pp6600_VERSION-1_ARCHITECTURE.deb in FOLDER (else out), and beside each a file with its sha256: amd64 and
                    arm64 with the proved programs for them, as far as dist/ has them, and all, with the simulator in Python alone
 
-Each is an installation (share/install) below /usr. dist/sources must have the checksums of the programs and of the sources. A checkout
-of git must be as committed. The same commit makes the same bytes: names are sorted, and owner, modes and time are fixed."""
+Each is an installation (share/install) below /usr. dist/sources must have the checksums of the programs and of the sources. A
+checkout of git must be as committed. The same commit makes the same bytes: names are sorted, and owner, modes and time are
+fixed."""
 
 import email.utils
 import hashlib
@@ -12,11 +13,11 @@ import os
 import shutil
 import tempfile
 
-from packaging import NO_LICENCE, check_committed, fail, folder, has_programs, moment, of_commit, output, programs, save, version
+from packaging import NO_LICENCE, fail, folder, has_programs, moment, of_commit, output, pack_commit, programs, save, version
 
 from pp6600.shell.archives import gzipped
-from pp6600.shell.installation import LOADED, PAGE_MODULE, install, put
-from pp6600.shell.manifest import File, files_below
+from pp6600.shell.installation import LOADED, OWN, PAGE_MODULE, install, put
+from pp6600.shell.manifest import File, SymbolicLink, files_below
 
 REVISION = 1
 ARCHITECTURES = {"amd64": "x86_64", "arm64": "aarch64", "all": ""}  # and the machines of their programs
@@ -51,7 +52,8 @@ CHANGES = """pp6600 ({version}) unstable; urgency=medium
 """
 ALONE = "; this package has no other"  # the one for all architectures
 # What lintian would say, and why it is so.
-OVERRIDES = """# The programs are the files of which dist/sources has the checksums, byte for byte: stripped or linked anew they would be
+OVERRIDES = """\
+# The programs are the files of which dist/sources has the checksums, byte for byte: stripped or linked anew they would be
 # others. One needs no C library, so that it starts where the C library is older, or another one.
 {programs}# It was never uploaded to Debian, so no wish for a package is closed.
 pp6600: initial-upload-closes-no-bugs *
@@ -65,7 +67,8 @@ pp6600: statically-linked-binary [usr/libexec/pp6600/{name}]
 OF_LIBRARY = """pp6600: unstripped-binary-or-object [usr/libexec/pp6600/{name}]
 pp6600: shared-library-lacks-prerequisites [usr/libexec/pp6600/{name}]
 """
-OF_FIRST = "pp6600: missing-dependency-on-libc needed by usr/libexec/pp6600/pp6600\n"  # it is tried first; the other one needs no libc
+# it is tried first; the other one needs no libc
+OF_FIRST = "pp6600: missing-dependency-on-libc needed by usr/libexec/pp6600/pp6600\n"
 # What Python compiles is made and taken away as dh_python3 has it.
 SCRIPTS = {"postinst": """#!/bin/sh
 set -e
@@ -101,7 +104,8 @@ def control(architecture, files, proved):
     library = "libc6 (>= 2.34), " if "pp6600" in proved and "pp6600-static" not in proved else ""
     sums = "".join(f"{hashlib.md5(file.data).hexdigest()}  {path}\n" for path, file in sorted(files.items()))
     text = CONTROL.format(version=f"{version()}-{REVISION}", architecture=architecture, maintainer=MAINTAINER, licence=NO_LICENCE,
-                          library=library, provides=PROVIDES if PAGE_MODULE in proved else "", alone=ALONE if architecture == "all" else "",
+                          library=library, provides=PROVIDES if PAGE_MODULE in proved else "", alone=ALONE if architecture == "all"
+                          else "",
                           size=sum(-(-len(file.data) // 1024) for file in files.values()))
     return {"DEBIAN/md5sums": File(sums.encode()), "DEBIAN/control": File(text.encode()),
             **({"DEBIAN/triggers": File(b"activate-noawait ldconfig\n")} if any(name.endswith(".so") for name in proved) else {}),
@@ -112,13 +116,15 @@ def package(architecture, installed, proved):
     """Returns the bytes of a package."""
     made = moment()
     entries = {path: with_interpreter(entry) if isinstance(entry, File) else entry for path, entry in installed.items()}
+    entries["lib/python3/dist-packages/pp6600"] = SymbolicLink(f"../../../{OWN}/tools/pp6600")
     with tempfile.TemporaryDirectory() as room:
         root, path = os.path.join(room, "root"), os.path.join(room, "made.deb")
         install(entries, os.path.join(root, "usr"))
         put(about(made, proved), root)
         files = {path: entry for path, entry in files_below(root).items() if isinstance(entry, File)}
         put(control(architecture, files, proved), root)
-        output("dpkg-deb", "--root-owner-group", "-Zgzip", "--build", root, path, env={**os.environ, "SOURCE_DATE_EPOCH": str(made)})
+        output("dpkg-deb", "--root-owner-group", "-Zgzip", "--build", root, path,
+               env={**os.environ, "SOURCE_DATE_EPOCH": str(made)})
         with open(path, "rb") as file:
             return file.read()
 
@@ -127,9 +133,10 @@ def main():
     target = folder(__doc__)
     if not shutil.which("dpkg-deb"):
         fail("there is no dpkg-deb here")
-    check_committed()
+    pack_commit(target)
     os.umask(0o022)
     for architecture, machine in ARCHITECTURES.items():
         if not machine or has_programs(machine):
             proved = programs(machine)
-            save(target, f"pp6600_{version()}-{REVISION}_{architecture}.deb", package(architecture, of_commit(proved, separate=True), proved))
+            save(target, f"pp6600_{version()}-{REVISION}_{architecture}.deb",
+                 package(architecture, of_commit(proved, separate=True), proved))

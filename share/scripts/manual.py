@@ -3,8 +3,8 @@
     share/manual FOLDER     writes a page for each program into the folder
     share/manual --print    writes pp6600.1 to standard output, for man -l -
 
-The pages of the simulators are share/NAME.1, with the tables of docs/CONSOLE.md and docs/MACHINE.md in the place of the lines that name
-them. The page of a tool is made from what its --help prints. The version is that of VERSION, the date that of this version
+The pages of the simulators are share/NAME.1, with the tables of docs/CONSOLE.md and docs/MACHINE.md in the place of the lines that
+name them. The page of a tool is made from what its --help prints. The version is that of VERSION, the date that of this version
 in CHANGELOG.md.
 """
 
@@ -18,8 +18,9 @@ import sys
 from packaging import TOP
 
 from pp6600.__main__ import MODULES, main_of
+from pp6600.own import find_first
 
-sys.path.insert(sys.path.index(os.path.join(TOP, "share")), os.path.join(TOP, "docs"))
+find_first(tables=os.path.join(TOP, "docs"))
 from tables import block, rows, without_links
 
 TABLE = re.compile(r'^\.\\" (table|list|block) of (\S+): (.*)$')
@@ -93,7 +94,7 @@ KINDS = {"table": table_rows, "list": list_rows, "block": block_as_it_is}
 def heading(name):
     """Returns the first line of a page."""
     version = read("VERSION").strip()
-    date = re.search(rf"^## {re.escape(version)} - (.*)$", read("CHANGELOG.md"), flags=re.M)[1]
+    date = re.search(rf"^## {re.escape(version)}\b.* - (.*)$", read("CHANGELOG.md"), flags=re.M)[1]
     return f'.TH {name.upper()} 1 "{date}" "pp6600 {version}" "User Commands"'
 
 

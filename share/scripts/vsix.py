@@ -59,7 +59,8 @@ def manifest(package):
     texts = {name: escape(package[name]) for name in ("displayName", "description")}
     values = {name: quoteattr(package[name]) for name in ("name", "version", "publisher")}
     return MANIFEST.format(**texts, **values, categories=escape(",".join(package["categories"])),
-                           engine=quoteattr(package["engines"]["vscode"]), kind=quoteattr(",".join(package["extensionKind"]))).encode()
+                           engine=quoteattr(package["engines"]["vscode"]),
+                           kind=quoteattr(",".join(package["extensionKind"]))).encode()
 
 
 def main():

@@ -62,6 +62,14 @@ static void add_looks(pp6600 *session) {
     add(numbers, PLACES * turns * sizeof *numbers);
 }
 
+static void add_columns(pp6600 *session) {
+    static pp6600_row rows[TURNS];
+    size_t turns = 0;
+    uint32_t status = pp6600_columns(session, 3 * TURNS, rows, TURNS, &turns);
+    add(&status, sizeof status);
+    add(rows, turns * sizeof *rows);
+}
+
 /* Makes every other call of the library, and adds what it returns. */
 static void add_calls(pp6600 *session, uint32_t central) {
     add_machine(session, central);
@@ -74,6 +82,7 @@ static void add_calls(pp6600 *session, uint32_t central) {
     add_records(session, pp6600_again, 5);
     add_records(session, pp6600_again, 1);
     add_looks(session);
+    add_columns(session);
     add_counts(session);
     add_machine(session, central);
 }

@@ -37,7 +37,7 @@ function addRecords(sum, call) {
 // Makes turns. Returns the status, and the numbers at these places after each.
 function looks(session, most, places, room) {
   const into = session.room("looks", 8 * room), given = session.given("places", Uint32Array.from(places));
-  const status = session.call("looks", most, ...given, into, BigInt(room), ...session.outs(1));
+  const status = session.call("looks", [most, ...given, into, BigInt(room), ...session.outs(1)]);
   return { status, numbers: session.view(BigUint64Array, into, places.length * session.results(1)[0]).slice() };
 }
 
@@ -49,13 +49,16 @@ function addCalls(session, central, sum) {
   addMachine(session, central, sum);
   addCounts();
   addRecords(sum, () => session.turns(3 * TURNS, TURNS, OLDS));
-  sum.status(statusOf(() => session.back(7)));
-  sum.status(statusOf(() => session.forward(2)));
+  sum.status(session.back(7) ? STATUS.DONE : STATUS.REFUSED);
+  sum.status(session.forward(2) ? STATUS.DONE : STATUS.REFUSED);
   addRecords(sum, () => session.turns(5, TURNS, OLDS, "again"));
   addRecords(sum, () => session.turns(1, TURNS, OLDS, "again"));
   const seen = looks(session, TURNS, LOOKED_AT, LOOKED_AT.length * TURNS);
   sum.status(seen.status);
   sum.add(seen.numbers);
+  const { status, rows } = session.rows(3 * TURNS, TURNS);
+  sum.status(status);
+  sum.add(rows);
   addCounts();
   addMachine(session, central, sum);
 }

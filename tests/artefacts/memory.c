@@ -1,10 +1,10 @@
-/* Asks for memory and gives it back in several threads, and looks whether each block keeps its bytes: prints how many did not. */
+/* Asks for memory and gives all back, in THREADS threads, and looks whether each block keeps its bytes: prints how many did not. */
 #include <pthread.h>
 #include <stdio.h>
 #include <string.h>
 #include "block.h"
 
-enum { THREADS = 4, BLOCKS = 300, TURNS = 100000 };
+enum { BLOCKS = 300, TURNS = 100000 };
 
 struct block rattle_alloc(size_t size, size_t alignment);
 struct block rattle_realloc(void *block, size_t old_size, size_t size, size_t alignment);
@@ -37,6 +37,7 @@ static void *one_thread(void *seed) {
         sizes[at] = size;
         memset(blocks[at], byte, size);
     }
+    for (size_t at = 0; at < BLOCKS; at++) if (blocks[at]) rattle_dealloc(blocks[at]);
     return (void *)lost;
 }
 

@@ -75,6 +75,20 @@ function checkOthers(calls) {
   console.log(machineOf(sessions[0]) === before[0]);
 }
 
+// Memory that was given back when it had run out serves a larger request; every second block alone serves none.
+function checkGivenBack(calls) {
+  const rooms = [], size = BigInt(4 * PAGE);
+  for (let at; (at = calls.pp6600_room(size)); ) rooms.push(at);
+  const giveBack = (part) => rooms.forEach((at, index) => index % 2 === part && calls.pp6600_end_room(at));
+  giveBack(0);
+  const larger = calls.pp6600_room(2n * size);
+  giveBack(1);
+  const all = calls.pp6600_room(BigInt(rooms.length) * size);
+  console.log(rooms.length > 40, larger === 0n, all !== 0n);
+  calls.pp6600_end_room(all);
+  console.log(opened(calls).answer("STEP\n").text.trim());
+}
+
 // With each limit from none on, a session is opened or there is no memory for it.
 async function checkLimits() {
   for (let more = 0, failed = 0; ; more++) {
@@ -100,10 +114,30 @@ function checkLine(calls) {
   }
 }
 
+// With memory for a session and for little more, a line whose answer does not fit is not performed, and the answers before it are there.
+async function checkAnswer() {
+  for (let more = 0; ; more++) {
+    try {
+      opened(await openLibrary(withPages(more)));
+    } catch {
+      continue;
+    }
+    const session = opened(await openLibrary(withPages(more + 4)));
+    try {
+      session.answer("SET A 0 5\nSTEP\nDUMP C 0 77777\nSTEP\n");
+    } catch ({ message, done }) {
+      console.log(message, JSON.stringify(done), session.counts().kept, session.answer("STEP\n").text.trim());
+      return;
+    }
+  }
+}
+
 (async () => {
   ({ LibrarySession, STATUS, openLibrary } = await import(require("url").pathToFileURL(process.argv[2])));
   checkSizes(await openLibrary(module_));
   await checkLimits();
   checkOthers(await openLibrary(withPages(220)));
+  checkGivenBack(await openLibrary(withPages(220)));
   checkLine(await openLibrary(module_));
+  await checkAnswer();
 })();

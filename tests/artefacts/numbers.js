@@ -30,7 +30,7 @@ import(require("url").pathToFileURL(process.argv[2])).then(async ({ Assembler, L
           make(at, number);
           console.log(`${call} takes ${number}`);
         } catch (error) {
-          if (!(error instanceof RangeError)) throw error;
+          if (error.constructor !== (typeof number === "number" ? RangeError : TypeError)) throw error;
         }
         count++;
       }

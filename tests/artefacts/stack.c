@@ -34,6 +34,7 @@ static void others(void) {
     static pp6600_link links[1000];
     size_t linked;
     static uint64_t numbers[1000];
+    static pp6600_row rows[100];
     const uint32_t places[] = {PP6600_A, PP6600_P};
     pp6600_open(100, 32768, 10, 11, (const uint8_t *)"1 2 3\n", 6, (const uint8_t *)"8\n", 2, &session, text, ROOM, &count, &status);
     pp6600_open(100, 32768, 10, 11, (const uint8_t *)"1 2 3\n", 6, (const uint8_t *)"1405 3420 300 0 0 0 0 0 0 0 0 0\n", 32, &session, text, ROOM,
@@ -46,6 +47,7 @@ static void others(void) {
     pp6600_forward(&session, 2);
     pp6600_again(&session, 7, made, 100, olds, 1000, &count, &used);
     pp6600_looks(&session, 100, places, 2, numbers, 1000, &count);
+    pp6600_columns(&session, 100, rows, 100, &count);
     pp6600_origins(&session, 100, turns, 100, links, 1000, olds, 1000, &count, &linked, &used);
     pp6600_next_origins(&session, turns, links, 1000, &count, numbers, 1000, &used);
     pp6600_last_write(&session, PP6600_P, 1, &lines, turns, links, 1000);

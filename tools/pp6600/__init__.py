@@ -28,22 +28,30 @@ from .run.console import Console
 
 if TYPE_CHECKING:
     from .engine.library import LibrarySession as Session
+    from .engine.library import instruction, text_of_status, version
     from .run.attached import Attached
+    from .run.central_device import CentralDevice, store, wake
     from .run.device import EMPTY, INACTIVE, NOTHING, Device, full
+    from .run.library_terms import (CHANGES, INSIDE, OR, OUTSIDE, PERFORMS, WAITS, WRITES, Form, changes, inside, last_write,
+                                    outside, performs, place, until, waits, writes)
     __version__ = ""
 
-__all__ = ["EMPTY", "INACTIVE", "NOTHING", "Attached", "Console", "Device", "Failure", "Place", "Session", "full"]
+__all__ = ["CHANGES", "EMPTY", "INACTIVE", "INSIDE", "NOTHING", "OR", "OUTSIDE", "PERFORMS", "WAITS", "WRITES", "Attached",
+           "CentralDevice", "Console", "Device", "Failure", "Form", "Place", "Session", "changes", "full", "inside", "instruction",
+           "last_write", "outside", "performs", "place", "store", "text_of_status", "until", "version", "waits", "wake", "writes"]
 
 
 def __getattr__(name):  # type: (str) -> Any
-    """Returns what most tools do not need: the version, a session of the library, and what a session with devices needs."""
+    """Returns what most tools do not need: the version, the calls of the library, and what a session with devices needs."""
     if name == "__version__":
-        from .engine.choice import version
-        return version()
-    if name == "Session":
-        from .engine.library import LibrarySession
-        return LibrarySession
+        from .engine import choice
+        return choice.version()
     if name not in __all__:
         raise AttributeError("module {} has no attribute {}".format(__name__, name))
-    from .run import attached, device
-    return vars(attached)[name] if name == "Attached" else vars(device)[name]
+    import importlib
+    wanted = "LibrarySession" if name == "Session" else name
+    for module in (".run.device", ".run.central_device", ".run.attached", ".run.library_terms", ".engine.library"):
+        found = vars(importlib.import_module(module, __name__))
+        if wanted in found:
+            break
+    return found[wanted]

@@ -3,10 +3,16 @@
 import importlib
 import os
 import sys
-from typing import Any, Callable, NoReturn
+from typing import Any, Callable, List, NoReturn
 
+from .engine.choice import version
 from .failure import Failure
-from .shell.ending import run
+from .shell.ending import run, write
+
+USAGE = """usage: python3 -m pp6600 TOOL [WORD ..]
+
+The tools are {}.
+python3 -m pp6600 TOOL --help shows what one does; the program itself is pp6600."""
 
 # The modules of the tools.
 MODULES = {**{name: f"convert.{name}" for name in ("assemble", "deck", "disassemble", "load", "save", "show", "words")},
@@ -29,6 +35,24 @@ def launch() -> NoReturn:
     run(lambda: main_of(name.replace("pp6600-", "", 1))())
 
 
+def about(words: List[str]) -> bool:
+    """Writes what --help or --version asks for before the name of a tool. Returns whether one of them does."""
+    if words in (["--help"], ["-h"]):
+        write(USAGE.format(", ".join(sorted(MODULES))))
+    elif words == ["--version"]:
+        write(f"pp6600 {version()}")
+    else:
+        return False
+    return True
+
+
+def main() -> None:
+    """Runs the tool that the words of the command line name."""
+    words = sys.argv[1:]
+    if not about(words):
+        sys.argv = words or [__package__ or ""]
+        launch()
+
+
 if __name__ == "__main__":
-    sys.argv = sys.argv[1:] or [__package__]
-    launch()
+    run(main)

@@ -1,21 +1,18 @@
 -- The common decks that a source reads.
-use Rattle.std.specs.Prelude.{ℕ, ◌≡◌, ◌==◌, ◌<◌, ◌||◌, Bool, true, false, Any, List, [], Option}
-use Rattle.std.specs.Prelude.{Some, None, codes, length, drop, position, slice_get}
+use Rattle.std.specs.Prelude.{ℕ, ◌≡◌, ◌<◌, ◌||◌, Bool, true, false, Any, List, [], Option}
+use Rattle.std.specs.Prelude.{Some, None, codes, length, drop, slice_get}
 use Rattle.std.specs.List.{AllByRecursion}
 use Rattle.std.specs.Option.{is_some}
-use Rattle.std.specs.Cmp.Lexicographic.{pointwise}
 use Rattle.pp_notation.specs.Columns.{between}
 use Rattle.pp_decks.specs.Decks.{AreOf, first_named}
 use Rattle.pp_decks.specs.declared.decks.Deck.{Deck}
 use Rattle.pp_decks.specs.declared.decks.Text.{Text}
 use Rattle.pp_decks.specs.declared.lines.Line.{Line}
 use Rattle.pp_decks.specs.declared.lines.Lines.{Lines}
-use Rattle.pp_source.specs.declared.vocabulary.Macro.{Macro}
-use Rattle.pp_source.specs.declared.vocabulary.Meaning.{Meaning}
 use Rattle.pp_source.specs.declared.vocabulary.Vocabulary.{Vocabulary}
 use Rattle.pp_statements.specs.declared.scope.Row.{Row}
 use Rattle.pp_assembler.specs.Meaning.{read_at}
-use Rattle.pp_assembler.specs.Naming.{deck_name}
+use Rattle.pp_assembler.specs.Naming.{deck_name, is_macro, is_synonym}
 use Rattle.pp_assembler.specs.declared.program.Assembly.{Assembly}
 use Rattle.pp_expansion.specs.declared.reading.Reading.{Reading}
 
@@ -55,19 +52,9 @@ IsReading lines decks reading =
     HasOne (first_named (name_read lines reading) decks)
     (λ index. AreCopies (deck_lines lines decks index) (drop reading.first lines.all.items))
 
--- Whether a name that is kept is XTEXT.
-abbrev pub is_xtext : List ℕ → ℕ → ℕ → Bool
-is_xtext text first end = pointwise ◌==◌ (between text first end) (codes "XTEXT")
-
-abbrev pub has_macro : List ℕ → List Macro → Bool
-has_macro text macros = is_some (position (λ one. is_xtext text one.name.first one.name.end) macros)
-
-abbrev pub has_synonym : List ℕ → List Meaning → Bool
-has_synonym text synonyms = is_some (position (λ one. is_xtext text one.name.first one.name.end) synonyms)
-
 -- Whether a macro, or OPSYN, has given another meaning to XTEXT.
 abbrev pub is_taken : Vocabulary → Bool
-is_taken words = has_macro words.text.items words.macros.items || has_synonym words.text.items words.synonyms.items
+is_taken words = is_macro words (codes "XTEXT") || is_synonym words (codes "XTEXT")
 
 -- Whether there is a deck with a name. None is without a name.
 abbrev pub is_deck : List Deck → List ℕ → Bool

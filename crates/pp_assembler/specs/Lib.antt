@@ -1,3 +1,7 @@
+pub mod DeckLines
 pub mod Decks
 pub mod Meaning
 pub mod Naming
+pub mod Order
+pub mod RowStatements
+pub mod Sources

@@ -1,7 +1,9 @@
 -- The name of the deck that a line reads, as it stands in the line.
 use Rattle.std.specs.Prelude.{ℕ, ◌==◌, ◌||◌, Bool, not, if◌then◌else◌, List, [], Option, Some, None, codes, drop, take, position}
-use Rattle.std.specs.List.{starts_with}
+use Rattle.std.specs.List.{list_any, starts_with}
 use Rattle.std.specs.Cmp.Lexicographic.{pointwise}
+use Rattle.pp_notation.specs.Columns.{between}
+use Rattle.pp_source.specs.declared.vocabulary.Vocabulary.{Vocabulary}
 
 abbrev pub is_blank : ℕ → Bool
 is_blank sign = sign == 32 || sign == 9
@@ -51,3 +53,18 @@ name_called line = if starts_with ◌==◌ line (codes "*CALL ") then first_word
 abbrev pub deck_name : Bool → List ℕ → List ℕ
 deck_name taken line =
     if starts_with ◌==◌ line (codes "*") then name_called line else (if taken then [] else name_in (from_label line))
+
+-- The operation of a line.
+abbrev pub operation_in : List ℕ → List ℕ
+operation_in line = first_word (next_word (from_label line))
+
+-- Whether a word is one of some names.
+abbrev pub is_one_of : List (List ℕ) → List ℕ → Bool
+is_one_of names word = list_any (λ name. pointwise ◌==◌ name word) names
+
+-- The name of a macro, or one that OPSYN has given to an operation.
+abbrev pub is_macro : Vocabulary → List ℕ → Bool
+is_macro words word = list_any (λ one. pointwise ◌==◌ (between words.text.items one.name.first one.name.end) word) words.macros.items
+
+abbrev pub is_synonym : Vocabulary → List ℕ → Bool
+is_synonym words word = list_any (λ one. pointwise ◌==◌ (between words.text.items one.name.first one.name.end) word) words.synonyms.items

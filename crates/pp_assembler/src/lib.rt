@@ -1,12 +1,17 @@
 //! The language of PP programs, as docs/ASSEMBLER.md has it: a source to words.
 #![tactic(auto)]
 
+mod deck_lines;
 mod meaning;
 mod naming;
+mod order;
+mod parts;
 mod passes;
 mod program;
 mod readings;
+mod row_statements;
 mod rows;
+mod sources;
 mod statements;
 mod terms;
 mod units;

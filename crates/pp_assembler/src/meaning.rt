@@ -39,7 +39,7 @@ fn performed_of(alloc: Global, lines: &Lines, pass: &Pass) -> Result<Performed, 
     let mut names = Names::new(alloc);
     add_all_names(lines, pass, &mut names)?;
     names.end_systems();
-    add_names(lines, pass, &pass.scope.output.rows, &mut names)?;
+    add_names(lines, &pass.scope.output.rows, &mut names)?;
     let systems = system_texts(alloc, lines, pass, &mut names)?;
     names.begin_source()?;
     let Pass { scope, .. } = pass;

@@ -1,11 +1,18 @@
 //! The name of the deck that a line reads, as it stands in the line.
-ghost use Rattle.std.specs.Prelude.{◌≡◌, drop, position, take};
-ghost use Rattle.pp_assembler.specs.Naming.{after_blanks, deck_name, first_word, from_label, from_place, is_blank, is_sign};
-ghost use Rattle.pp_assembler.specs.Naming.{name_called, name_in, named_by, next_word, up_to_place};
+ghost use Rattle.std.specs.Prelude.{◌≡◌, ◌==◌, position};
+ghost use Rattle.std.specs.List.{list_any};
+ghost use Rattle.std.specs.Cmp.Lexicographic.{pointwise};
+ghost use Rattle.pp_assembler.specs.Naming.{after_blanks, deck_name, first_word, from_label, from_place, is_blank, is_macro, is_sign};
+ghost use Rattle.pp_assembler.specs.Naming.{is_synonym, name_called, name_in, named_by, next_word, operation_in, up_to_place};
 
-const XTEXT: &[u8; 5] = b"XTEXT";
+use crate::parts::{head, tail};
+use pp_source::Vocabulary;
 
-const CALL: &[u8; 6] = b"*CALL ";
+/// The operation that reads a deck.
+pub const XTEXT: &[u8; 5] = b"XTEXT";
+
+/// What a note begins with that reads a deck.
+pub const CALL: &[u8; 6] = b"*CALL ";
 
 fn is_blank(sign: u8) -> bool
     ensures { result ≡ is_blank sign }
@@ -27,14 +34,14 @@ fn first_blank(text: &[u8]) -> Option<usize>
 }
 
 /// Returns where the first sign of a text is that is no blank.
-fn first_sign(text: &[u8]) -> Option<usize>
+pub fn first_sign(text: &[u8]) -> Option<usize>
     ensures { result ≡ position is_sign text.now }
 {
     text.iter().position(|sign| is_sign(*sign))
 }
 
 /// Returns a text from a place on, or nothing.
-fn from_place(text: &[u8], place: Option<usize>) -> &[u8]
+pub fn from_place(text: &[u8], place: Option<usize>) -> &[u8]
     ensures { result.now ≡ from_place text.now place }
 {
     match place {
@@ -43,22 +50,8 @@ fn from_place(text: &[u8], place: Option<usize>) -> &[u8]
     }
 }
 
-/// Returns a text from an index on.
-fn tail(text: &[u8], at: usize) -> &[u8]
-    ensures { result.now ≡ drop at text.now }
-{
-    text.get(at..).unwrap_or(b"")
-}
-
-/// Returns a text up to an index.
-fn head(text: &[u8], at: usize) -> &[u8]
-    ensures { result.now ≡ take at text.now }
-{
-    text.get(..at).unwrap_or(text)
-}
-
 /// Returns a text up to a place, or all of it.
-fn up_to_place(text: &[u8], place: Option<usize>) -> &[u8]
+pub fn up_to_place(text: &[u8], place: Option<usize>) -> &[u8]
     ensures { result.now ≡ up_to_place text.now place }
 {
     match place {
@@ -68,7 +61,7 @@ fn up_to_place(text: &[u8], place: Option<usize>) -> &[u8]
 }
 
 /// Returns the first word of a text, which ends at a blank.
-fn first_word(text: &[u8]) -> &[u8]
+pub fn first_word(text: &[u8]) -> &[u8]
     ensures { result.now ≡ first_word text.now }
 {
     up_to_place(text, first_blank(text))
@@ -82,14 +75,14 @@ fn after_blanks(text: &[u8]) -> &[u8]
 }
 
 /// Returns a text from its second word on.
-fn next_word(text: &[u8]) -> &[u8]
+pub fn next_word(text: &[u8]) -> &[u8]
     ensures { result.now ≡ next_word text.now }
 {
     after_blanks(from_place(text, first_blank(text)))
 }
 
 /// Returns a line from its label on, which begins in column 1 or 2.
-fn from_label(line: &[u8]) -> &[u8]
+pub fn from_label(line: &[u8]) -> &[u8]
     ensures { result.now ≡ from_label line.now }
 {
     if line.starts_with(b" ".as_slice()) {
@@ -143,4 +136,38 @@ pub fn deck_name(is_taken: bool, line: &[u8]) -> &[u8]
     } else {
         name_in(from_label(line))
     }
+}
+
+/// Returns the operation of a line.
+pub fn operation_in(line: &[u8]) -> &[u8]
+    ensures { result.now ≡ operation_in line.now }
+{
+    first_word(next_word(from_label(line)))
+}
+
+/// Returns whether a word is one of some names.
+pub fn is_one_of(names: &[&[u8]], word: &[u8]) -> bool
+    ensures { result ≡ list_any (λ name. pointwise ◌==◌ name.now word.now) names.now }
+{
+    names.iter().any(|name| *name == word)
+}
+
+/// Returns whether a word is the name of a macro, or was.
+pub fn is_macro(words: &Vocabulary, word: &[u8]) -> bool
+    ensures { result ≡ is_macro words.now word.now }
+{
+    words
+        .macros
+        .iter()
+        .any(|one| one.name.of(&words.text) == word)
+}
+
+/// Returns whether OPSYN has given a word to an operation.
+pub fn is_synonym(words: &Vocabulary, word: &[u8]) -> bool
+    ensures { result ≡ is_synonym words.now word.now }
+{
+    words
+        .synonyms
+        .iter()
+        .any(|one| one.name.of(&words.text) == word)
 }

@@ -1,19 +1,21 @@
 //! A source in two passes: the first one finds what its names stand for, the second one makes its words and reports what is wrong.
-ghost use Rattle.std.specs.Prelude.{◌∷◌, [], All, IfOk, IfSome, List, None, map};
+ghost use Rattle.std.specs.Prelude.{ℕ, ◌∷◌, [], All, IfOk, IfSome, List, None, map};
 ghost use Rattle.std.specs.List.{AllByRecursion};
 ghost use Rattle.pp_notation.specs.Cells.{IsProgram, IsStart};
 ghost use Rattle.pp_assembler.specs.Decks.{AreRead, IsRead, IsReading};
-ghost use Rattle.pp_assembler.specs.Meaning.{AreMeant, AreMessages, IsFound, IsMeant, IsNothingWithout, IsSaid, programs_of};
+ghost use Rattle.pp_assembler.specs.Meaning.{AreMeant, AreMessages, IsFound, IsMeant, IsNothingWithout, IsSaid};
+ghost use Rattle.pp_assembler.specs.Sources.{IsOfLines, IsOfSource};
 ghost use Rattle.pp_decks.specs.Decks.{AreOf};
 ghost use Rattle.pp_decks.specs.declared.decks.Text.{Text as DeckText};
 ghost use Rattle.pp_decks.specs.declared.lines.Lines.{Lines as AllLines};
 ghost use Rattle.pp_statements.specs.declared.scope.Row.{Row};
 ghost use Rattle.pp_statements.specs.declared.scope.SystemRows.{SystemRows};
-ghost use Rattle.pp_decks.specs.Places.{IsOfLine, length_of, line_lengths};
+ghost use Rattle.pp_decks.specs.Places.{IsOfLine, length_of, line_lengths, text_in};
 
 use crate::meaning::{Found, encode_performed};
 use crate::program::{Assembly, Performed};
 use crate::readings::{are_read, are_readings};
+use crate::sources::is_of_lines;
 use pp_complaints::{Known, complaints};
 use pp_decks::{Complaint, Decks, Lines, Span, Text, cut_lines, placed, read_lines};
 use pp_expansion::{Ending, Pass, Reading};
@@ -38,6 +40,8 @@ pub fn assemble(alloc: Global, source: &[u8]) -> Result<Assembly, AllocError>
     // The words are what the statements mean, and without a meaning there is a message.
     ensures meaning { IfOk result IsMeant }
     ensures said { IfOk result (IsSaid (line_lengths source.now)) }
+    // What has a meaning is of the lines of the source.
+    ensures source { IfOk result (IsOfSource source.now []) }
     // No deck is read.
     ensures decks { IfOk result (AreRead []) }
 {
@@ -57,6 +61,8 @@ pub fn assemble_with(alloc: Global, source: &[u8], texts: &[Text]) -> Result<Ass
     // The words are what the statements mean, and without a meaning there is a message.
     ensures meaning { IfOk result IsMeant }
     ensures said { IfOk result (IsSaid (line_lengths source.now)) }
+    // What has a meaning is of the lines of the source, and decks have those of their texts.
+    ensures source { IfOk result (IsOfSource source.now texts.now) }
     // Each line that reads a deck has taken the lines of the first one with its name.
     ensures decks { IfOk result (AreRead texts.now) }
 {
@@ -79,7 +85,7 @@ pub fn assemble_with(alloc: Global, source: &[u8], texts: &[Text]) -> Result<Ass
         readings,
         vocabulary,
     };
-    assembly_of(alloc, read, scope, found, &spans)
+    assembly_of(alloc, source, texts, read, scope, found, &spans)
 }
 
 /// What is known of the lines of a source.
@@ -169,9 +175,11 @@ fn next_pass(alloc: Global, pass: Pass) -> Result<Pass, AllocError> {
     Pass::new(alloc, symbols, blocks.next(alloc), true)
 }
 
-/// Returns what a pass has made.
+/// Returns what a pass has made, if it is of the lines of the source.
 fn assembly_of(
     alloc: Global,
+    source: &[u8],
+    texts: &[Text],
     read: Read,
     scope: Scope,
     found: Found,
@@ -181,6 +189,7 @@ fn assembly_of(
     ensures warnings { IfOk result (λ made. All (IsOfLine (map length_of spans.now)) made.warnings.items) }
     ensures meaning { IsFound read.lines scope.output.rows.items scope.output.systems.items found → IfOk result IsMeant }
     ensures said { IfOk result (IsSaid (map length_of spans.now)) }
+    ensures source { IfOk result (IsOfLines (map (text_in source.now) spans.now) texts.now) }
     ensures decks { (texts : List DeckText) → AreOf texts read.decks.all.items →
         AllByRecursion (IsReading read.lines read.decks.all.items) read.readings.items →
         AllByRecursion (IsRead read.lines read.decks.all.items read.vocabulary read.readings.items) scope.output.rows.items →
@@ -189,8 +198,50 @@ fn assembly_of(
     let wrong = Vec::from_slice(alloc, &scope.output.messages)?;
     let noticed = Vec::from_slice(alloc, &scope.output.warnings)?;
     let made = without_messages(alloc, read, scope, found);
-    let messages = messages_of(alloc, &made, &wrong, spans)?;
-    let warnings = complaints_at(alloc, &made, &noticed, spans)?;
+    let right = checked(alloc, source, spans, texts, made)?;
+    with_messages(alloc, right, &wrong, &noticed, spans)
+}
+
+/// Returns what a source has made, if it is of its lines. If it is not, it is refused, and has no words.
+fn checked(
+    alloc: Global,
+    source: &[u8],
+    spans: &[Span],
+    texts: &[Text],
+    made: Assembly,
+) -> Result<Assembly, AllocError>
+    ensures source { IfOk result (IsOfLines (map (text_in source.now) spans.now) texts.now) }
+    ensures meaning { IsMeant made → IfOk result IsMeant }
+    ensures decks { (texts : List DeckText) → AreRead texts made → IfOk result (AreRead texts) }
+{
+    if is_of_lines(alloc, source, spans, texts, &made)? {
+        return Ok(made);
+    }
+    Ok(Assembly {
+        program: Program::new(Vec::new(alloc), None),
+        meaning: None,
+        others: Vec::new(alloc),
+        ..made
+    })
+}
+
+/// Returns what a source has made, with its messages.
+fn with_messages(
+    alloc: Global,
+    made: Assembly,
+    wrong: &[Message],
+    noticed: &[Message],
+    spans: &[Span],
+) -> Result<Assembly, AllocError>
+    ensures messages { IfOk result (λ made. All (IsOfLine (map length_of spans.now)) made.messages.items) }
+    ensures warnings { IfOk result (λ made. All (IsOfLine (map length_of spans.now)) made.warnings.items) }
+    ensures meaning { IsMeant made → IfOk result IsMeant }
+    ensures said { IfOk result (IsSaid (map length_of spans.now)) }
+    ensures source { (own : List (List ℕ)) (texts : List DeckText) → IsOfLines own texts made → IfOk result (IsOfLines own texts) }
+    ensures decks { (texts : List DeckText) → AreRead texts made → IfOk result (AreRead texts) }
+{
+    let messages = messages_of(alloc, &made, wrong, spans)?;
+    let warnings = complaints_at(alloc, &made, noticed, spans)?;
     Ok(Assembly {
         messages,
         warnings,
@@ -204,9 +255,7 @@ fn without_messages(alloc: Global, read: Read, scope: Scope, found: Found) -> As
         AllByRecursion (IsReading read.lines read.decks.all.items) read.readings.items →
         AllByRecursion (IsRead read.lines read.decks.all.items read.vocabulary read.readings.items) scope.output.rows.items →
         AreRead texts result }
-    ensures meaning { IsFound read.lines scope.output.rows.items scope.output.systems.items found →
-        IfSome result.meaning (AreMeant result.lines result.rows.items result.systems.items (programs_of result) result.words.items) }
-    ensures nothing { IsNothingWithout result.meaning result.program result.others.items }
+    ensures meaning { IsFound read.lines scope.output.rows.items scope.output.systems.items found → IsMeant result }
 {
     let Scope {
         symbols,

@@ -1,33 +1,15 @@
 //! The common decks that a source reads, and whether the lines that it took from them are theirs.
-ghost use Rattle.std.specs.Prelude.{◌≡◌, Any, IsTrue, drop, position};
+ghost use Rattle.std.specs.Prelude.{◌≡◌, Any, IsTrue};
 ghost use Rattle.std.specs.List.{AllByRecursion};
-ghost use Rattle.pp_notation.specs.Columns.{between};
-ghost use Rattle.pp_assembler.specs.Decks.{AreCopies, IsCopied, IsRead, IsReading, deck_lines, has_macro, has_synonym, is_deck};
-ghost use Rattle.pp_assembler.specs.Decks.{is_taken, is_xtext, name_read};
+ghost use Rattle.pp_assembler.specs.Decks.{AreCopies, IsCopied, IsRead, IsReading, deck_lines, is_deck, is_taken, name_read};
 ghost use Rattle.pp_assembler.specs.Meaning.{read_at};
 
-use crate::naming::deck_name;
+use crate::naming::{XTEXT, deck_name, is_macro, is_synonym};
+use crate::parts::{part, tail};
 use pp_decks::{Decks, Line, Lines, Span};
 use pp_expansion::Reading;
-use pp_source::{Macro, Meaning, Vocabulary};
+use pp_source::Vocabulary;
 use pp_statements::Row;
-
-/// The operation that reads a deck.
-const XTEXT: &[u8; 5] = b"XTEXT";
-
-/// Returns a part of lines, or none if there is no such part.
-fn part(all: &[Line], span: Span) -> &[Line]
-    ensures { result.now ≡ between all.now span.first span.end }
-{
-    all.get(span.first..span.end).unwrap_or(&[])
-}
-
-/// Returns lines from an index on.
-fn rest(all: &[Line], first: usize) -> &[Line]
-    ensures { result.now ≡ drop first all.now }
-{
-    all.get(first..).unwrap_or(&[])
-}
 
 /// Returns the lines of the deck with an index.
 fn deck_lines<'a>(lines: &'a Lines, decks: &Decks, index: usize) -> &'a [Line]
@@ -93,7 +75,7 @@ fn is_reading(lines: &Lines, decks: &Decks, reading: Reading) -> bool
     };
     are_copies(
         deck_lines(lines, decks, index),
-        rest(&lines.all, reading.first),
+        tail(&lines.all, reading.first),
     )
 }
 
@@ -109,46 +91,11 @@ pub fn are_readings(lines: &Lines, decks: &Decks, readings: &[Reading]) -> bool
     true
 }
 
-/// Returns the index of the first macro with the name XTEXT.
-fn place_of_macro(text: &[u8], macros: &[Macro]) -> Option<usize>
-    ensures { result ≡ position (λ one. is_xtext text.now one.name.first one.name.end) macros.now }
-{
-    macros.iter().position(|one| is_xtext(text, one.name))
-}
-
-/// Returns whether a macro has the name XTEXT, or had it.
-fn has_macro(text: &[u8], macros: &[Macro]) -> bool
-    ensures { result ≡ has_macro text.now macros.now }
-{
-    place_of_macro(text, macros).is_some()
-}
-
-/// Returns the index of the first synonym with the name XTEXT.
-fn place_of_synonym(text: &[u8], synonyms: &[Meaning]) -> Option<usize>
-    ensures { result ≡ position (λ one. is_xtext text.now one.name.first one.name.end) synonyms.now }
-{
-    synonyms.iter().position(|one| is_xtext(text, one.name))
-}
-
-/// Returns whether OPSYN has given another meaning to XTEXT.
-fn has_synonym(text: &[u8], synonyms: &[Meaning]) -> bool
-    ensures { result ≡ has_synonym text.now synonyms.now }
-{
-    place_of_synonym(text, synonyms).is_some()
-}
-
 /// Returns whether a macro, or OPSYN, has given another meaning to XTEXT.
 fn is_taken(words: &Vocabulary) -> bool
     ensures { result ≡ is_taken words.now }
 {
-    has_macro(&words.text, &words.macros) || has_synonym(&words.text, &words.synonyms)
-}
-
-/// Returns whether a kept name is XTEXT.
-fn is_xtext(text: &[u8], name: Span) -> bool
-    ensures { result ≡ is_xtext text.now name.first name.end }
-{
-    name.of(text) == XTEXT.as_slice()
+    is_macro(words, XTEXT) || is_synonym(words, XTEXT)
 }
 
 /// Returns whether there is a deck with a name.
@@ -167,21 +114,23 @@ fn has_reading(readings: &[Reading], statement: usize) -> bool
         .any(|reading| reading.statement == statement)
 }
 
-/// Returns whether the line of a row, if it is performed and reads a deck, has taken lines.
+/// Returns whether the line of a row, if it is performed and reads a deck, has taken lines. XTEXT may have another meaning.
 #[tactic(auto, unfolding(crate::specs::Decks::IsRead))]
 fn is_read(
     lines: &Lines,
     decks: &Decks,
     words: &Vocabulary,
+    is_renamed: bool,
     readings: &[Reading],
     row: &Row,
 ) -> bool
+    requires { is_renamed ≡ is_taken words.now }
     ensures { IsTrue result → IsRead lines.now decks.now.all.items words.now readings.now row.now }
 {
     if !row.is_performed {
         return true;
     }
-    let name = deck_name(is_taken(words), read_line(lines, row.statement));
+    let name = deck_name(is_renamed, read_line(lines, row.statement));
     !is_deck(decks, name) || has_reading(readings, row.statement)
 }
 
@@ -195,8 +144,9 @@ pub fn are_read(
 ) -> bool
     ensures { IsTrue result → AllByRecursion (IsRead lines.now decks.now.all.items words.now readings.now) rows.now }
 {
+    let is_renamed = is_taken(words);
     for row in rows {
-        if !is_read(lines, decks, words, readings, row) {
+        if !is_read(lines, decks, words, is_renamed, readings, row) {
             return false;
         }
     }

@@ -77,6 +77,7 @@ fn is_silent(operation: Operation) -> bool {
     matches!(
         operation,
         Operation::Ignored
+            | Operation::SystemText
             | Operation::Error(_)
             | Operation::Name
             | Operation::Micro
@@ -108,16 +109,16 @@ fn part_of_call(row: &Row, fields: Fields) -> Part {
 }
 
 /// Returns what OPSYN is. A macro with another name is no statement.
-fn part_of_synonym(pass: &Pass, here: &Here, cut: Cut) -> Part {
-    let Some(renamed) = cut.renamed else {
-        return Part::Silent;
-    };
-    let is_own = pass.vocabulary.text_of(renamed) == cut.fields.operand.of(here.text);
-    Part::Kept(cut.fields, Meant::Synonym(is_own))
+fn part_of_synonym(cut: Cut) -> Part {
+    if cut.has_renamed {
+        Part::Kept(cut.fields, Meant::Synonym)
+    } else {
+        Part::Silent
+    }
 }
 
 /// Returns what the statement of a row is.
-fn part_of_statement(pass: &Pass, here: &Here, row: &Row, cut: Cut) -> Part {
+fn part_of_statement(here: &Here, row: &Row, cut: Cut) -> Part {
     let fields = cut.fields;
     if cut.is_call {
         return part_of_call(row, fields);
@@ -125,7 +126,7 @@ fn part_of_statement(pass: &Pass, here: &Here, row: &Row, cut: Cut) -> Part {
     let name = cut.name.of(here.text);
     let operation = operation_of(name);
     if matches!(operation, Operation::Lines(Elsewhere::Synonym)) {
-        return part_of_synonym(pass, here, cut);
+        return part_of_synonym(cut);
     }
     if is_bare(row) && is_silent(operation) {
         return Part::Silent;
@@ -138,12 +139,12 @@ fn part_of_statement(pass: &Pass, here: &Here, row: &Row, cut: Cut) -> Part {
 }
 
 /// Returns what a row is.
-pub fn part_of(pass: &Pass, lines: &Lines, row: &Row) -> Part {
+pub fn part_of(lines: &Lines, row: &Row) -> Part {
     if !row.is_performed || row.statement == NO_STATEMENT {
         return Part::Silent;
     }
     match row.cut {
-        Some(cut) => part_of_statement(pass, &Here::new(lines, row.statement), row, cut),
+        Some(cut) => part_of_statement(&Here::new(lines, row.statement), row, cut),
         None if is_bare(row) => Part::Silent,
         None => Part::Other,
     }
@@ -154,29 +155,25 @@ pub fn is_name(label: &[u8]) -> bool {
     !matches!(label, b"" | b"+" | b"-")
 }
 
-/// Returns whether a row is IDENT.
-fn is_name_of_program(lines: &Lines, row: &Row) -> bool {
+/// Returns the operation of a row.
+fn operation_of_row(lines: &Lines, row: &Row) -> Operation {
     match row.cut {
         Some(cut) if row.is_performed && row.statement != NO_STATEMENT && !cut.is_call => {
-            let name = cut.name.of(Here::new(lines, row.statement).text);
-            matches!(operation_of(name), Operation::Name)
+            operation_of(cut.name.of(Here::new(lines, row.statement).text))
         }
-        _ => false,
+        _ => Operation::None,
     }
 }
 
-/// Returns the index of the row behind those of a program, which begin at an index: that of the second IDENT from there on.
+/// Returns the index of the row behind those of a program, which begin at an index: that of the next IDENT behind its own one, or
+/// behind its END.
 pub fn end_of_unit(lines: &Lines, rows: &[Row], first: usize) -> usize {
-    let mut has_name = false;
-    for at in first..rows.len() {
-        if rows
-            .get(at)
-            .is_some_and(|row| is_name_of_program(lines, row))
-        {
-            if has_name {
-                return at;
-            }
-            has_name = true;
+    let mut may_end = false;
+    for (at, row) in rows.iter().enumerate().skip(first) {
+        match operation_of_row(lines, row) {
+            Operation::Name if may_end => return at,
+            Operation::Name | Operation::End => may_end = true,
+            _ => {}
         }
     }
     rows.len()
@@ -192,7 +189,7 @@ pub fn index_of_statement(lines: &Lines, pass: &Pass, unit: usize, index: usize)
     let mut count: usize = 0;
     let mut line: usize = 0;
     for row in rows.iter().skip(first) {
-        if matches!(part_of(pass, lines, row), Part::Kept(..)) {
+        if matches!(part_of(lines, row), Part::Kept(..)) {
             line = row.statement;
             if count == index {
                 break;

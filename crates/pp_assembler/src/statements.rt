@@ -3,7 +3,7 @@ ghost use Rattle.std.specs.Prelude.{◌≡◌, IfOk, IfSome};
 
 use crate::rows::qualifier_in;
 use crate::terms::{Names, begins_with_blank, field_of, may_follow, operand_of, text_of_display};
-use pp_decks::{LAST_COLUMN, Span, tail};
+use pp_decks::{LAST_COLUMN, Span, in_columns, is_empty, tail};
 use pp_expansion::Pass;
 use pp_meaning::{Item, Operand, Operation as Meant, Statement};
 use pp_source::{Parts, Statement as Fields};
@@ -37,7 +37,19 @@ fn one_operand(
     }
 }
 
-/// Returns the terms of an operand that is a part of a line. At the end of the line a text may go on in blanks that are lost.
+/// Returns how many columns an operand may have with the blanks behind it, which are in the line up to its last column, or lost at its
+/// end.
+fn room_of(line: &[u8], part: Span) -> usize {
+    if part.end >= line.len() {
+        LAST_COLUMN
+    } else if is_empty(tail(in_columns(line), part.end)) {
+        LAST_COLUMN.saturating_sub(part.first)
+    } else {
+        0
+    }
+}
+
+/// Returns the terms of an operand that is a part of a line, and the column after it. A text may go on in the blanks behind it.
 fn operand_in(
     alloc: Global,
     names: &Names,
@@ -45,24 +57,20 @@ fn operand_in(
     operation: Meant,
     part: Span,
     named: &[Named],
-) -> Result<Option<Operand>, AllocError> {
+) -> Result<Option<(Operand, usize)>, AllocError> {
     let mut text = Vec::from_slice(alloc, part.of(line))?;
-    let longest = if part.end < line.len() {
-        text.len()
-    } else {
-        text.len().max(LAST_COLUMN)
-    };
-    for _ in text.len()..=longest {
-        let found = one_operand(alloc, names, operation, &text, named, part.first)?;
-        if found.is_some() {
-            return Ok(found);
+    let longest = text.len().max(room_of(line, part));
+    for size in text.len()..=longest {
+        if let Some(found) = one_operand(alloc, names, operation, &text, named, part.first)? {
+            let end = part.first.saturating_add(size);
+            return Ok(Some((found, end)));
         }
         text.push(b' ')?;
     }
     Ok(None)
 }
 
-/// Returns the terms of operands, between two of which is a comma.
+/// Returns the terms of operands, between two of which is a comma, and the columns that they have.
 fn operands_of(
     alloc: Global,
     names: &Names,
@@ -70,19 +78,23 @@ fn operands_of(
     operation: Meant,
     field: Span,
     named: &[Named],
-) -> Result<Option<Vec<Operand>>, AllocError> {
+) -> Result<Option<(Vec<Operand>, Span)>, AllocError> {
     let mut operands = Vec::new(alloc);
+    let mut end = field.end;
     let is_literal = field.of(line).first() == Some(&b'=');
     let is_single = matches!(operation, Meant::Instruction(_) | Meant::End);
     let mut parts = Parts::new(field, is_of_data(operation) || is_single && is_literal);
     for _ in 0..=line.len() {
         let part = match parts.next(line) {
             Ok(Some(part)) => part,
-            Ok(None) => return Ok(Some(operands)),
+            Ok(None) => return Ok(Some((operands, Span::new(field.first, end)))),
             Err(_) => return Ok(None),
         };
         match operand_in(alloc, names, line, operation, part, named)? {
-            Some(operand) => operands.push(operand)?,
+            Some((operand, after)) => {
+                operands.push(operand)?;
+                end = end.max(after);
+            }
             None => return Ok(None),
         }
     }
@@ -137,15 +149,12 @@ fn variable_of(
         Meant::SetBase(..) | Meant::BaseBefore => Ok(Some((Vec::new(alloc), field))),
         Meant::Deck => Ok(Some((Vec::new(alloc), Span::none()))),
         Meant::Display => display_of(alloc, line, field),
-        Meant::Use | Meant::Synonym(_) | Meant::Count(_) => Ok(Some((
+        Meant::Use | Meant::Synonym | Meant::Count(_) => Ok(Some((
             word_of(alloc, line, field)?,
             field,
         ))),
         Meant::Qualify(..) => Ok(Some((qualifier_of(alloc, line, field)?, field))),
-        _ => match operands_of(alloc, names, line, operation, field, named)? {
-            Some(operands) => Ok(Some((operands, field))),
-            None => Ok(None),
-        },
+        _ => operands_of(alloc, names, line, operation, field, named),
     }
 }
 
@@ -170,7 +179,7 @@ fn is_comment(
 pub fn has_word(operation: Meant) -> bool {
     matches!(
         operation,
-        Meant::Synonym(_)
+        Meant::Synonym
             | Meant::SetBase(..)
             | Meant::BaseBefore
             | Meant::Qualify(..)

@@ -71,9 +71,9 @@ fn add_name(
 }
 
 /// Adds what the names of rows stand for.
-pub fn add_names(lines: &Lines, pass: &Pass, rows: &[Row], names: &mut Names) -> Result<(), Lack> {
+pub fn add_names(lines: &Lines, rows: &[Row], names: &mut Names) -> Result<(), Lack> {
     for row in rows {
-        match part_of(pass, lines, row) {
+        match part_of(lines, row) {
             Part::Silent => {}
             Part::Other => return Err(Lack::At(row.statement)),
             Part::Kept(fields, operation) => add_name(lines, row, fields, operation, names)?,
@@ -86,7 +86,7 @@ pub fn add_names(lines: &Lines, pass: &Pass, rows: &[Row], names: &mut Names) ->
 /// Adds what the names of all system texts stand for.
 pub fn add_all_names(lines: &Lines, pass: &Pass, names: &mut Names) -> Result<(), Lack> {
     for text in &pass.scope.output.systems {
-        add_names(lines, pass, &text.rows, names)?;
+        add_names(lines, &text.rows, names)?;
     }
     Ok(())
 }
@@ -101,7 +101,7 @@ fn statement_of_row(
 ) -> Result<Option<Statement>, Lack>
     ensures { IfOk result (λ made. IfSome made (λ statement. statement.line.items ≡ read_at lines.now row.now.statement)) }
 {
-    let Part::Kept(fields, operation) = part_of(pass, lines, row) else {
+    let Part::Kept(fields, operation) = part_of(lines, row) else {
         return Ok(None);
     };
     let line = read_line(lines, row.statement);

@@ -259,7 +259,7 @@ fn see_operations(nearest: &mut Nearest) {
     for (names, operation) in &OPERATIONS {
         if !matches!(
             operation,
-            Operation::Lines(_) | Operation::Inside | Operation::Refused(_)
+            Operation::Lines(_) | Operation::Inside | Operation::SystemText | Operation::Refused(_)
         ) {
             for one in names.split_whitespace() {
                 nearest.see(one.as_bytes());

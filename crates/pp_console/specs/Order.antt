@@ -1,5 +1,5 @@
 -- The order of reading and writing.
-use Rattle.std.specs.Prelude.{◌≡◌, ◌≤◌, ℕ, List, ◌++◌, All, IfSome, length}
+use Rattle.std.specs.Prelude.{◌≡◌, ◌≤◌, ℕ, List, [], ◌++◌, All, IfSome, drop, length, unwrap_or}
 use Rattle.pp_lines.specs.{Calls.Call, Calls.bytes_moved, Dialogue.Dialogue, Lines.finished}
 use Rattle.pp_lines.specs.{Terminal.at_reads, Terminal.sink_of, Terminal.source_of, declared.terminal.Terminal.Terminal}
 use Rattle.pp_lines.specs.declared.device.Sink.{Ghosts as SinkGhosts}
@@ -22,8 +22,12 @@ pub record Reads : Type 0 where
 abbrev pub IsPiece : Call → Type 0
 IsPiece call = IfSome call (λ bytes. length bytes ≤ PIECE)
 
--- The reads since the first dialogue made one call of the source each. Together the calls returned these bytes. Before each
--- read, each line that had ended was answered, and nothing else was written.
+-- The call returned bytes: it did not fail, and was not at the end.
+abbrev pub HasBytes : Call → Type 0
+HasBytes call = 1 ≤ length (unwrap_or call [])
+
+-- The reads since the first dialogue made one call of the source each. Together the calls returned these bytes, and all but the
+-- latest returned some. Before each read, each line that had ended was answered, and nothing else was written.
 pub record ReadsOnTime (start : Value) (first : Dialogue) (bytes : List ℕ) (before after : Reads) : Type 0 where
   pub newer : List Dialogue
   pub calls : List Call
@@ -32,6 +36,7 @@ pub record ReadsOnTime (start : Value) (first : Dialogue) (bytes : List ℕ) (be
   pub one_each : length calls ≡ length newer
   pub moves : bytes_moved calls ≡ bytes
   pub pieces : All IsPiece calls
+  pub only_last_empty : All HasBytes (drop 1 calls)
   pub on_time : All (IsOnTime start first) newer
 
 -- ---- how a terminal shows it

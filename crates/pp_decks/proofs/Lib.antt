@@ -1,1 +1,3 @@
+pub mod CutTexts
 pub mod LineLengths
+pub mod LineTexts

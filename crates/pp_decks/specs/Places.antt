@@ -1,5 +1,6 @@
 -- The places of a source: its lines, each from 1, and their columns, each from 1.
 use Rattle.std.specs.Prelude.{ℕ, ◌+◌, ◌-◌, ◌<◌, ◌≤◌, List, length, map, slice_index}
+use Rattle.pp_notation.specs.Columns.{between}
 use Rattle.pp_lines.specs.Lines.{lines}
 use Rattle.pp_decks.specs.declared.spans.Span.{Span}
 use Rattle.pp_decks.specs.declared.places.Complaint.{Complaint}
@@ -7,6 +8,10 @@ use Rattle.pp_decks.specs.declared.places.Complaint.{Complaint}
 -- how many bytes a line has
 abbrev pub length_of : Span → ℕ
 length_of span = span.end - span.first
+
+-- the bytes of a source that a line has
+abbrev pub text_in : List ℕ → Span → List ℕ
+text_in source span = between source span.first span.end
 
 -- The lengths of the lines of a source, in bytes.
 abbrev pub line_lengths : List ℕ → List ℕ

@@ -4,7 +4,7 @@ ghost use Rattle.std.specs.Prelude.{◌≡◌, ◌++◌, ◌∷◌, [], IfOk, ma
 ghost use Rattle.std.specs.Char.{to_ascii_uppercase};
 ghost use Rattle.pp_decks.specs.Decks.{first_named, is_named, name_of};
 
-use crate::blanks::{is_empty, is_space, length_without_blanks, tail};
+use crate::blanks::{is_empty, is_space, tail, without_blanks};
 use crate::lines::without_returns;
 use crate::spans::Span;
 use std::alloc::{AllocError, Global};
@@ -135,7 +135,7 @@ pub fn lines_of_name(text: &[u8], spans: &[Span]) -> usize {
 
 /// Returns whether a line has one word alone, which begins with a letter.
 fn is_word(line: &[u8]) -> bool {
-    let word = Span::new(0, length_without_blanks(line)).of(line);
+    let word = without_blanks(line);
     match word {
         [letter, ..] => letter.is_ascii_alphabetic()
             && !word.iter().any(|symbol| is_space(*symbol)),

@@ -1,10 +1,15 @@
 //! The statements of a source and of the texts that it may read: their lines, each with those that continue it, and those that SUBR
 //! makes.
 ghost use Rattle.std.specs.Prelude.{◌≡◌, IfOk, map};
+ghost use Rattle.pp_notation.specs.Columns.{between};
+ghost use Rattle.pp_decks.specs.Cuts.{capitals_of, listed_text, without_mark, without_returns};
 ghost use Rattle.pp_decks.specs.Decks.{AreOf};
-ghost use Rattle.pp_decks.specs.Places.{length_of, line_lengths};
+ghost use Rattle.pp_lines.specs.Lines.{lines};
+ghost use Rattle.pp_decks.specs.Places.{length_of, line_lengths, text_in};
 
-use crate::blanks::{in_columns, is_empty, length_without_blanks, tail};
+use crate::blanks::{
+    in_columns, is_empty, length_without_blanks, tail, without_blanks, without_end,
+};
 use crate::decks::{Decks, Text, lines_of_name, up_to_endx};
 use crate::spans::Span;
 use std::alloc::{AllocError, Global};
@@ -81,12 +86,16 @@ impl Lines {
     }
 
     /// Returns the text of a line in capitals.
-    pub fn capitals_of(&self, line: Line) -> &[u8] {
+    pub fn capitals_of(&self, line: Line) -> &[u8]
+        ensures { result.now ≡ capitals_of self.now line }
+    {
         line.read.of(&self.capitals)
     }
 
     /// Returns the text of a line.
-    pub fn text_of(&self, line: Line) -> &[u8] {
+    pub fn text_of(&self, line: Line) -> &[u8]
+        ensures { result.now ≡ listed_text self.now line }
+    {
         line.text.of(&self.text)
     }
 
@@ -181,7 +190,7 @@ impl Lines {
         self.text.truncate(end);
         self.capitals.truncate(end);
         let more = tail(in_columns(bytes), 1);
-        self.add_text(Span::new(0, length_without_blanks(more)).of(more))?;
+        self.add_text(without_blanks(more))?;
         let first = 2; // its comma is in column 1
         self.joins.push(Join {
             column,
@@ -240,21 +249,27 @@ impl Lines {
 }
 
 /// Returns a text without what some editors put before it.
-fn without_mark(text: &[u8]) -> &[u8] {
-    text.strip_prefix(MARK.as_slice()).unwrap_or(text)
+pub fn without_mark(text: &[u8]) -> &[u8]
+    ensures { result.now ≡ without_mark text.now }
+{
+    if text.starts_with(MARK.as_slice()) {
+        tail(text, MARK.len())
+    } else {
+        text
+    }
 }
 
 /// Returns a line without the carriage returns at its end.
-pub fn without_returns(line: &[u8]) -> &[u8] {
-    match line.iter().rposition(|byte| *byte != b'\r') {
-        Some(last) => line.get(..=last).unwrap_or(line),
-        None => b"",
-    }
+pub fn without_returns(line: &[u8]) -> &[u8]
+    ensures { result.now ≡ without_returns line.now }
+{
+    without_end(b"\r", line)
 }
 
 /// Returns where the lines of a source are, each without its line feed.
 pub fn cut_lines(alloc: Global, source: &[u8]) -> Result<Vec<Span>, AllocError>
-    ensures { IfOk result (λ spans. map length_of spans.items ≡ line_lengths source.now) }
+    ensures lengths { IfOk result (λ spans. map length_of spans.items ≡ line_lengths source.now) }
+    ensures texts { IfOk result (λ spans. map (text_in source.now) spans.items ≡ lines source.now) }
 {
     let mut spans = Vec::new(alloc);
     let mut first: usize = 0;

@@ -5,8 +5,8 @@ use crate::pass::Pass;
 use crate::running::Job;
 use pp_decks::{Lines, Span};
 use pp_source::{
-    Argument, Fault, Field, Here, Opening, Operation, Outcome, Remote, Statement, Stop, Wording,
-    cut, operation_of,
+    Argument, Fault, Field, Here, Opening, Operation, Outcome, Statement, Stop, Wording, cut,
+    operation_of,
 };
 use pp_statements::Base;
 
@@ -359,7 +359,7 @@ impl Pass {
         let here = Here::new(lines, self.at);
         self.show(lines, body)?;
         let name = self.vocabulary.keep(statement.location.of(here.text))?;
-        Ok(self.vocabulary.remote.push(Remote { name, lines: body })?)
+        Ok(self.vocabulary.add_remote(name, body)?)
     }
 
     /// DUP performs lines so many times.

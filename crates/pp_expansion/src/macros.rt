@@ -9,8 +9,8 @@ use pp_source::{
 use pp_statements::too_many_statements;
 use std::alloc::{AllocError, Global};
 
-/// How many symbols a line has that a macro makes.
-const LONGEST: usize = 1000;
+/// How many symbols a line has that a macro or a micro makes.
+pub const LONGEST: usize = 1000;
 /// How many macros call one another.
 const MOST_CALLS: u32 = 20;
 /// How many times the lines of a call are gone over, as IRP repeats them.
@@ -101,7 +101,7 @@ impl Pass {
             from: self.scope.output.performed,
             until: u32::MAX,
         };
-        Ok(self.vocabulary.macros.push(kept)?)
+        Ok(self.vocabulary.add_macro(kept)?)
     }
 
     /// Keeps the names of a macro's operands, with what they are if a call says nothing else.
@@ -136,19 +136,14 @@ impl Pass {
         Ok(self.vocabulary.keep(text)?)
     }
 
-    /// Makes the lines of a macro's call, which are performed next. The column is that of its name in the source.
-    pub fn call(
-        &mut self,
-        lines: &mut Lines,
-        statement: Statement,
-        called: Macro,
-        column: usize,
-    ) -> Outcome {
+    /// Makes the lines of a macro's call, which are performed next.
+    pub fn call(&mut self, lines: &mut Lines, statement: Statement, called: Macro) -> Outcome {
         let kept = self.vocabulary.text.len();
         let here = Here::new(lines, self.at);
         let is_of_system = called.body.end <= lines.source.first;
         self.begin_call(&here, statement, called, is_of_system)?;
-        let column = here.line.call.map_or(column, |outer| outer.column);
+        let own = statement.operation.first;
+        let column = here.line.call.map_or(own, |outer| outer.column);
         let name = here.span_of(statement.operation);
         let line = Line {
             joins: Span::none(),

@@ -1,4 +1,5 @@
 //! Micros: names of texts, which stand between two marks in a line in place of these.
+use crate::macros::LONGEST;
 use crate::pass::Pass;
 use pp_decks::{Lines, Span};
 use pp_notation::put_digits;
@@ -7,6 +8,9 @@ use pp_source::{
     first_parts,
 };
 use pp_statements::{Base, the_only, wants_operand};
+
+/// How many references of micros a source has.
+const MOST_REFERENCES: u32 = 100_000;
 
 /// The text of the micros that COMPASS defines by the clock or its call.
 const BLANK: &[u8; 10] = b"          ";
@@ -43,13 +47,26 @@ impl Pass {
             (next, None)
         };
         match text {
-            Some(text) => self.vocabulary.add_kept(text)?,
+            Some(text) => self.add_micro_text(here, name, text)?,
             None => {
                 let same = Field::new(at, end).of(here.text);
                 self.vocabulary.made.extend_from_slice(same)?;
             }
         }
         Ok(end)
+    }
+
+    /// Adds what a micro stands for, which a source refers to so many times at most, and which makes no line that is too long.
+    fn add_micro_text(&mut self, here: &Here, name: Field, text: Span) -> Outcome {
+        self.references = self.references.saturating_add(1);
+        if self.references > MOST_REFERENCES {
+            return Err(Stop::too_much(Wording::ManyReferences));
+        }
+        self.vocabulary.add_kept(text)?;
+        if self.vocabulary.made.len() > LONGEST.max(here.text.len()) {
+            return Err(Stop::of(Wording::LongMadeLine, name));
+        }
+        Ok(())
     }
 
     /// Returns what a micro stands for. Those that COMPASS defines by the clock are blank.
@@ -134,7 +151,7 @@ impl Pass {
             return Err(Stop::of(Wording::NameBeforeWanted, statement.operation));
         }
         let name = self.vocabulary.keep(name)?;
-        self.vocabulary.micros.push(Meaning { name, text })?;
+        self.vocabulary.add_micro(Meaning { name, text })?;
         self.scope.plain_row(here, false)
     }
 

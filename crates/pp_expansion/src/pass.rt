@@ -15,6 +15,8 @@ pub struct Pass {
     pub vocabulary: Vocabulary,
     /// How many lines macros have made, or HERE has performed.
     pub made_lines: u32,
+    /// How many references of micros there are.
+    pub references: u32,
     /// The index of the present line, and the run that it is of.
     pub at: usize,
     pub present: Run,
@@ -40,6 +42,7 @@ impl Pass {
             scope: Scope::new(alloc, symbols, blocks, is_last)?,
             vocabulary: Vocabulary::new(alloc),
             made_lines: 0,
+            references: 0,
             at: 0,
             present: Run::new(),
             jobs: Vec::new(alloc),

@@ -132,13 +132,18 @@ impl Pass {
 
     /// Copies the lines of RMT with a name, which are then no longer kept.
     fn copy_remote(&mut self, lines: &mut Lines, name: Span) -> Outcome {
-        for index in 0..self.vocabulary.remote.len() {
-            let taken = self.vocabulary.take_remote(index, name);
-            for line in taken.first..taken.end {
-                self.count_made()?;
-                let line = Here::new(lines, line).line;
-                lines.all.push(line)?;
-            }
+        for taken in &self.vocabulary.take_remote(self.scope.alloc, name)? {
+            self.copy_lines(lines, *taken)?;
+        }
+        Ok(())
+    }
+
+    /// Copies lines that are performed next.
+    fn copy_lines(&mut self, lines: &mut Lines, taken: Span) -> Outcome {
+        for line in taken.first..taken.end {
+            self.count_made()?;
+            let line = Here::new(lines, line).line;
+            lines.all.push(line)?;
         }
         Ok(())
     }
@@ -151,43 +156,44 @@ impl Pass {
                 self.copy_remote(lines, remote.name)?;
             }
         }
+        self.vocabulary.forget_remote();
         Ok(Span::new(first, lines.all.len()))
     }
 
-    /// OPSYN gives an operation another name; a macro with it is the same macro.
+    /// OPSYN gives another name to an operation, or to a macro: to what its name means here.
     fn name_operation(&mut self, here: &Here, statement: Statement) -> Outcome {
         let operand = the_only(here, statement)?;
         let old = operand.of(here.text);
         if statement.location.is_empty() {
             return Err(Stop::of(Wording::NameBeforeWanted, statement.operation));
         }
+        let from = self.scope.output.performed;
         let words = &mut self.vocabulary;
         let name = words.keep(statement.location.of(here.text))?;
         if let Some(one) = words.macro_of(old) {
-            let from = self.scope.output.performed;
-            words.macros.push(Macro { name, from, ..one })?;
+            words.add_macro(Macro { name, from, ..one })?;
         } else {
-            let text = match operation_of(old) {
-                Operation::Unknown => self.synonym_of(here, operand)?,
-                _ => words.keep(old)?,
-            };
-            self.vocabulary.synonyms.push(Meaning { name, text })?;
+            let text = self.operation_meant(here, operand)?;
+            self.vocabulary.add_synonym(Meaning { name, text }, from)?;
             if let Some(cut) = &mut self.scope.output.cut {
-                cut.renamed = Some(text);
+                cut.has_renamed = true;
             }
         }
         self.scope.plain_row(here, false)
     }
 
-    /// Returns the operation that another OPSYN gives a name to.
-    fn synonym_of(&self, here: &Here, operand: Field) -> Outcome<Span> {
-        let words = &self.vocabulary;
-        words.meaning(&words.synonyms, operand.of(here.text)).ok_or(
-            Fault::new(Wording::NoOperation)
-                .part(operand)
-                .with(Argument::NearestOperation(operand, self.scope.output.performed))
-                .at(operand.first),
-        )
+    /// Returns the name of the operation that a name means here.
+    fn operation_meant(&mut self, here: &Here, operand: Field) -> Outcome<Span> {
+        let name = operand.of(here.text);
+        if let Some(text) = self.vocabulary.synonym_of(name) {
+            return Ok(text);
+        }
+        if matches!(operation_of(name), Operation::Unknown) {
+            let nearest = Argument::NearestOperation(operand, self.scope.output.performed);
+            let fault = Fault::new(Wording::NoOperation).part(operand);
+            return Err(fault.with(nearest).at(operand.first));
+        }
+        Ok(self.vocabulary.keep(name)?)
     }
 
     /// COL says from which column on no operand begins; without a number it is column 30.

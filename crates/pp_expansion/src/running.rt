@@ -1,7 +1,7 @@
 //! The order in which lines are performed: those of a source, and those that other lines repeat, choose or make.
 use crate::pass::Pass;
 use crate::remote::name_after_call;
-use pp_decks::{Decks, Join, Line, Lines, Span};
+use pp_decks::{Decks, Join, LAST_COLUMN, Line, Lines, Span};
 use pp_source::{
     FIRST_OF_COMMENTS, Field, Here, Message, Operation, Origin, Outcome, Statement, Stop, Wording,
     operation_of, statement_of,
@@ -85,7 +85,7 @@ impl Pass {
 
     /// Ends a system text, of which the names, macros and micros stay.
     fn end_system(&mut self) -> Result<(), Ending> {
-        self.vocabulary.remote.clear();
+        self.vocabulary.forget_remote();
         self.vocabulary.comments = FIRST_OF_COMMENTS;
         match self.scope.end_system() {
             Ok(()) => Ok(()),
@@ -241,17 +241,21 @@ impl Pass {
         let Some(fields) = self.present_statement(lines)? else {
             return Ok(());
         };
-        let statement = self.renamed(lines, fields)?;
-        let name = lines.part_of(self.at, statement.operation);
-        let called = self.vocabulary.macro_of(name);
+        let called = self
+            .vocabulary
+            .macro_of(lines.part_of(self.at, fields.operation));
+        let statement = match called {
+            Some(_) => fields,
+            None => self.renamed(lines, fields)?,
+        };
         self.scope.output.cut = Some(Cut {
             fields,
             name: statement.operation,
             is_call: called.is_some(),
-            renamed: None,
+            has_renamed: false,
         });
         match called {
-            Some(called) => self.call(lines, statement, called, fields.operation.first),
+            Some(called) => self.call(lines, statement, called),
             None => self.perform_operation(lines, decks, statement),
         }
     }
@@ -291,9 +295,10 @@ impl Pass {
     fn present_statement(&mut self, lines: &Lines) -> Outcome<Option<Statement>> {
         let here = Here::new(lines, self.at);
         match self.statement(&here)? {
-            Some(statement) if self.scope.programs.has_ended => self
-                .scope
-                .after_end(&here, statement)?,
+            Some(statement)
+                if self.scope.programs.has_ended && !self.begins_program(&here, statement) => {
+                self.scope.after_end(&here, statement)?
+            }
             Some(statement) => {
                 is_known(&here, statement)?;
                 return Ok(Some(statement));
@@ -301,6 +306,16 @@ impl Pass {
             None => self.scope.plain_row(&here, false)?,
         }
         Ok(None)
+    }
+
+    /// Returns whether a statement is IDENT.
+    fn begins_program(&self, here: &Here, statement: Statement) -> bool {
+        let words = &self.vocabulary;
+        let name = statement.operation.of(here.text);
+        let meant = words
+            .synonym_of(name)
+            .map_or(name, |kept| words.text_of(kept));
+        words.macro_of(name).is_none() && matches!(operation_of(meant), Operation::Name)
     }
 
     /// Returns the statement of a line, as it stands there.
@@ -313,16 +328,18 @@ impl Pass {
         statement_of(here.text, origin, &self.vocabulary)
     }
 
-    /// Returns a statement with the operation that OPSYN names. The line is then read with that name behind it.
+    /// Returns a statement with the operation that OPSYN names. The line is then read with that name behind its last column.
     fn renamed(&mut self, lines: &mut Lines, statement: Statement) -> Outcome<Statement> {
         let here = Here::new(lines, self.at);
         let words = &mut self.vocabulary;
-        let name = statement.operation.of(here.text);
-        let Some(name) = words.meaning(&words.synonyms, name) else {
+        let Some(name) = words.synonym_of(statement.operation.of(here.text)) else {
             return Ok(statement);
         };
         words.made.clear();
         words.made.extend_from_slice(here.text)?;
+        for _ in here.text.len()..LAST_COLUMN {
+            words.made.push(b' ')?;
+        }
         words.made.push(b' ')?;
         let column = words.made.len();
         words.add_kept(name)?;

@@ -28,5 +28,6 @@ unfoldable pub use Rattle.pp_history.specs.Repeating.{after_acts}
 pub use Rattle.pp_history.specs.{declared.marks.Marks.Marks, Change.differ, Change.change_in, Change.IsLeastChange, Change.change}
 pub use Rattle.pp_history.specs.{UndoRecord.whole_action, UndoRecord.whole_record}
 pub use Rattle.pp_history.specs.Redoing.{AreReady, AreRedone}
+pub use Rattle.pp_history.specs.Undoing.{AreFitting, AreUndone, IsUndone}
 pub use Rattle.std.specs.Vec.{with_item, with_items}
 pub use Rattle.std.proofs.lemmas.List.{with_items_is}

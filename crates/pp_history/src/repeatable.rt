@@ -86,15 +86,19 @@ fn repeat_to_mark<T: Repeatable>(
     ensures { IsStretch T.Reversible T.marks_of marks.now T.repeated machine.old machine.new heads.old heads.new tails.old tails.new result }
 {
     let mut left = heads.len();
-    let mut may_stop = false;
-    while left > 0 && !may_stop {
+    while left > 0 {
         left -= 1;
         let head = &mut heads[left];
         machine.perform(T::repeated(), head, tails);
-        may_stop = may_be_marked::<T>(head, tails, marks);
+        if may_be_marked::<T>(head, tails, marks) {
+            return Stretch {
+                left,
+                may_be_marked: true,
+            };
+        }
     }
     Stretch {
-        left,
-        may_be_marked: may_stop,
+        left: 0,
+        may_be_marked: false,
     }
 }

@@ -5,6 +5,7 @@ ghost use Rattle.std.specs.Option.{option_map};
 ghost use Rattle.circular_buffer.specs.Buffer.{buffer};
 ghost use Rattle.pp_history.specs.Joining.{IsActed, IsNext, first_of, left_by};
 ghost use Rattle.pp_history.specs.Redoing.{AreReady, AreRedone};
+ghost use Rattle.pp_history.specs.Undoing.{AreFitting, AreUndone};
 ghost use Rattle.pp_history.specs.{Marks.IsUnmarked, Tails.in_tail, Tails.pushed, UndoRecord.whole_action, UndoRecord.whole_record};
 
 use crate::marks::{Marked, Marks};
@@ -128,10 +129,27 @@ pub(crate) fn perform_all<T: Reversible>(
     }
 }
 
+/// Undoes the actions of the heads, the first head first. As a function of its own it has registers for what its loop needs.
+#[inline(never)]
+pub(crate) fn undo_all<T: Reversible>(
+    machine: &mut T,
+    heads: &[Option<T::Head>],
+    tails: &mut Tails<T::Action, T::Record>,
+    undone: &mut HeapCircularBuffer<T::Action>,
+)
+    requires fit { AreFitting T.Reversible heads.now machine.old tails.old }
+    requires room { 1 ≤ undone.old.capacity }
+    ensures { AreUndone T.Reversible heads.now machine.old machine.new tails.old tails.new undone.old undone.new }
+{
+    for head in heads {
+        undo(machine, head, tails, undone);
+    }
+}
+
 /// Undoes the newest action, by its head or else by the newest tail, which is discarded. The action is then the next to
 /// perform again.
 #[inline(always)]
-pub(crate) fn undo<T: Reversible>(
+fn undo<T: Reversible>(
     machine: &mut T,
     head: &Option<T::Head>,
     tails: &mut Tails<T::Action, T::Record>,
@@ -162,7 +180,13 @@ fn undo_tail<T: Reversible>(
         (machine.new ≡ T.after_undo newest.1 machine.old) × (undone.new ≡ pushed newest.0 undone.old)) }
     ensures tails { tails.new.ring ≡ buffer (drop 1 tails.old.ring.items) tails.old.ring.capacity }
 {
-    let tail = tails.ring.pop_front().unwrap();
-    machine.undo(tail.back.unwrap());
-    push(undone, tail.action.unwrap());
+    let count = tails.ring.len();
+    let tail = tails.ring.get_mut(0).unwrap();
+    match &tail.back {
+        Some(back) => machine.undo(back),
+        None => unreachable!(),
+    }
+    let action = tail.action.take().unwrap();
+    tails.ring.truncate_front(count - 1);
+    push(undone, action);
 }

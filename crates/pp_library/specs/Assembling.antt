@@ -7,6 +7,7 @@ use Rattle.pp_decks.specs.Places.{IsOfLine, line_lengths}
 use Rattle.pp_decks.specs.declared.decks.Text.{Text}
 use Rattle.pp_assembler.specs.Decks.{AreRead}
 use Rattle.pp_assembler.specs.Meaning.{IsMeant, IsSaid}
+use Rattle.pp_assembler.specs.Sources.{IsOfSource}
 use Rattle.pp_library.specs.declared.assembling.CommonDeck.{CommonDeck}
 use Rattle.pp_disassembly.specs.SourceText.{source_text}
 use Rattle.pp_disassembly.specs.Statements.{addressed, assembled, cells_of}
@@ -32,13 +33,15 @@ abbrev pub text_of : CommonDeck → Text
 text_of deck = record { name = deck.name; lines = deck.lines }
 
 -- What the assembler promises of a source: the program's cells and its start are those of a memory, the programs have the words that
--- the statements mean and no others, there is a message if the statements have no meaning, each message and warning is about a place
--- of the source, and each line that reads a common deck has taken the lines of the first one with its name.
+-- the statements mean and no others, there is a message if the statements have no meaning, what has a meaning is of the lines of the
+-- source, each message and warning is about a place of it, and each line that reads a common deck has taken the lines of the first one
+-- with its name.
 pub record IsAssembly (source : List ℕ) (given : List CommonDeck) (made : Assembly) : Type 0 where
   pub program : IsProgram made.program.cells.items
   pub start : IsStart made.program.start
   pub meaning : IsMeant made
   pub said : IsSaid (line_lengths source) made
+  pub source_lines : IsOfSource source (map text_of given) made
   pub messages : All (IsOfLine (line_lengths source)) made.messages.items
   pub warnings : All (IsOfLine (line_lengths source)) made.warnings.items
   pub decks : AreRead (map text_of given) made

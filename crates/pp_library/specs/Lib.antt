@@ -1,6 +1,7 @@
 pub mod About
 pub mod Assembling
 pub mod Calls
+pub mod Columns
 pub mod Moving
 pub mod Origins
 pub mod Outcomes

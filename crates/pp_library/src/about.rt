@@ -7,7 +7,7 @@ use crate::texts::put_text;
 use pp_notation::{INSTRUCTIONS, form_of, name_of, size_of};
 
 /// The version of the library: 1,000,000 times its major number, 1,000 times its minor number, and its patch number (decimal).
-pub const VERSION: u32 = 5_008_000;
+pub const VERSION: u32 = 6_000_000;
 
 /// Returns the version of the library.
 #[unsafe(no_mangle)]

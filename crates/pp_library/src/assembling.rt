@@ -1,6 +1,7 @@
 //! The assembler and the disassembler for C.
 ghost use Rattle.pp_assembler.specs.Decks.{AreRead};
 ghost use Rattle.pp_assembler.specs.Meaning.{IsMeant, IsSaid};
+ghost use Rattle.pp_assembler.specs.Sources.{IsOfSource};
 ghost use Rattle.pp_library.specs.Assembling.{Assembles, Disassembles, LoadsLines, form_text, text_of};
 ghost use Rattle.pp_notation.specs.Cells.{IsProgram, IsStart};
 ghost use Rattle.pp_decks.specs.Places.{IsOfLine, line_lengths};
@@ -83,6 +84,7 @@ fn assembled_with(
     ensures start { IfOk result (λ made. IsStart made.program.start) }
     ensures meaning { IfOk result IsMeant }
     ensures said { IfOk result (IsSaid (line_lengths source.now)) }
+    ensures source_lines { IfOk result (IsOfSource source.now (map text_of decks.now)) }
     ensures messages { IfOk result (λ made. All (IsOfLine (line_lengths source.now)) made.messages.items) }
     ensures warnings { IfOk result (λ made. All (IsOfLine (line_lengths source.now)) made.warnings.items) }
     ensures decks { IfOk result (AreRead (map text_of decks.now)) }

@@ -3,6 +3,7 @@
 
 mod about;
 mod assembling;
+mod columns;
 mod console;
 mod exports;
 mod handle;

@@ -77,12 +77,13 @@ with_factor symbols place product factor = times factor.is_quotient product (ato
 abbrev pub product : List Symbol → Place → Term → Option ℤ
 product symbols place term = fold (with_factor symbols place) (atom_value symbols place term.atom) term.factors.items
 
--- The bits in which two numbers differ. A number with a minus has all bits but those of the number below its size.
+-- The bits in which two numbers differ, in ones complement: a number with a minus is the complement of its size, and so is the
+-- difference of such a number and one without.
 abbrev pub difference : ℤ → ℤ → ℤ
 difference (pos a) (pos b) = pos (bit_xor a b)
-difference (negsuc a) (negsuc b) = pos (bit_xor a b)
-difference (pos a) (negsuc b) = negsuc (bit_xor a b)
-difference (negsuc a) (pos b) = negsuc (bit_xor a b)
+difference (negsuc a) (negsuc b) = pos (bit_xor (a + 1) (b + 1))
+difference (pos a) (negsuc b) = pos 0 -ℤ pos (bit_xor a (b + 1))
+difference (negsuc a) (pos b) = pos 0 -ℤ pos (bit_xor (a + 1) b)
 
 abbrev pub plus : Sign → Option ℤ → Option ℤ → Option ℤ
 plus Plus (Some a) (Some b) = Some (a +ℤ b)

@@ -49,6 +49,10 @@ abbrev pub are_ones : List Term → Bool
 are_ones (term ∷ []) = is_minus term.sign && is_zero term.atom && length term.factors.items == 0
 are_ones _ = false
 
+abbrev pub is_minus_zero : Operand → Bool
+is_minus_zero (Single (Sum x)) = are_ones x.terms.items
+is_minus_zero _ = false
+
 -- A text in a field has a count, and is filled up: H, A or L.
 abbrev pub fills_up : Kind → Bool
 fills_up H = true

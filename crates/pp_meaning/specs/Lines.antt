@@ -170,7 +170,7 @@ operation_name Position = codes "POS"
 operation_name (Shortest is_sum) = if is_sum then codes "ADK" else codes "LDK"
 operation_name (Pool address) = codes "LIT"
 operation_name Use = codes "USE"
-operation_name (Synonym is_own) = codes "OPSYN"
+operation_name Synonym = codes "OPSYN"
 operation_name (Qualify left right) = codes "QUAL"
 operation_name End = codes "END"
 
@@ -223,7 +223,7 @@ has_no_blank word = list_all (λ byte. not (is_blank byte)) word
 
 -- A name of OPSYN is in place of a label. What BASE, QUAL, PERIPH and END have there says nothing.
 abbrev pub is_in_place : Operation → List ℕ → Bool
-is_in_place (Synonym is_own) word = not (length word == 0) && has_no_blank word
+is_in_place Synonym word = not (length word == 0) && has_no_blank word
 is_in_place (SetBase base more) word = has_no_blank word
 is_in_place BaseBefore word = has_no_blank word
 is_in_place (Qualify left right) word = has_no_blank word

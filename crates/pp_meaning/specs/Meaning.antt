@@ -10,7 +10,7 @@ use Rattle.pp_notation.specs.declared.instructions.Form.TheVariants.{Alone, D as
 use Rattle.pp_meaning.specs.Blocks.{block_used, lie_behind, nominal}
 use Rattle.pp_meaning.specs.Bits.{bits_left, bits_of, with_bits, words_of_bits, zeros_before}
 use Rattle.pp_meaning.specs.Expressions.{address, address_around, chosen, decimal_above, is_above, value, value_above}
-use Rattle.pp_meaning.specs.Fields.{item_field, operand_field}
+use Rattle.pp_meaning.specs.Fields.{is_minus_zero, item_field, operand_field}
 use Rattle.pp_meaning.specs.Literals.{are_placed, index_of, is_at, words_of_literals}
 use Rattle.pp_meaning.specs.Qualifiers.{in_qualifier, qualified}
 use Rattle.pp_meaning.specs.Standing.{Standing, place_of}
@@ -129,7 +129,7 @@ abbrev pub zeros : Option ℕ → Option (List ℕ)
 zeros None = None
 zeros (Some count) = Some (replicate count 0)
 
--- The instructions of LDK and ADK: for a small number, for one with a minus, and for others.
+-- The instructions of LDK and ADK: for a small number, for one with a minus, also minus zero, and for others.
 abbrev pub small_code : Bool → ℕ
 small_code is_sum = if is_sum then 0o16 else 0o14
 
@@ -145,7 +145,9 @@ wide_words symbols place is_sum x = constant_words (wide_code is_sum) (operand_f
 abbrev pub sized_words : List Symbol → Place → Bool → Operand → Option ℤ → Option (List ℕ)
 sized_words symbols place is_sum x None = None
 sized_words symbols place is_sum x (Some (pos n)) =
-    if nat_le n 0o77 then one_word (small_code is_sum) (operand_field 6 symbols place x) else wide_words symbols place is_sum x
+    if is_minus_zero x then one_word (minus_code is_sum) (Some 0)
+    else (if nat_le n 0o77 then one_word (small_code is_sum) (operand_field 6 symbols place x)
+    else wide_words symbols place is_sum x)
 sized_words symbols place is_sum x (Some (negsuc n)) =
     if nat_lt n 0o77 then one_word (minus_code is_sum) (Some (n + 1)) else wide_words symbols place is_sum x
 
@@ -312,7 +314,7 @@ after symbols s Minus (Pool address) operands = Some s
 after symbols s Empty (SetBase base more) [] = Some (record s { base = Some base; bases = s.bases ++ s.base ∷ [] })
 after symbols s Empty BaseBefore [] = base_before s (slice_get s.bases (length s.bases - 1))
 after symbols s Empty Deck [] = Some (record s { is_deck = true })
-after symbols s Empty (Synonym is_own) (Word old ∷ []) = Some s
+after symbols s Empty Synonym (Word old ∷ []) = Some s
 after symbols s Empty (Qualify left right) operands = qualified s operands
 after symbols s Empty End [] = Some s
 after symbols s Empty End (x ∷ []) = ended s (operand_field 12 symbols (place_of s) x)

@@ -1,5 +1,5 @@
 -- Names that OPSYN gives to operations.
-use Rattle.std.specs.Prelude.{ℕ, ◌++◌, Bool, Option, Some, None, List, [], ◌∷◌, bytes_eq, fold, if◌then◌else◌}
+use Rattle.std.specs.Prelude.{ℕ, ◌++◌, Option, Some, None, List, [], ◌∷◌, bytes_eq, fold, if◌then◌else◌}
 use Rattle.pp_meaning.specs.Lines.{operation_name}
 use Rattle.pp_meaning.specs.Standing.{Standing}
 use Rattle.pp_meaning.specs.declared.expressions.Operand.{Operand}
@@ -21,12 +21,9 @@ named None statement = None
 named (Some s) statement =
     if bytes_eq (meant_name s.synonyms statement.name.items) (operation_name statement.operation) then Some s else None
 
--- NEW OPSYN OLD: OLD is an operation by its own name, or by another synonym.
-abbrev pub operation_of : Standing → Bool → List ℕ → List ℕ
-operation_of s is_own old = if is_own then old else meant_name s.synonyms old
-
+-- NEW OPSYN OLD: NEW is what OLD means there, whatever OLD means later.
 abbrev pub with_synonym : Option Standing → List ℕ → Operation → List Operand → Option Standing
 with_synonym None name operation operands = None
-with_synonym (Some s) name (Synonym is_own) (Word old ∷ []) =
-    Some (record s { synonyms = s.synonyms ++ (name, operation_of s is_own old.items) ∷ [] })
+with_synonym (Some s) name Synonym (Word old ∷ []) =
+    Some (record s { synonyms = s.synonyms ++ (name, meant_name s.synonyms old.items) ∷ [] })
 with_synonym (Some s) name operation operands = Some s

@@ -1,8 +1,8 @@
 //! Operands as numbers of so many bits.
 ghost use Rattle.std.specs.Prelude.{◌≡◌, ◌==◌, ◌&&◌, ◌-◌, ◌^◌, IfOk, IfSome, IsTrue, Some, length, true};
 ghost use Rattle.pp_meaning.specs.declared.expressions.Item.TheVariants.{Sum};
-ghost use Rattle.pp_meaning.specs.Fields.{are_ones, field, fills_up, fits, has_count, is_minus, is_zero, is_zero_digit, item_field};
-ghost use Rattle.pp_meaning.specs.Fields.{operand_field, text_field, then_field};
+ghost use Rattle.pp_meaning.specs.Fields.{are_ones, field, fills_up, fits, has_count, is_minus, is_minus_zero, is_zero};
+ghost use Rattle.pp_meaning.specs.Fields.{is_zero_digit, item_field, operand_field, text_field, then_field};
 
 use crate::expressions::{
     Atom, Expression, Item, Operand, Place, Radix, Sign, Symbol, Term, counter, name_value,
@@ -64,6 +64,16 @@ fn are_minus_zero(terms: &[Term]) -> bool
         [term] => matches!(term.sign, Sign::Minus)
             && is_plain_zero(&term.atom)
             && term.factors.is_empty(),
+        _ => false,
+    }
+}
+
+/// Returns whether an operand is -0.
+pub fn is_minus_zero(operand: &Operand) -> bool
+    ensures { result ≡ is_minus_zero operand.now }
+{
+    match operand {
+        Operand::Single(Item::Sum(x)) => are_minus_zero(&x.terms),
         _ => false,
     }
 }

@@ -3,12 +3,12 @@ ghost use Rattle.std.specs.Prelude.{◌≡◌, ◌<◌, IfSome, Some, ◌+◌, �
 ghost use Rattle.pp_notation.specs.Instructions.{form};
 ghost use Rattle.pp_notation.specs.InstructionWords.{constant_words, distance, one_word, then_distance};
 ghost use Rattle.pp_meaning.specs.Expressions.{address_around, value};
-ghost use Rattle.pp_meaning.specs.Fields.{operand_field};
+ghost use Rattle.pp_meaning.specs.Fields.{is_minus_zero, operand_field};
 ghost use Rattle.pp_meaning.specs.Meaning.{distance_at, form_words, minus_code, shortest, sized_words, small_code, two_words};
 ghost use Rattle.pp_meaning.specs.Meaning.{wide_code, wide_words, words_in};
 
 use crate::expressions::{Operand, Place, Symbol, is_known_above, value_of_operand};
-use crate::fields::field_in;
+use crate::fields::{field_in, is_minus_zero};
 use pp_notation::{Form, form_of};
 
 /// How many bits d, m and both have.
@@ -154,6 +154,9 @@ fn sized(
 ) -> Option<Words>
     ensures { IfSome result (λ words. sized_words symbols.now place is_sum operand.now (Some number) ≡ Some (words_in words)) }
 {
+    if number >= 0 && is_minus_zero(operand) {
+        return one(if is_sum { 0o17 } else { 0o15 }, Some(0));
+    }
     if number > MOST || number < -MOST {
         return wide(symbols, place, is_sum, operand);
     }

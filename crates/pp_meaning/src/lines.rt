@@ -396,7 +396,7 @@ pub fn name_of_operation(operation: Operation) -> Option<&'static [u8]>
         Operation::Shortest(false) => Some(b"LDK"),
         Operation::Pool(_) => Some(b"LIT"),
         Operation::Use => Some(b"USE"),
-        Operation::Synonym(_) => Some(b"OPSYN"),
+        Operation::Synonym => Some(b"OPSYN"),
         Operation::Qualify(..) => Some(b"QUAL"),
         Operation::End => Some(b"END"),
     }
@@ -484,7 +484,7 @@ fn may_be_in_place(operation: Operation, word: &[u8]) -> bool
     ensures { result ≡ is_in_place operation word.now }
 {
     match operation {
-        Operation::Synonym(_) => !word.is_empty() && has_no_blank(word),
+        Operation::Synonym => !word.is_empty() && has_no_blank(word),
         Operation::SetBase(..)
         | Operation::BaseBefore
         | Operation::Qualify(..)

@@ -1,5 +1,5 @@
 //! Numbers: digits, sums and products.
-ghost use Rattle.std.specs.Prelude.{◌≡◌, ◌^◌, IfSome, Some, negsuc, pos};
+ghost use Rattle.std.specs.Prelude.{◌≡◌, ◌^◌, IfSome, Some};
 ghost use Rattle.pp_meaning.specs.Expressions.{difference, plus, shifted, times};
 ghost use Rattle.pp_meaning.specs.Numbers.{are_digits, decimal_number, each_digit, number_value};
 ghost use Rattle.pp_meaning.specs.Numbers.{octal_number, plain_number, small, value_from};
@@ -86,37 +86,16 @@ pub fn value_of(digits: &[u8], radix: Radix, base: Option<Base>) -> Option<i64>
     }
 }
 
-/// Returns the number below the size of one with a minus.
-fn below(number: i64) -> Option<u64>
-    ensures { IfSome result (λ size. negsuc size ≡ number) }
-{
-    if number >= 0 {
-        return None;
-    }
-    number.unsigned_abs().checked_sub(1)
-}
-
-/// Returns the number with a minus whose size is one more.
-fn minus_above(size: u64) -> Option<i64>
-    ensures { IfSome result (λ number. negsuc size ≡ number) }
-{
-    i64::try_from(size).ok()?.checked_neg()?.checked_sub(1)
-}
-
-/// Returns the bits in which two numbers differ.
+/// Returns the bits in which two numbers differ, in ones complement.
 fn difference_of(a: i64, b: i64) -> Option<i64>
     ensures { IfSome result (λ value. difference a b ≡ value) }
 {
-    if a >= 0 && b >= 0 {
-        return i64::try_from(a as u64 ^ b as u64).ok();
+    let bits = i64::try_from(a.unsigned_abs() ^ b.unsigned_abs()).ok()?;
+    if (a < 0) == (b < 0) {
+        Some(bits)
+    } else {
+        0i64.checked_sub(bits)
     }
-    if a >= 0 {
-        return minus_above(a as u64 ^ below(b)?);
-    }
-    if b >= 0 {
-        return minus_above(below(a)? ^ b as u64);
-    }
-    i64::try_from(below(a)? ^ below(b)?).ok()
 }
 
 /// Returns a sum or a difference.

@@ -100,7 +100,7 @@ impl State {
                 self.set_deck();
                 Ok(Some(()))
             }
-            (Label::Empty, Operation::Synonym(_), [Operand::Word(_)]) => Ok(Some(())),
+            (Label::Empty, Operation::Synonym, [Operand::Word(_)]) => Ok(Some(())),
             (Label::Empty, Operation::Qualify(..), _) => self.qualify(alloc, operands),
             (Label::Empty, Operation::End, []) => Ok(Some(())),
             (Label::Empty, Operation::End, [x]) => Ok(self.end(symbols, x)),
@@ -151,7 +151,7 @@ impl State {
             Operation::SetBase(..)
             | Operation::BaseBefore
             | Operation::Deck
-            | Operation::Synonym(_)
+            | Operation::Synonym
             | Operation::Qualify(..)
             | Operation::End => self.directive(alloc, symbols, label, operation, operands),
             Operation::Bits | Operation::Position => {

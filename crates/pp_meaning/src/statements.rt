@@ -99,8 +99,8 @@ pub enum Operation {
     Pool(usize),
     /// USE.
     Use,
-    /// OPSYN of an operation by its own name, or by a synonym.
-    Synonym(bool),
+    /// OPSYN.
+    Synonym,
     /// QUAL, with so many slashes before its qualifier, and behind it.
     Qualify(u8, u8),
     /// END.

@@ -1,7 +1,7 @@
 //! Names that OPSYN gives to operations.
 ghost use Rattle.std.specs.Prelude.{◌≡◌, ◌++◌, ◌∷◌, [], IfOk, IfSome, OnOk, Some, bytes_eq, map};
 ghost use Rattle.pp_meaning.specs.Standing.{standing, synonym_pair};
-ghost use Rattle.pp_meaning.specs.Synonyms.{meant_name, named, operation_of, renamed, with_synonym};
+ghost use Rattle.pp_meaning.specs.Synonyms.{meant_name, named, renamed, with_synonym};
 
 use crate::expressions::Operand;
 use crate::lines::name_of_operation;
@@ -46,20 +46,6 @@ impl State {
         are_same(name_meant(&self.synonyms, &statement.name), name).then_some(())
     }
 
-    /// Returns the name of the operation to which OPSYN gives another one.
-    fn operation_of(&self, alloc: Global, is_own: bool, old: &[u8]) -> Result<Vec<u8>, AllocError>
-        ensures { IfOk result (λ name. name.items ≡ operation_of (standing self.now) is_own old.now) }
-    {
-        Vec::from_slice(
-            alloc,
-            if is_own {
-                old
-            } else {
-                name_meant(&self.synonyms, old)
-            },
-        )
-    }
-
     /// Keeps the name that OPSYN gives to an operation.
     pub(crate) fn keep_synonym(
         &mut self,
@@ -71,27 +57,19 @@ impl State {
         ensures { OnOk result (with_synonym (Some (standing self.old)) name.now operation operands.now ≡ Some (standing self.new)) }
     {
         match (operation, operands) {
-            (Operation::Synonym(is_own), [Operand::Word(old)]) => {
-                self.add_synonym(alloc, name, is_own, old)
-            }
+            (Operation::Synonym, [Operand::Word(old)]) => self.add_synonym(alloc, name, old),
             _ => Ok(()),
         }
     }
 
-    /// Gives a name to an operation.
-    fn add_synonym(
-        &mut self,
-        alloc: Global,
-        name: &[u8],
-        is_own: bool,
-        old: &[u8],
-    ) -> Result<(), AllocError>
+    /// Gives a name to the operation that another one means.
+    fn add_synonym(&mut self, alloc: Global, name: &[u8], old: &[u8]) -> Result<(), AllocError>
         ensures { OnOk result (record (standing self.old) {
           synonyms = (standing self.old).synonyms
-              ++ (name.now, operation_of (standing self.old) is_own old.now) ∷ [];
+              ++ (name.now, meant_name (standing self.old).synonyms old.now) ∷ [];
         } ≡ standing self.new) }
     {
-        let operation = self.operation_of(alloc, is_own, old)?;
+        let operation = Vec::from_slice(alloc, name_meant(&self.synonyms, old))?;
         let name = Vec::from_slice(alloc, name)?;
         self.synonyms.push(Synonym { name, operation })?;
         Ok(())

@@ -9,7 +9,7 @@ use Rattle.pp_notation.specs.declared.instructions.Form.{Form}
 use Rattle.pp_notation.specs.declared.instructions.Form.TheVariants.{Alone, D as OneField, Target, Constant}
 use Rattle.pp_notation.specs.declared.instructions.Form.TheVariants.{Indexed, Both as TwoFields}
 use Rattle.pp_meaning.specs.Expressions.{address, atom_value, is_above, plus, product, value, value_above, with_term}
-use Rattle.pp_meaning.specs.Fields.{item_field, operand_field}
+use Rattle.pp_meaning.specs.Fields.{is_minus_zero, item_field, operand_field}
 use Rattle.pp_meaning.specs.Meaning.{added, constant, constants, data_words, datum, distance_at, form_words, is_digits, is_number}
 use Rattle.pp_meaning.specs.Meaning.{is_something, joined, minus_code, sized_words, small_code, two_words, wide_code}
 use Rattle.pp_meaning.specs.Meaning.{wide_words, with_constant, with_datum, words_of, zeros}
@@ -128,11 +128,16 @@ wide_length a b p is_sum x =
 
 number_length : (a b : List Symbol) (p : Place) (is_sum : Bool) (x : Operand) (number : ℤ) →
     Both SameLength (sized_words a p is_sum x (Some number)) (sized_words b p is_sum x (Some number))
-number_length a b p is_sum x (pos n) = both_either SameLength (nat_le n 0o77)
+number_length a b p is_sum x (pos n) =
+    let small = λ (symbols : List Symbol). if nat_le n 0o77 then one_word (small_code is_sum) (operand_field 6 symbols p x)
+    else wide_words symbols p is_sum x in
+    both_either SameLength (is_minus_zero x) (one_word (minus_code is_sum) (Some 0)) (small a)
+    (one_word (minus_code is_sum) (Some 0)) (small b) refl
+    (both_either SameLength (nat_le n 0o77)
     (one_word (small_code is_sum) (operand_field 6 a p x)) (wide_words a p is_sum x)
     (one_word (small_code is_sum) (operand_field 6 b p x)) (wide_words b p is_sum x)
     (one_length (small_code is_sum) (small_code is_sum) (operand_field 6 a p x) (operand_field 6 b p x))
-    (wide_length a b p is_sum x)
+    (wide_length a b p is_sum x))
 number_length a b p is_sum x (negsuc n) = both_either SameLength (nat_lt n 0o77)
     (one_word (minus_code is_sum) (Some (n + 1))) (wide_words a p is_sum x)
     (one_word (minus_code is_sum) (Some (n + 1))) (wide_words b p is_sum x) refl (wide_length a b p is_sum x)

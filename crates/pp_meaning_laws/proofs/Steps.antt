@@ -123,9 +123,9 @@ qualifier_alike a b statement o p e = then_alike a b (λ o. in_qualifier o state
 
 synonym_at : (a b : List Symbol) (name : List ℕ) (operation : Operation) (xs : List Operand) (s t : Standing) → IsAlike a b s t →
     Both (IsAlike a b) (with_synonym (Some s) name operation xs) (with_synonym (Some t) name operation xs)
-synonym_at a b name (Synonym is_own) (Word old ∷ []) s t like = at_alike a b s
-    (λ t. Both (IsAlike a b) (with_synonym (Some s) name (Synonym is_own) (Word old ∷ []))
-    (with_synonym (Some t) name (Synonym is_own) (Word old ∷ [])))
+synonym_at a b name Synonym (Word old ∷ []) s t like = at_alike a b s
+    (λ t. Both (IsAlike a b) (with_synonym (Some s) name Synonym (Word old ∷ []))
+    (with_synonym (Some t) name Synonym (Word old ∷ [])))
     (λ m w r e known. alike m w r e known) t like
 synonym_at a b name operation xs s t like = like
 

@@ -1,6 +1,6 @@
 -- Statements have the same words with tables that have the same numbers.
 use Rattle.std.proofs.Common.{ℕ, ℤ, pos, negsuc, ◌+◌, ◌-◌, ◌%◌, ◌^◌, Bool, false, List, [], ◌∷◌, Option, Some, None}
-use Rattle.std.proofs.Common.{fold, length, nat_le, nat_lt, refl, slice_get}
+use Rattle.std.proofs.Common.{fold, if◌then◌else◌, length, nat_le, nat_lt, refl, slice_get}
 use Rattle.pp_notation.specs.Instructions.{form}
 use Rattle.pp_notation.specs.InstructionWords.{constant_words, one_word, then_distance}
 use Rattle.pp_notation.specs.declared.instructions.Form.{Form}
@@ -8,7 +8,7 @@ use Rattle.pp_notation.specs.declared.instructions.Form.TheVariants.{Alone, D as
 use Rattle.pp_notation.specs.declared.instructions.Form.TheVariants.{Indexed, Both as TwoFields}
 use Rattle.pp_meaning.specs.Bits.{field_number, field_size, size_value, with_bits, with_number, with_sized}
 use Rattle.pp_meaning.specs.Expressions.{address, address_around, is_above, named_value, sum, value, value_above}
-use Rattle.pp_meaning.specs.Fields.{are_ones, field, item_field, operand_field, then_field}
+use Rattle.pp_meaning.specs.Fields.{are_ones, field, is_minus_zero, item_field, operand_field, then_field}
 use Rattle.pp_meaning.specs.Meaning.{added, constant, constants, data_words, distance_at, form_words}
 use Rattle.pp_meaning.specs.Meaning.{is_something, minus_code, shortest}
 use Rattle.pp_meaning.specs.Meaning.{sized_words, small_code, two_words, wide_code, wide_words, with_constant, words_of, zeros}
@@ -114,10 +114,15 @@ constants_same a b alike p xs = let is = is_something (slice_get xs (length xs -
 
 number_same : (a b : List Symbol) → AreAlike a b → (p : Place) (is_sum : Bool) (x : Operand) (number : ℤ) →
     Both Same (sized_words a p is_sum x (Some number)) (sized_words b p is_sum x (Some number))
-number_same a b alike p is_sum x (pos n) = both_either Same (nat_le n 0o77)
+number_same a b alike p is_sum x (pos n) =
+    let small = λ (symbols : List Symbol). if nat_le n 0o77 then one_word (small_code is_sum) (operand_field 6 symbols p x)
+    else wide_words symbols p is_sum x in
+    both_either Same (is_minus_zero x) (one_word (minus_code is_sum) (Some 0)) (small a)
+    (one_word (minus_code is_sum) (Some 0)) (small b) refl
+    (both_either Same (nat_le n 0o77)
     (one_word (small_code is_sum) (operand_field 6 a p x)) (wide_words a p is_sum x)
     (one_word (small_code is_sum) (operand_field 6 b p x)) (wide_words b p is_sum x)
-    (one_same a b alike p (small_code is_sum) x) (constant_same a b alike p (wide_code is_sum) x)
+    (one_same a b alike p (small_code is_sum) x) (constant_same a b alike p (wide_code is_sum) x))
 number_same a b alike p is_sum x (negsuc n) = both_either Same (nat_lt n 0o77)
     (one_word (minus_code is_sum) (Some (n + 1))) (wide_words a p is_sum x)
     (one_word (minus_code is_sum) (Some (n + 1))) (wide_words b p is_sum x)

@@ -1,5 +1,6 @@
 pub mod Cells
 pub mod Columns
+pub mod Digits
 pub mod DisplayCode
 pub mod Instructions
 pub mod InstructionWords

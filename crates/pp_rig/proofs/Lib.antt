@@ -10,6 +10,7 @@ pub mod Runs
 pub mod Shortest
 pub mod Stepped
 pub mod TurnNames
+pub mod TurnRows
 pub mod TurnRuns
 pub mod Turns
 pub mod WrittenOnce

@@ -71,7 +71,7 @@ fn without_sequence(line: &[u8], is_text: bool) -> &[u8] {
 fn after_text(line: &[u8], at: usize, start: usize, is_delimited: bool) -> Outcome<usize> {
     let next = at.saturating_add(1);
     let before = line.get(at.wrapping_sub(1)).copied().unwrap_or(b' ');
-    if at != start && !b"=,+-*/".contains(&before) {
+    if at != start && !b"=,+-^*/".contains(&before) {
         return Ok(next);
     }
     match text_at(line, at, is_delimited)? {
@@ -123,7 +123,12 @@ fn end_of_operand(line: &[u8], start: usize, name: &[u8], words: &Vocabulary) ->
     end_outside_texts(line, start, b" \t", is_delimited)
 }
 
-/// Returns the statement of a line in capitals, or `None` of a note or an empty line.
+/// Returns whether what begins at a column of a line is its sequence number.
+fn is_sequence(line: &[u8], first: usize, origin: Origin) -> bool {
+    matches!(origin, Origin::Source) && column_on_paper(line, first) >= LAST_COLUMN
+}
+
+/// Returns the statement of a line in capitals, or `None` of a note, an empty line or one with a sequence number alone.
 pub fn statement_of(line: &[u8], origin: Origin, words: &Vocabulary) -> Outcome<Option<Statement>> {
     match line {
         [b'*', ..] => return Ok(None),
@@ -133,6 +138,10 @@ pub fn statement_of(line: &[u8], origin: Origin, words: &Vocabulary) -> Outcome<
     }
     let location = location_of(line);
     let first = after_blanks(line, location.end);
+    let is_alone = first >= line.len() || is_sequence(line, first, origin);
+    if is_alone && location.is_empty() {
+        return Ok(None);
+    }
     let none = Field::new(location.end, location.end);
     let mut statement = Statement {
         location,
@@ -140,7 +149,7 @@ pub fn statement_of(line: &[u8], origin: Origin, words: &Vocabulary) -> Outcome<
         operand: none,
         comments: words.comments,
     };
-    if first < line.len() {
+    if !is_alone {
         statement.operation = Field::new(first, end_of_word(line, first));
         statement.operand = operand_of(line, statement.operation, origin, words)?;
     }

@@ -1,4 +1,7 @@
 //! An index of names, by a number that is made of their bytes.
+ghost use Rattle.std.specs.Prelude.{◌≡◌, length};
+ghost use Rattle.pp_source.specs.Names.{before, last_with, number_of_name, with_bytes};
+
 use std::alloc::{AllocError, Global};
 use std::collections::BTreeMap;
 
@@ -17,11 +20,17 @@ pub struct Index {
 }
 
 /// Returns the number of a name that is a prefix and what follows it.
-pub fn number_of_name(prefix: &[u8], rest: &[u8]) -> u64 {
+#[tactic(auto, unfolding(crate::specs::Names::number_of_name))]
+pub fn number_of_name(prefix: &[u8], rest: &[u8]) -> u64
+    ensures { result ≡ number_of_name prefix.now rest.now }
+{
     with_bytes(with_bytes(OFFSET, prefix), rest)
 }
 
-fn with_bytes(mut number: u64, bytes: &[u8]) -> u64 {
+fn with_bytes(first: u64, bytes: &[u8]) -> u64
+    ensures { result ≡ with_bytes first bytes.now }
+{
+    let mut number = first;
     for byte in bytes {
         number = (number ^ u64::from(*byte)).wrapping_mul(PRIME);
     }
@@ -42,13 +51,48 @@ impl Index {
         Ok(self.before.push(before)?)
     }
 
+    /// Forgets all names.
+    pub fn clear(&mut self) {
+        self.last.clear();
+        self.before.clear();
+    }
+
+    /// Returns how many names there are.
+    pub fn len(&self) -> usize
+        ensures { result ≡ length self.now.before.items }
+    {
+        self.before.len()
+    }
+
     /// Returns the last name with a number.
-    pub fn last(&self, number: u64) -> Option<usize> {
+    pub fn last(&self, number: u64) -> Option<usize>
+        ensures { result ≡ last_with self.now number }
+    {
         self.last.get(&number).copied()
     }
 
-    /// Returns the name before another one with the same number.
-    pub fn before(&self, name: usize) -> Option<usize> {
-        *self.before.get(name)?
+    /// Returns the name before another one that has the same number.
+    pub fn before(&self, name: usize) -> Option<usize>
+        ensures { result ≡ before self.now.before.items name }
+    {
+        match self.before.get(name) {
+            Some(before) => *before,
+            None => None,
+        }
+    }
+
+    /// Returns the last name with a number that passes a test.
+    pub fn find<F: FnMut(usize) -> bool>(&self, number: u64, mut test: F) -> Option<usize>
+        requires { (state : F) (x : _) → F.pre state x }
+    {
+        let mut next = self.last(number);
+        for _ in 0..self.len() {
+            let name = next?;
+            if test(name) {
+                return Some(name);
+            }
+            next = self.before(name);
+        }
+        None
     }
 }

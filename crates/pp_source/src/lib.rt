@@ -18,6 +18,7 @@ mod wordings;
 
 pub use fields::{FirstParts, Origin, Parts, Statement, first_parts, statement_of};
 pub use here::Here;
+pub use index::{Index, number_of_name};
 pub use message::{Argument, Fault, Field, Message, Outcome, Stop};
 pub use numbers::{Number, counter_of, decoded, number_of, product, shifted};
 pub use openings::Opening;
@@ -27,7 +28,7 @@ pub use replacing::{is_enclosed, split, split_nested};
 pub use scan::{
     after_blanks, cut, digits_of, end_of_word, find, is_alphanumeric, is_blank, next_where,
 };
-pub use symbols::{Definition, Place, Symbol, Symbols, end_of_name};
+pub use symbols::{Definition, Place, Symbol, Symbols, end_of_name, name_size};
 pub use texts::{DisplayText, are_in_code, before_mark, code_of, no_code, text_at};
-pub use vocabulary::{FIRST_OF_COMMENTS, Macro, Meaning, Remote, Vocabulary};
+pub use vocabulary::{FIRST_OF_COMMENTS, Macro, Meaning, Vocabulary};
 pub use wordings::Wording;

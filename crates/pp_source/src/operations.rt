@@ -6,7 +6,7 @@ use crate::wordings::Wording;
 use Operation::{
     Base, Bits, Block, Data, Deck, End, Equate, Error, Expressions, Greatest, Ignored, Inside,
     Least, Lines, Literals, Location, Origin, Position, Qualifier, Refused, Set, Shortest, Space,
-    TextCode, Use, Zeros,
+    SystemText, TextCode, Use, Zeros,
 };
 use pp_notation::code_of;
 
@@ -54,6 +54,8 @@ pub enum Operation {
     Lines(Elsewhere),
     /// What is only within a block.
     Inside,
+    /// STEXT, which says in a system text that it is one, and is not taken elsewhere.
+    SystemText,
     /// What is never taken, and what to write instead.
     Refused(Wording),
     /// No operation that is known.
@@ -138,7 +140,7 @@ pub static OPERATIONS: [(&str, Operation); 63] = [
     ("OPDEF PPOP", Refused(Wording::UseMacro)),
     ("EXT", Refused(Wording::UseEqu)),
     ("SEGMENT ORGC", Refused(Wording::UseOrg)),
-    ("STEXT", Refused(Wording::UseXtext)),
+    ("STEXT", SystemText),
     ("PPU", Refused(Wording::OtherMachine)),
     (
         "MXN MAN SCF CCF SFM CFM IAPM OAPM",
@@ -166,6 +168,12 @@ pub fn operation_of(name: &[u8]) -> Operation {
 pub fn is_operation(name: &[u8]) -> bool {
     !matches!(
         operation_of(name),
-        Operation::None | Block(_) | Lines(_) | Inside | Refused(_) | Operation::Unknown
+        Operation::None
+            | Block(_)
+            | Lines(_)
+            | Inside
+            | SystemText
+            | Refused(_)
+            | Operation::Unknown
     )
 }

@@ -1,9 +1,13 @@
 //! The names of a source: labels, and names of numbers.
+ghost use Rattle.std.specs.Prelude.{◌≡◌, ◌≤◌, IfSome, Some, length, not, option_map};
+ghost use Rattle.std.specs.List.{prefix_len};
+ghost use Rattle.pp_source.specs.Names.{begins_name, ends_name, full_name, has_key_at, index_of, is_joined, is_known, kept_text};
+ghost use Rattle.pp_source.specs.Names.{meant, name_size, name_value, prefix, symbol_of, value_in};
+
 use crate::index::{Index, number_of_name};
 use crate::message::{Argument, Fault, Field, Outcome, Stop};
-use crate::scan::next_where;
 use crate::wordings::Wording;
-use pp_decks::Span;
+use pp_decks::{Span, tail};
 use std::alloc::{AllocError, Global};
 
 /// How many characters a symbol has.
@@ -26,7 +30,9 @@ pub struct Definition {
 
 impl Definition {
     /// Returns what a name of an address stands for.
-    pub fn address(address: i64) -> Self {
+    pub fn address(address: i64) -> Self
+        ensures { result.value ≡ Some address }
+    {
         Definition {
             value: Some(address),
             is_address: true,
@@ -65,13 +71,44 @@ pub struct Place {
     pub is_from_above: bool,
 }
 
+/// Returns whether a name may begin with a symbol.
+fn begins_name(symbol: u8) -> bool
+    ensures { result ≡ begins_name symbol }
+{
+    symbol.is_ascii_uppercase() || b".#%@&!?<>[];\\':".contains(&symbol)
+}
+
+/// Returns whether a symbol ends a name.
+fn ends_name(symbol: u8) -> bool
+    ensures { result ≡ ends_name symbol }
+{
+    symbol.is_ascii_lowercase() || b"\t\n\x0b\x0c\r +-*/,^\"()_".contains(&symbol)
+}
+
+/// Returns how many symbols of a text are before one that ends a name.
+fn size_before_end(text: &[u8]) -> usize
+    ensures at_most { result ≤ length text.now }
+    ensures found { result ≡ prefix_len (λ d. not (ends_name d)) text.now }
+{
+    text.iter()
+        .take_while(|symbol| !ends_name(**symbol))
+        .count()
+}
+
+/// Returns how many symbols the name has that a text begins with, if it does.
+pub fn name_size(text: &[u8]) -> Option<usize>
+    ensures at_most { IfSome result (λ size. size ≤ length text.now) }
+    ensures found { result ≡ name_size text.now }
+{
+    match text {
+        [first, rest @ ..] if begins_name(*first) => Some(1 + size_before_end(rest)),
+        _ => None,
+    }
+}
+
 /// Returns the column after the name that begins at a column, if one does.
 pub fn end_of_name(text: &[u8], at: usize) -> Option<usize> {
-    let first = *text.get(at)?;
-    let begins = first.is_ascii_uppercase() || b".#%@&!?<>[];\\':".contains(&first);
-    begins.then_some(next_where(text, at.saturating_add(1), |symbol| {
-        symbol.is_ascii_lowercase() || b" \t\n\x0b\x0c\r+-*/,^\"()_".contains(symbol)
-    }))
+    name_size(tail(text, at))?.checked_add(at)
 }
 
 /// Returns what is wrong with a name as a symbol, if something is.
@@ -105,7 +142,9 @@ impl Symbols {
     }
 
     /// Returns a text that is kept.
-    pub fn text_of(&self, text: Span) -> &[u8] {
+    pub fn text_of(&self, text: Span) -> &[u8]
+        ensures { result.now ≡ kept_text self.now text }
+    {
         text.of(&self.text)
     }
 
@@ -159,9 +198,14 @@ impl Symbols {
     }
 
     /// Returns what is before a name with the present qualifier.
-    fn prefix(&self) -> &[u8] {
-        let qualifier = self.qualifiers.last().copied().unwrap_or_default();
-        qualifier.of(&self.qualifier_text)
+    #[tactic(auto, unfolding(crate::specs::Names::prefix))]
+    fn prefix(&self) -> &[u8]
+        ensures { result.now ≡ prefix self.now }
+    {
+        match self.qualifiers.last() {
+            Some(qualifier) => qualifier.of(&self.qualifier_text),
+            None => b"",
+        }
     }
 
     /// Returns the present qualifier, which is empty if there is none.
@@ -197,28 +241,49 @@ impl Symbols {
         false
     }
 
+    /// Returns whether the key of a symbol is a name after a prefix.
+    fn has_key(&self, at: usize, prefix: &[u8], name: &[u8]) -> bool
+        ensures { result ≡ has_key_at self.now prefix.now name.now at }
+    {
+        match self.all.get(at) {
+            Some(symbol) => is_joined(self.text_of(symbol.key), prefix, name),
+            None => false,
+        }
+    }
+
     /// Returns the index of the symbol whose key is a name after a prefix.
-    fn index_of(&self, prefix: &[u8], name: &[u8]) -> Option<usize> {
+    #[tactic(auto, unfolding(crate::specs::Names::index_of), using(crate::proofs::Walks::walks))]
+    fn index_of(&self, prefix: &[u8], name: &[u8]) -> Option<usize>
+        ensures { result ≡ index_of self.now prefix.now name.now }
+    {
         let mut next = self.index.last(number_of_name(prefix, name));
-        for _ in 0..self.all.len() {
+        for _turn in 0..self.index.len() {
             let at = next?;
-            let key = self.text_of(self.all.get(at)?.key);
-            if key.strip_prefix(prefix) == Some(name) {
-                return next;
+            if self.has_key(at, prefix, name) {
+                return Some(at);
             }
             next = self.index.before(at);
         }
         None
     }
 
-    fn symbol(&self, prefix: &[u8], name: &[u8]) -> Option<Symbol> {
-        self.all.get(self.index_of(prefix, name)?).copied()
+    #[tactic(auto, unfolding(crate::specs::Names::symbol_of))]
+    fn symbol(&self, prefix: &[u8], name: &[u8]) -> Option<Symbol>
+        ensures { result ≡ symbol_of self.now prefix.now name.now }
+    {
+        match self.index_of(prefix, name) {
+            Some(at) => self.all.get(at).copied(),
+            None => None,
+        }
     }
 
     /// Returns the symbol that a name means: with its qualifier, or else with the present one, or else without.
-    pub fn meant(&self, name: &[u8]) -> Option<Symbol> {
-        if name.first() == Some(&b'/') {
-            return self.symbol(b"", name.strip_prefix(b"//").unwrap_or(name));
+    #[tactic(auto, unfolding(crate::specs::Names::meant))]
+    pub fn meant(&self, name: &[u8]) -> Option<Symbol>
+        ensures { result ≡ meant self.now name.now }
+    {
+        if let Some(full) = full_name(name) {
+            return self.symbol(b"", full);
         }
         match self.symbol(self.prefix(), name) {
             Some(symbol) if symbol.is_known() => Some(symbol),
@@ -276,7 +341,10 @@ impl Symbols {
 
     /// Returns what a name stands for. Only a name of a line above counts if that is asked, and of SET in any case. In the first
     /// pass a name may stand for nothing yet.
-    pub fn look_up(&self, name: &[u8], at: Place, is_last: bool) -> Outcome<Definition> {
+    #[tactic(auto, unfolding(crate::specs::Names::name_value))]
+    pub fn look_up(&self, name: &[u8], at: Place, is_last: bool) -> Outcome<Definition>
+        ensures { value_in result ≡ name_value self.now at.is_from_above is_last name.now }
+    {
         let (seen, before) = match self.meant(name) {
             Some(symbol) => (symbol.seen, symbol.before),
             None => (None, None),
@@ -300,7 +368,30 @@ impl Symbols {
 
 impl Symbol {
     /// Returns whether this pass or the one before has met the name.
-    pub fn is_known(&self) -> bool {
+    pub fn is_known(&self) -> bool
+        ensures { result ≡ is_known self.now }
+    {
         self.seen.is_some() || self.before.is_some()
+    }
+}
+
+/// Returns whether a text is a name after a prefix.
+fn is_joined(text: &[u8], prefix: &[u8], name: &[u8]) -> bool
+    ensures { result ≡ is_joined text.now prefix.now name.now }
+{
+    match text.split_at_checked(prefix.len()) {
+        Some((first, rest)) => first == prefix && rest == name,
+        None => false,
+    }
+}
+
+/// Returns the key of a name that is written in full, with its qualifier, or // before it if it has none.
+fn full_name(name: &[u8]) -> Option<&[u8]>
+    ensures { option_map (λ x. x.now) result ≡ full_name name.now }
+{
+    match name {
+        [b'/', b'/', rest @ ..] => Some(rest),
+        [b'/', ..] => Some(name),
+        _ => None,
     }
 }

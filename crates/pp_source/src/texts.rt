@@ -1,13 +1,21 @@
 //! Texts in display code: 3HABC, 0HABC up to a comma or a blank, H*ABC* between two equal symbols.
-use crate::message::{Fault, Outcome};
-use crate::numbers::product;
-use crate::scan::{cut, digits_of, is_alphanumeric, is_blank, next_where};
+ghost use Rattle.std.specs.Prelude.{◌≡◌, ◌+◌, ◌-◌, ◌<◌, ◌≤◌, ◌^◌, IfOk, IfSome, Some, is_ok, length, drop, min, option_map, pos, slice_index_or, take};
+ghost use Rattle.std.specs.List.{position};
+ghost use Rattle.pp_notation.specs.Digits.{number_of_codes};
+ghost use Rattle.pp_source.specs.Numbers.{kept};
+ghost use Rattle.pp_source.specs.Scan.{index_of};
+ghost use Rattle.pp_source.specs.Texts.{are_in_code, code_or_blank, codes_of, counted, fill, filled, has_no_code, is_at_end, is_kind};
+ghost use Rattle.pp_source.specs.Texts.{marked, read_of, size_in_words, symbols_read, text_at, word_size};
+
+use crate::message::{Fault, Outcome, Stop};
+use crate::numbers::with_digit;
+use crate::scan::{digits_of, index_of, is_alphanumeric, is_blank};
 use crate::wordings::Wording;
 use pp_decks::tail;
 pub use pp_notation::code_of_symbol as code_of;
 
 /// How many symbols a line has. Blanks at its end may be lost.
-pub const LONGEST: usize = 72;
+const LONGEST: usize = 72;
 
 /// The display code of a blank.
 const BLANK: u8 = 0o55;
@@ -22,7 +30,12 @@ pub struct DisplayText<'a> {
 }
 
 impl<'a> DisplayText<'a> {
-    pub fn new(kind: u8, symbols: &'a [u8], count: usize, end: usize) -> Self {
+    pub fn new(kind: u8, symbols: &'a [u8], count: usize, end: usize) -> Self
+        ensures kind { result.kind ≡ kind }
+        ensures symbols { result.symbols.now ≡ symbols.now }
+        ensures count { result.count ≡ count }
+        ensures end { result.end ≡ end }
+    {
         DisplayText {
             kind,
             symbols,
@@ -32,7 +45,9 @@ impl<'a> DisplayText<'a> {
     }
 
     /// Returns how many codes fill whole words. C ends in a word of zero, Z in a symbol of zero at least.
-    pub fn size_in_words(self) -> usize {
+    pub fn size_in_words(self) -> usize
+        ensures { self.entry.count < 2 ^ 63 → result ≡ size_in_words self.entry.kind self.entry.count }
+    {
         let size = self.count.saturating_add(match self.kind {
             b'C' => 2,
             b'Z' => 1,
@@ -42,81 +57,179 @@ impl<'a> DisplayText<'a> {
     }
 
     /// Returns the code at an index of the text filled up to a size: H and A with blanks, the others with zeros; R and A before it.
-    pub fn code(self, index: usize, size: usize) -> u8 {
-        let before = match self.kind {
-            b'R' | b'A' => size.saturating_sub(self.count),
-            _ => 0,
-        };
-        let at = index.wrapping_sub(before);
-        match self.symbols.get(at) {
-            Some(symbol) => code_of(*symbol).unwrap_or(BLANK),
-            None if at < self.count || matches!(self.kind, b'H' | b'A') => BLANK,
-            None => 0,
+    #[tactic(auto, using(crate::proofs::Filling::at_before, crate::proofs::Filling::at_after, crate::proofs::Filling::at_behind))]
+    pub fn code(self, index: usize, size: usize) -> u8
+        ensures { result ≡ slice_index_or (filled size self.entry.kind self.entry.count self.entry.symbols.now) index (fill self.entry.kind) }
+    {
+        if !is_at_end(self.kind) {
+            return self.own_code(index);
+        }
+        let before = size.saturating_sub(self.count);
+        if index < before {
+            fill_of(self.kind)
+        } else {
+            self.own_code(index - before)
+        }
+    }
+
+    /// Returns the code at an index of the text with the blanks that its line has lost, or else what fills it.
+    #[tactic(auto, using(crate::proofs::Filling::own, crate::proofs::Filling::lost, crate::proofs::Filling::beyond))]
+    fn own_code(self, at: usize) -> u8
+        ensures { result ≡ slice_index_or (codes_of self.entry.symbols.now self.entry.count) at (fill self.entry.kind) }
+    {
+        if at < self.symbols.len() {
+            code_or_blank(self.symbols[at])
+        } else if at < self.count {
+            BLANK
+        } else {
+            fill_of(self.kind)
         }
     }
 
     /// Returns the codes of the filled text as one number, if it is not too great.
-    pub fn number(self, size: usize) -> Option<i64> {
-        let mut number: i64 = 0;
+    #[tactic(auto, using(crate::proofs::Filling::are_too_many, crate::proofs::Filling::is_long))]
+    pub fn number(self, size: usize) -> Option<i64>
+        ensures { result ≡ kept (pos (number_of_codes (take size (filled size self.entry.kind self.entry.count self.entry.symbols.now)))) }
+    {
+        let mut number: u64 = 0;
         for index in 0..size {
-            number = product(number, 0o100)?.checked_add(i64::from(self.code(index, size)))?;
+            let Some(next) = with_digit(number, 0o100, self.code(index, size)) else {
+                return None;
+            };
+            number = next;
         }
-        Some(number)
+        Some(number as i64)
     }
 }
 
-fn is_kind(symbol: u8) -> bool {
-    matches!(symbol, b'H' | b'L' | b'R' | b'A' | b'C' | b'Z')
+/// Returns the code of a symbol, or that of a blank if it has none.
+fn code_or_blank(symbol: u8) -> u8
+    ensures { result ≡ code_or_blank symbol }
+{
+    code_of(symbol).unwrap_or(BLANK)
+}
+
+/// Returns the code that fills a text.
+fn fill_of(kind: u8) -> u8
+    ensures { result ≡ fill kind }
+{
+    if b"HA".contains(&kind) { BLANK } else { 0 }
+}
+
+/// Returns whether a text is at the end of what is filled.
+fn is_at_end(kind: u8) -> bool
+    ensures { result ≡ is_at_end kind }
+{
+    b"RA".contains(&kind)
+}
+
+fn is_kind(symbol: u8) -> bool
+    ensures { result ≡ is_kind symbol }
+{
+    b"HLRACZ".contains(&symbol)
+}
+
+/// Returns the column that is so many symbols behind another one.
+#[tactic(auto, using(crate::proofs::Columns::far_column))]
+fn column_after(line: &[u8], at: usize, size: usize) -> usize
+    ensures rest { drop result line.now ≡ drop size (drop at line.now) }
+    ensures column { result ≡ min (at + size) (2 ^ 64 - 1) }
+{
+    at.saturating_add(size)
 }
 
 /// Returns the text that begins at a column, if one does. One between two symbols is a text only where that is allowed.
-pub fn text_at(line: &[u8], at: usize, is_delimited: bool) -> Outcome<Option<DisplayText<'_>>> {
+#[tactic(auto, unfolding(crate::specs::Texts::text_at))]
+pub fn text_at(line: &[u8], at: usize, is_delimited: bool) -> Outcome<Option<DisplayText<'_>>>
+    ensures text { read_of line.now result ≡ text_at (72 - length line.now) is_delimited (drop at line.now) }
+    ensures end { IfOk result (λ found. IfSome found (λ text. text.end ≤ length line.now)) }
+{
     let (digits, count) = digits_of(tail(line, at), 9);
-    let start = at.saturating_add(digits);
-    match line.get(start) {
-        Some(kind) if !is_kind(*kind) => Ok(None),
-        Some(kind) if digits > 0 => {
-            Ok(Some(counted(line, at, *kind, start.saturating_add(1), count)?))
-        }
-        Some(kind) if is_delimited => delimited(line, at, *kind),
-        _ => Ok(None),
+    let start = column_after(line, at, digits);
+    let [kind, ..] = tail(line, start) else {
+        return Ok(None);
+    };
+    let first = column_after(line, start, 1);
+    if !is_kind(*kind) {
+        Ok(None)
+    } else if digits != 0 {
+        counted(line, at, *kind, first, count)
+    } else if is_delimited {
+        marked(line, at, *kind, first)
+    } else {
+        Ok(None)
     }
 }
 
-/// Returns the text between two equal symbols, if the one after its kind is no letter, digit or blank.
-fn delimited(line: &[u8], at: usize, kind: u8) -> Outcome<Option<DisplayText<'_>>> {
-    match tail(line, at.saturating_add(1)) {
-        [mark, rest @ ..] if !is_alphanumeric(*mark) && *mark != b' ' => {
-            let symbols = before_mark(rest, *mark, at)?;
-            let end = at.saturating_add(symbols.len()).saturating_add(3);
-            Ok(Some(DisplayText::new(kind, symbols, symbols.len(), end)))
-        }
-        _ => Ok(None),
+/// Returns the text between two equal symbols behind its kind, if the first one is no letter, digit or blank.
+#[tactic(auto, using(crate::proofs::Columns::between_marks))]
+fn marked(line: &[u8], at: usize, kind: u8, first: usize) -> Outcome<Option<DisplayText<'_>>>
+    ensures text { read_of line.now result ≡ marked kind (drop first line.now) }
+    ensures end { IfOk result (λ found. IfSome found (λ text. text.end ≤ length line.now)) }
+{
+    let [mark, rest @ ..] = tail(line, first) else {
+        return Ok(None);
+    };
+    if is_alphanumeric(*mark) || *mark == b' ' {
+        return Ok(None);
     }
+    let Some(size) = index_of(rest, *mark) else {
+        return Err(without_end(*mark, at));
+    };
+    let end = column_after(line, first, size.saturating_add(2));
+    Ok(Some(DisplayText::new(kind, &rest[..size], size, end)))
+}
+
+/// Returns how many symbols a text has before the first comma or blank.
+fn word_size(text: &[u8]) -> usize
+    ensures { result ≡ word_size text.now }
+{
+    text.iter()
+        .take_while(|symbol| !is_blank(**symbol) && **symbol != b',')
+        .count()
 }
 
 /// Returns the text of so many symbols.
-fn counted(line: &[u8], at: usize, kind: u8, first: usize, count: u32) -> Outcome<DisplayText<'_>> {
-    let wanted = count as usize;
-    let end = if wanted > 0 {
-        first.saturating_add(wanted)
+#[tactic(auto, using(crate::proofs::Columns::from_column))]
+fn counted(
+    line: &[u8],
+    at: usize,
+    kind: u8,
+    first: usize,
+    count: u32,
+) -> Outcome<Option<DisplayText<'_>>>
+    ensures text { read_of line.now result ≡ option_map Some (counted (72 - length line.now) count kind (drop first line.now)) }
+    ensures end { IfOk result (λ found. IfSome found (λ text. text.end ≤ length line.now)) }
+{
+    let text = tail(line, first);
+    let size = if count == 0 {
+        word_size(text)
     } else {
-        next_where(line, first, |symbol| is_blank(*symbol) || *symbol == b',')
+        count as usize
     };
-    if end > line.len().max(LONGEST) {
+    let lost = LONGEST.saturating_sub(line.len());
+    if size > text.len().saturating_add(lost) {
         return Err(Fault::new(Wording::ShortText).decimal(count).at(at));
     }
-    let end = end.min(line.len());
-    let symbols = line.get(first..end).unwrap_or(b"");
-    Ok(DisplayText::new(kind, symbols, wanted.max(symbols.len()), end))
+    let end = first.saturating_add(size).min(line.len());
+    let symbols = text.get(..size).unwrap_or(text);
+    Ok(Some(DisplayText::new(kind, symbols, size, end)))
 }
 
 /// Returns the symbols before a mark. Without it, a column has a fault.
-pub fn before_mark(text: &[u8], mark: u8, column: usize) -> Outcome<&[u8]> {
-    match cut(text, mark) {
-        (symbols, Some(_)) => Ok(symbols),
-        _ => Err(Fault::new(Wording::TextWithoutEnd).symbol(mark).at(column)),
+pub fn before_mark(text: &[u8], mark: u8, column: usize) -> Outcome<&[u8]>
+    ensures symbols { symbols_read result ≡ option_map (λ size. take size text.now) (index_of mark text.now) }
+    ensures within { IfOk result (λ symbols. length symbols.now < length text.now) }
+{
+    match index_of(text, mark) {
+        Some(size) => Ok(&text[..size]),
+        None => Err(without_end(mark, column)),
     }
+}
+
+/// Returns that a text at a column has no mark at its end.
+fn without_end(mark: u8, column: usize) -> Stop {
+    Fault::new(Wording::TextWithoutEnd).symbol(mark).at(column)
 }
 
 /// Returns that a symbol has no display code.
@@ -125,9 +238,25 @@ pub fn no_code(symbol: u8) -> Fault {
 }
 
 /// Returns that a column has a fault if a symbol of a text has no display code.
-pub fn are_in_code(symbols: &[u8], column: usize) -> Outcome {
-    match symbols.iter().find(|symbol| code_of(**symbol).is_none()) {
-        Some(symbol) => Err(no_code(*symbol).at(column)),
+pub fn are_in_code(symbols: &[u8], column: usize) -> Outcome
+    ensures { is_ok result ≡ are_in_code symbols.now }
+{
+    match first_without_code(symbols) {
+        Some(index) => Err(no_code(symbols[index]).at(column)),
         None => Ok(()),
     }
+}
+
+/// Returns the index of the first symbol that has no display code.
+fn first_without_code(symbols: &[u8]) -> Option<usize>
+    ensures index { result ≡ position has_no_code symbols.now }
+    ensures within { IfSome result (λ index. index < length symbols.now) }
+{
+    symbols.iter().position(|symbol| has_no_code(*symbol))
+}
+
+fn has_no_code(symbol: u8) -> bool
+    ensures { result ≡ has_no_code symbol }
+{
+    code_of(symbol).is_none()
 }

@@ -1,6 +1,7 @@
 //! The directives that name numbers, move the counters or say how the rest is meant.
 use crate::encoding::bits_of;
-use crate::scope::{CELLS, Scope};
+use crate::forms::short_word;
+use crate::scope::{CELLS, Scope, is_minus_zero};
 use crate::units::NAME_OF_LITERALS;
 use crate::values::{Base, Value};
 use pp_source::{
@@ -186,10 +187,13 @@ impl Scope {
         Ok(())
     }
 
-    /// IDENT names a program; a second one begins another program of the same source.
+    /// IDENT names a program; a second one, or one behind END, begins another program of the same source.
     pub fn name_program(&mut self, here: &Here, statement: Statement) -> Outcome {
         let (name, _) = cut(statement.operand.of(here.text), b',');
-        if self.programs.has_name {
+        if self.programs.has_ended {
+            self.programs.has_ended = false;
+            self.begin_unit()?;
+        } else if self.programs.has_name {
             self.end_unit(here)?;
             self.begin_unit()?;
         }
@@ -225,7 +229,7 @@ impl Scope {
         self.plain_row(here, false)
     }
 
-    /// END says where the program begins, if it has an operand.
+    /// END ends a program, and says where it begins if it has an operand.
     pub fn end(&mut self, here: &Here, statement: Statement) -> Outcome {
         if !statement.operand.is_empty() {
             let start = self.field(here, statement.operand, 12, None)?;
@@ -247,12 +251,11 @@ impl Scope {
             Err(Stop::At(..) | Stop::Follows) => CELLS as i64,
             Err(stop) => return Err(stop),
         };
-        if number < 0 && number > -0o100 {
-            let d = u16::try_from(number.wrapping_neg()).unwrap_or(0);
-            return self.put_instruction(here, minus, [u16::from(minus).wrapping_mul(0o100) | d, 0]);
+        let is_ones = is_minus_zero(operand.of(here.text));
+        match short_word(number, is_ones, small, minus) {
+            Some(word) => self.put(here, &[word]),
+            None => self.instruction(here, statement, other),
         }
-        let is_small = (0..0o100).contains(&number);
-        self.instruction(here, statement, if is_small { small } else { other })
     }
 }
 

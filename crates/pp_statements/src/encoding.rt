@@ -1,4 +1,9 @@
 //! The words of statements, and how they are put into cells.
+ghost use Rattle.std.specs.Prelude.{◌≡◌, true};
+ghost use Rattle.pp_statements.specs.Reading.{Gives};
+ghost use Rattle.pp_statements.specs.Values.{distance, text_in};
+
+use crate::forms::{Way, two_words};
 use crate::scope::{CELLS, Scope};
 use pp_decks::{is_empty, tail};
 use pp_notation::{Form, form_of, size_of};
@@ -8,10 +13,6 @@ use pp_source::{
 
 /// How many words a source makes, though only as many as a memory has can be right.
 const MOST_WORDS: usize = 100_000;
-/// How many cells a relative jump reaches, either way.
-const NEAR: i64 = 0o37;
-
-const SIZE: i64 = CELLS as i64;
 
 /// Returns the least and the most operands of a form, and what it takes.
 fn wanted(form: Form) -> (usize, usize, Wording) {
@@ -61,34 +62,24 @@ impl Scope {
             Form::Target => (self.distance(here, first, code)?, 0),
             Form::Alone | Form::D => (self.field(here, first, 6, Some(code))?, 0),
         };
-        let upper = u16::from(code).wrapping_mul(0o100);
-        Ok([upper | bits_of(d, 0o77), bits_of(m, 0o7777)])
+        Ok(two_words(code, d, m))
     }
 
     /// Returns d of a relative jump to a target; addresses go round after 7777.
-    fn distance(&mut self, here: &Here, target: Field, code: u8) -> Outcome<u64> {
+    fn distance(&mut self, here: &Here, target: Field, code: u8) -> Outcome<u64>
+        ensures { self.old.is_last ≡ true → Gives (λ d. d) result (distance self.old (text_in here.now target)) }
+    {
+        let (location, is_last) = (self.counters.location, self.is_last);
         let number = self.number(here, target, false)?;
-        if number <= -SIZE || number >= 2 * SIZE {
+        let Some(way) = Way::new(location, number) else {
             let fault = Fault::new(Wording::NoAddress).octal(number);
             return Err(fault.at(target.first));
+        };
+        match way.d() {
+            Some(d) => Ok(u64::from(d)),
+            None if is_last => Err(too_far(target, way, code)),
+            None => Ok(0),
         }
-        let cells = number
-            .wrapping_sub(self.counters.location)
-            .wrapping_add(SIZE / 2)
-            & (SIZE - 1);
-        let cells = cells.wrapping_sub(SIZE / 2);
-        if self.is_last && cells.wrapping_abs() > NEAR {
-            let fault = Fault::new(match cells > 0 {
-                true => Wording::FarOn,
-                false => Wording::FarBack,
-            });
-            let fault = fault.part(target).octal(cells.wrapping_abs());
-            let fault = fault.with(Argument::Instruction(code));
-            let fault = fault.with(Argument::Reaching(target, code));
-            return Err(fault.at(target.first));
-        }
-        let d = cells.wrapping_add(if cells < 0 { 0o77 } else { 0 });
-        Ok(u64::try_from(d & 0o77).unwrap_or(0))
     }
 
     /// Puts words into the cells from here on. Of lines that follow one another only the first is reported if they can't be.
@@ -136,6 +127,21 @@ impl Scope {
         self.output.wrong_from = Some(cell.wrapping_add(1));
         Ok(())
     }
+}
+
+/// Returns that the target of a relative jump is too far away.
+fn too_far(target: Field, way: Way, code: u8) -> Stop {
+    let (text, cells) = if way.on < way.back {
+        (Wording::FarOn, way.on)
+    } else {
+        (Wording::FarBack, way.back)
+    };
+    let fault = Fault::new(text)
+        .part(target)
+        .octal(i64::from(cells))
+        .with(Argument::Instruction(code))
+        .with(Argument::Reaching(target, code));
+    fault.at(target.first)
 }
 
 /// Returns that a cell has the word of a line.

@@ -3,6 +3,7 @@
 
 mod directives;
 mod encoding;
+mod forms;
 mod makers;
 mod performing;
 mod scope;

@@ -157,7 +157,8 @@ impl Scope {
     /// Returns the size, decimal, and the number of a field; the one without an expression is zero.
     fn bits_field(&mut self, here: &Here, item: Field, used: u32) -> Outcome<(u32, u64)> {
         let text = item.of(here.text);
-        let wrong = Stop::of(Wording::NoNumberOfBits, item);
+        let wrong = Fault::new(Wording::NoNumberOfBits).part_or_nothing(item);
+        let wrong = wrong.at(item.first);
         let end = end_of_size(text).ok_or(wrong)?;
         let size = self.bits_wanted(here, item.part(0, end), used)?;
         let size = u32::try_from(size).unwrap_or(0);

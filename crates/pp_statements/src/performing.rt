@@ -1,7 +1,7 @@
 //! The statements of a source, performed one after another.
 use crate::scope::Scope;
 use pp_source::{
-    Argument, Fault, Here, Operation, Outcome, Statement, Stop, Wording, is_operation,
+    Argument, Fault, Field, Here, Operation, Outcome, Statement, Stop, Wording, is_operation,
 };
 
 impl Scope {
@@ -24,6 +24,7 @@ impl Scope {
                 self.equate(here, statement, operation),
             Operation::Error(test) => self.error(here, statement, test),
             Operation::Ignored => self.plain_row(here, false),
+            Operation::SystemText if !here.line.system.is_empty() => self.plain_row(here, false),
             Operation::Name => self.name_program(here, statement),
             Operation::Base => self.set_base(here, statement),
             Operation::TextCode => self.set_code(here, statement),
@@ -66,9 +67,8 @@ impl Scope {
         }
         let fault = match operation {
             Operation::Inside => Fault::new(Wording::EndsNothing).part(name),
-            Operation::Refused(instead) => Fault::new(Wording::NotTaken)
-                .part(name)
-                .with(Argument::Text(instead)),
+            Operation::SystemText => not_taken(name, Wording::UseXtext),
+            Operation::Refused(instead) => not_taken(name, instead),
             _ if is_operation(statement.location.of(here.text)) => Fault::new(
                 Wording::LabelIsOperation,
             ).part(name)
@@ -82,6 +82,13 @@ impl Scope {
         };
         Stop::At(name.first, fault)
     }
+}
+
+/// Returns that an operation is not taken, and what to write instead.
+fn not_taken(name: Field, instead: Wording) -> Fault {
+    Fault::new(Wording::NotTaken)
+        .part(name)
+        .with(Argument::Text(instead))
 }
 
 /// Returns that a statement has a symbol that is not known yet, if one of its fields has: only the comment may have letters beyond

@@ -1,4 +1,10 @@
 //! What a pass knows at a line, and what it has made: its counters, its names, its cells, and the rows of the listing.
+ghost use Rattle.std.specs.Prelude.{◌≡◌};
+ghost use Rattle.pp_statements.specs.Forms.{field_of_bits, is_minus_zero};
+ghost use Rattle.pp_statements.specs.Reading.{Gives};
+ghost use Rattle.pp_statements.specs.Values.{count_in, number_field, text_in, value_in};
+
+use crate::forms::field_of;
 use crate::units::{Blocks, Layout, Literals, Unit};
 use crate::values::{Base, Expression, Value};
 use pp_decks::Span;
@@ -29,8 +35,8 @@ pub struct Cut {
     pub name: Field,
     /// It is the call of a macro.
     pub is_call: bool,
-    /// Where the name is of the operation that OPSYN gives another name to, in the text of the vocabulary; none of a macro.
-    pub renamed: Option<Span>,
+    /// OPSYN has given another name to an operation that is no macro.
+    pub has_renamed: bool,
 }
 
 /// A literal that an operand names: the column of the operand, and the address.
@@ -325,23 +331,32 @@ impl Scope {
     }
 
     /// Returns the value of an expression. Names count only from the lines above if that is asked.
-    pub fn value(&mut self, here: &Here, operand: Field, is_from_above: bool) -> Outcome<Value> {
-        let mut expression = Expression::new(self, here.text, operand, is_from_above);
-        let value = expression.value();
-        if let Some(digits) = expression.decimal {
+    pub fn value(&mut self, here: &Here, operand: Field, is_from_above: bool) -> Outcome<Value>
+        ensures { Gives (λ x. x.number) result (value_in self.old is_from_above (text_in here.now operand)) }
+    {
+        let mut decimal = None;
+        let value = Expression::new(self, here.text, operand, is_from_above).value(&mut decimal);
+        if let Some(digits) = decimal {
             let fault = Fault::new(Wording::DecimalWithoutBase);
-            self.warn(here, digits.first, fault.part(digits))?;
+            if self.warn(here, digits.first, fault.part(digits)).is_err() {
+                return Err(Stop::NoMemory);
+            }
         }
         value
     }
 
     /// Returns a number of an expression, which has at most 60 bits.
-    pub fn number(&mut self, here: &Here, operand: Field, is_from_above: bool) -> Outcome<i64> {
-        Ok(self.value(here, operand, is_from_above)?.number)
+    pub fn number(&mut self, here: &Here, operand: Field, is_from_above: bool) -> Outcome<i64>
+        ensures { Gives (λ n. n) result (value_in self.old is_from_above (text_in here.now operand)) }
+    {
+        let value = self.value(here, operand, is_from_above)?;
+        Ok(value.number)
     }
 
     /// Returns a number up to octal 7777 whose names are known from the lines above.
-    pub fn count(&mut self, here: &Here, operand: Field, least: i64) -> Outcome<i64> {
+    pub fn count(&mut self, here: &Here, operand: Field, least: i64) -> Outcome<i64>
+        ensures { Gives (λ n. n) result (count_in self.old least (text_in here.now operand)) }
+    {
         let number = self.number(here, operand, true)?;
         if number < least || number >= CELLS as i64 {
             let fault = Fault::new(Wording::NoNumberInRange);
@@ -398,7 +413,9 @@ impl Scope {
     }
 
     /// Returns a number without a name as one of so many bits.
-    pub fn number_field(&mut self, here: &Here, operand: Field, bits: u32) -> Outcome<u64> {
+    pub fn number_field(&mut self, here: &Here, operand: Field, bits: u32) -> Outcome<u64>
+        ensures { Gives (λ d. d) result (number_field self.old (text_in here.now operand) bits) }
+    {
         let number = self.number(here, operand, false)?;
         fitting(here, operand, number, bits, None)
     }
@@ -454,20 +471,31 @@ pub fn count_one(count: &mut u32) -> Outcome {
     Ok(())
 }
 
+/// Returns whether a text is minus zero, which is all ones.
+pub fn is_minus_zero(text: &[u8]) -> bool
+    ensures { result ≡ is_minus_zero text.now }
+{
+    matches!(text, b"-0")
+}
+
 /// Returns a number as one of so many bits: minus is the ones complement.
-fn fitting(here: &Here, operand: Field, number: i64, bits: u32, code: Option<u8>) -> Outcome<u64> {
-    let top = 1i64.wrapping_shl(bits).wrapping_sub(1);
-    if number > top || number < top.wrapping_neg() {
-        let fault = Fault::new(Wording::NumberDoesNotFit);
-        let fault = fault.octal(number).decimal(bits);
-        return Err(match code {
-            Some(code) => fault.with(Argument::Wider(operand, code)).at(operand.first),
-            None => fault.at(operand.first),
-        });
+fn fitting(here: &Here, operand: Field, number: i64, bits: u32, code: Option<u8>) -> Outcome<u64>
+    ensures { Gives (λ d. d) result (field_of_bits bits (is_minus_zero (text_in here.now operand)) number) }
+{
+    match field_of(number, bits, is_minus_zero(operand.of(here.text))) {
+        Some(field) => Ok(field),
+        None => Err(unfitting(operand, number, bits, code)),
     }
-    let is_minus = number < 0 || matches!(operand.of(here.text), b"-0");
-    let positive = number.wrapping_add(if is_minus { top } else { 0 });
-    Ok(u64::try_from(positive).unwrap_or(0))
+}
+
+/// Returns that a number is not one of so many bits.
+fn unfitting(operand: Field, number: i64, bits: u32, code: Option<u8>) -> Stop {
+    let fault = Fault::new(Wording::NumberDoesNotFit);
+    let fault = fault.octal(number).decimal(bits);
+    match code {
+        Some(code) => fault.with(Argument::Wider(operand, code)).at(operand.first),
+        None => fault.at(operand.first),
+    }
 }
 
 /// Returns a text as a number of so many bits.

@@ -3,7 +3,10 @@ use crate::encoding::index_of;
 use crate::scope::{CELLS, Named, Scope};
 use pp_decks::Span;
 use pp_notation::{Program, Slot, program_of};
-use pp_source::{Argument, Fault, Field, Here, Outcome, Place, Stop, Wording, is_alphanumeric};
+use pp_source::{
+    Argument, Fault, Field, Here, Index, Outcome, Place, Stop, Wording, is_alphanumeric,
+    number_of_name,
+};
 use std::alloc::{AllocError, Global};
 use std::mem::replace;
 
@@ -38,12 +41,15 @@ struct Placed {
 pub struct Blocks {
     /// First the nominal one and that of the literals.
     all: Vec<Block>,
+    names: Index,
     /// The blocks that USE * goes back to, the present one last.
     used: Vec<usize>,
     /// Where the blocks of all programs begin, as the pass before has found.
     before: Vec<Placed>,
+    names_before: Index,
     /// The same, as this pass has found.
     placed: Vec<Placed>,
+    names_placed: Index,
     /// How many programs are before the present one.
     unit: usize,
 }
@@ -74,18 +80,26 @@ impl Blocks {
     pub fn new(alloc: Global) -> Self {
         Blocks {
             all: Vec::new(alloc),
+            names: Index::new(alloc),
             used: Vec::new(alloc),
             before: Vec::new(alloc),
+            names_before: Index::new(alloc),
             placed: Vec::new(alloc),
+            names_placed: Index::new(alloc),
             unit: 0,
         }
     }
 
     /// Returns the blocks of the next pass, before its first program.
     pub fn next(self, alloc: Global) -> Self {
-        let Blocks { placed, .. } = self;
+        let Blocks {
+            placed,
+            names_placed,
+            ..
+        } = self;
         Blocks {
             before: placed,
+            names_before: names_placed,
             ..Blocks::new(alloc)
         }
     }
@@ -141,6 +155,11 @@ impl Literals {
     }
 }
 
+/// Returns the number by which the block of a program with a name is found.
+fn number_of_block(unit: usize, name: &[u8]) -> u64 {
+    number_of_name(b"", name).wrapping_add(unit as u64)
+}
+
 impl Placed {
     /// Returns whether this is the block of a program with a name.
     fn is(&self, unit: usize, name: &[u8], text: &[u8]) -> bool {
@@ -189,6 +208,7 @@ impl Scope {
         self.programs.start = None;
         self.output.cells = vec![in self.alloc; Slot::default(); CELLS]?;
         self.blocks.all.clear();
+        self.blocks.names.clear();
         self.blocks.used.clear();
         self.block_named(b"")?;
         self.block_named(NAME_OF_LITERALS)?;
@@ -201,6 +221,7 @@ impl Scope {
     pub fn restart_blocks(&mut self) -> Result<(), AllocError> {
         self.blocks.unit = 0;
         self.blocks.placed.clear();
+        self.blocks.names_placed.clear();
         self.programs.name.clear();
         self.begin_unit()
     }
@@ -221,23 +242,34 @@ impl Scope {
 
     /// Returns where a block begins, as the pass before has found.
     fn base_of(&self, name: &[u8]) -> i64 {
-        for placed in &self.blocks.before {
-            if placed.is(self.blocks.unit, name, &self.symbols.text) {
-                return placed.base;
-            }
-        }
-        0
+        let Blocks {
+            before,
+            names_before,
+            unit,
+            ..
+        } = &self.blocks;
+        let found = names_before.find(number_of_block(*unit, name), |at| {
+            before
+                .get(at)
+                .is_some_and(|placed| placed.is(*unit, name, &self.symbols.text))
+        });
+        let placed = found.and_then(|at| before.get(at));
+        placed.map_or(0, |placed| placed.base)
     }
 
     /// Returns the index of the block with a name, which may be a new one.
     fn block_named(&mut self, name: &[u8]) -> Result<usize, AllocError> {
-        for (index, block) in self.blocks.all.iter().enumerate() {
-            if self.symbols.text_of(block.name) == name {
-                return Ok(index);
-            }
+        let all = &self.blocks.all;
+        let found = self.blocks.names.find(number_of_block(0, name), |at| {
+            all.get(at)
+                .is_some_and(|block| self.symbols.text_of(block.name) == name)
+        });
+        if let Some(index) = found {
+            return Ok(index);
         }
         let base = self.base_of(name);
         let index = self.blocks.all.len();
+        self.blocks.names.add(number_of_block(0, name))?;
         self.blocks.all.push(Block {
             name: self.symbols.keep(name)?,
             base,
@@ -345,6 +377,8 @@ impl Scope {
         let mut base: i64 = 0;
         for block in &self.blocks.all {
             let name = block.name;
+            let number = number_of_block(unit, self.symbols.text_of(name));
+            self.blocks.names_placed.add(number)?;
             self.blocks.placed.push(Placed { unit, name, base })?;
             base = base.wrapping_add(block.end.wrapping_sub(block.base));
         }

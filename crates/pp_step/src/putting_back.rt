@@ -1,8 +1,9 @@
 //! Undoing a step: the numbers of its undo record go back to their places.
 
-ghost use Rattle.std.specs.Prelude.{◌≡◌, ◌<◌, ℕ, List, length, slice_set};
+ghost use Rattle.std.specs.Prelude.{◌≡◌, ◌<◌, ℕ, List, if◌then◌else◌, length, slice_set};
 ghost use Rattle.pp_machine.specs.{ChannelNumbers.state_number, Ranges.channel_count};
-ghost use Rattle.pp_step.specs.{Pairs.target_pairs, Pairs.FitsTarget, Step.pp_pairs, Step.FitsPp, View.pp_view, View.over};
+ghost use Rattle.pp_step.specs.Inner.{HasRegisters};
+ghost use Rattle.pp_step.specs.{Pairs.target_pairs, Pairs.Fits, Pairs.FitsTarget, Step.pp_pairs, Step.FitsPp, View.pp_view, View.over};
 
 use crate::cells::put_five_cells;
 use crate::channel_states::holding;
@@ -30,6 +31,10 @@ fn put_target(
     ensures { (pp : Pp) (frame : List ℕ) → pp_view pp memory.new channels.new central.new frame
         ≡ over (pp_view pp memory.old channels.old central.old frame) (target_pairs back.now) }
 {
+    // A comparison is faster than a table of jumps, and most steps end here.
+    if matches!(back.target, Target::Wait | Target::Nothing) {
+        return;
+    }
     match back.target {
         Target::Wait | Target::Nothing => {}
         Target::Cell => memory.set(back.address.get() as u16, back.value),
@@ -45,6 +50,21 @@ fn put_target(
             put_state(back.channel, back.state, channels);
             memory.set(back.address.get() as u16, back.value);
         }
+    }
+}
+
+/// Puts Q and the phase back. Most steps write neither, and as a function of its own this takes no instruction of theirs.
+#[inline(never)]
+fn put_transfer(back: &StepRecord, pp: &mut Pp)
+    requires { (size : ℕ) × Fits size back.now }
+    ensures { HasRegisters pp.new pp.old.p pp.old.a (if back.now.writes_q then back.now.q else pp.old.q)
+        (if back.now.writes_phase then back.now.phase else pp.old.phase) }
+{
+    if back.writes_q {
+        pp.q = back.q;
+    }
+    if back.writes_phase {
+        pp.phase = back.phase;
     }
 }
 
@@ -69,10 +89,7 @@ pub fn undo_short(
     if back.writes_a {
         pp.a = back.a.get();
     }
-    if back.writes_q {
-        pp.q = back.q;
-    }
-    if back.writes_phase {
-        pp.phase = back.phase;
+    if back.writes_q | back.writes_phase {
+        put_transfer(back, pp);
     }
 }

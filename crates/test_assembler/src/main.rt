@@ -1,39 +1,52 @@
-//! Assembles the sources of standard input, each ended by a line `----`, and writes what each one makes. A text whose first line has `++++`
-//! and a name is a common deck, which the sources after it may read.
+//! Assembles the sources of standard input, each ended by a line `----`, and writes a checksum of each text that one makes. A text whose
+//! first line has `++++` and a name is a common deck, which the sources after it may read.
 #![tactic(auto)]
 
 use pp_assembler::{Assembly, Text, assemble_with};
 use pp_disassembly::{disassemble, write_source};
 use pp_listing::{complaints_text, listing_text, words_text};
 use pp_notation::put_decimal;
+use sha2::{Digest, Sha256};
 use std::alloc::{AllocError, Global};
 use std::io;
 use std::io::{Read, Write};
 
-/// The line after a source, and after what it makes.
+/// The line after a source.
 const END: &[u8; 5] = b"----\n";
 /// What is before the name of a common deck.
 const DECK: &[u8; 4] = b"++++";
 
-/// Writes a source that assembles to the words of a program. Its code is what a processor reaches from the start.
-fn put_source(alloc: Global, out: &mut Vec<u8>, made: &Assembly) -> Result<(), AllocError> {
+/// Of how many sources, the first ones, the words are written.
+const IN_FULL: u32 = 10;
+/// How many digits of a checksum are written.
+const DIGITS: usize = 12;
+
+/// Returns a source that assembles to the words of a program. Its code is what a processor reaches from the start.
+fn source_text(alloc: Global, made: &Assembly) -> Result<Vec<u8>, AllocError> {
     let cells = made.program.cells();
     let statements = match made.program.start() {
         Some(start) => disassemble(alloc, cells, &[start])?,
         None => disassemble(alloc, cells, &[])?,
     };
-    let source = write_source(alloc, statements.as_slice())?;
-    out.extend_from_slice(source.as_slice())
+    write_source(alloc, statements.as_slice())
 }
 
-/// How many sources nothing is wrong with, and how many of these `pp_meaning` has the meaning of.
+/// Writes the first digits of the checksum of a text, and what follows them.
+fn put_sum(alloc: Global, out: &mut Vec<u8>, text: &[u8], after: &[u8]) -> Result<(), AllocError> {
+    let digits = hex::encode(alloc, Sha256::digest(text))?;
+    out.extend_from_slice(digits.as_bytes().get(..DIGITS).unwrap_or(b""))?;
+    out.extend_from_slice(after)
+}
+
+/// How many sources there are, how many nothing is wrong with, and how many of these `pp_meaning` has the meaning of.
 #[derive(Clone, Copy)]
 struct Counts {
+    all: u32,
     right: u32,
     meant: u32,
 }
 
-/// Writes what a source makes, and counts it.
+/// Writes the checksums of what a source makes: its faults, words, listing, and the source of its words if it has no fault. Counts it.
 fn put(
     alloc: Global,
     out: &mut Vec<u8>,
@@ -42,17 +55,22 @@ fn put(
     counts: &mut Counts,
 ) -> Result<(), AllocError> {
     let made = assemble_with(alloc, source, decks)?;
-    out.extend_from_slice(complaints_text(alloc, &made)?.as_slice())?;
-    out.extend_from_slice(words_text(alloc, &made)?.as_slice())?;
-    out.extend_from_slice(listing_text(alloc, &made)?.as_slice())?;
-    if made.messages.is_empty() {
-        put_source(alloc, out, &made)?;
-        counts.right = counts.right.saturating_add(1);
+    let words = words_text(alloc, &made)?;
+    if counts.all < IN_FULL {
+        out.extend_from_slice(words.as_slice())?;
     }
+    counts.all = counts.all.saturating_add(1);
+    put_sum(alloc, out, complaints_text(alloc, &made)?.as_slice(), b" ")?;
+    put_sum(alloc, out, words.as_slice(), b" ")?;
+    put_sum(alloc, out, listing_text(alloc, &made)?.as_slice(), b" ")?;
     if made.meaning.is_some() {
         counts.meant = counts.meant.saturating_add(1);
     }
-    out.extend_from_slice(END.as_slice())
+    if made.messages.is_empty() {
+        counts.right = counts.right.saturating_add(1);
+        return put_sum(alloc, out, source_text(alloc, &made)?.as_slice(), b"\n");
+    }
+    out.extend_from_slice(b"-\n")
 }
 
 /// Returns the common deck that a text is, if it is one.
@@ -73,11 +91,15 @@ fn put_counts(alloc: Global, out: &mut Vec<u8>, counts: Counts) -> Result<(), Al
     out.extend_from_slice(b" right sources have a meaning\n")
 }
 
-/// Writes what each source makes.
+/// Writes the checksums of all sources.
 fn put_all(alloc: Global, input: &[u8]) -> Result<Vec<u8>, AllocError> {
     let mut out = Vec::new(alloc);
     let mut decks = Vec::new(alloc);
-    let mut counts = Counts { right: 0, meant: 0 };
+    let mut counts = Counts {
+        all: 0,
+        right: 0,
+        meant: 0,
+    };
     let mut first: usize = 0;
     for at in 0..input.len() {
         let end = at.saturating_add(END.len());

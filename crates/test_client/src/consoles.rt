@@ -9,11 +9,10 @@ use pp_rig::{Rig, SetupFault};
 use std::alloc::{AllocError, Global};
 
 /// Performs one line, and writes its answer to standard output.
-fn show_line(rt: &HostRuntime, mut session: Session<Rig>) -> Option<()> {
+fn show_line(rt: &HostRuntime, session: &mut Session<Rig>) -> Option<()> {
     let command = parse(b"STEP").ok()??;
-    let done = perform(&mut session, &command, &mut Counted::new(rt.stdout())).ok()?;
+    let done = perform(session, &command, &mut Counted::new(rt.stdout())).ok()?;
     let _ = println!(rt; "done {done}");
-    drop(session);
     Some(())
 }
 
@@ -58,8 +57,8 @@ fn show_bytes(rt: &HostRuntime) -> Option<()> {
     Some(())
 }
 
-/// Makes each call with a session of its own.
-pub fn show(rt: &HostRuntime, session: Session<Rig>, summary: &Summary) -> Option<()> {
+/// Makes each call, the first one in a session.
+pub fn show(rt: &HostRuntime, session: &mut Session<Rig>, summary: &Summary) -> Option<()> {
     show_line(rt, session)?;
     show_troubles(rt)?;
     show_bytes(rt)?;

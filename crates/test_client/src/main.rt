@@ -81,21 +81,16 @@ fn answer_into(
 }
 
 /// Loads and watches, runs up to the store, and prints what was refused and where the run stopped.
-fn run_to_the_store(rt: &HostRuntime, mut session: Session<Rig>) -> Session<Rig> {
-    let loaded = load(&mut session)
-        && act(
-            &mut session,
-            Action::Watch(Watched::Cell { pp: 0, a: 0o50 }),
-        );
-    let refused = !act(&mut session, Action::SetP { pp: 0, v: 0o10000 });
+fn run_to_the_store(rt: &HostRuntime, session: &mut Session<Rig>) {
+    let loaded = load(session) && act(session, Action::Watch(Watched::Cell { pp: 0, a: 0o50 }));
+    let refused = !act(session, Action::SetP { pp: 0, v: 0o10000 });
     let _ = println!(rt; "loaded {loaded}, refused {refused}");
-    let stopped = run(&mut session, 25);
+    let stopped = run(session, 25);
     let _ = println!(rt; "turns {}, hit {}", stopped.turns, stopped.hit.is_some());
-    session
 }
 
 /// Goes back to just before the store, and forward again.
-fn go_back_and_forward(rt: &HostRuntime, mut session: Session<Rig>) -> Session<Rig> {
+fn go_back_and_forward(rt: &HostRuntime, session: &mut Session<Rig>) {
     let found = session.find_change(&[Place::Cell { pp: 0, a: 0o50 }], &mut Looks::new());
     let _ = println!(rt; "the latest change is {found:?} action back");
     let back = session.back(1).is_ok();
@@ -103,42 +98,81 @@ fn go_back_and_forward(rt: &HostRuntime, mut session: Session<Rig>) -> Session<R
     let forward = session.forward(1).is_ok();
     let after = session.machine().value(&Place::Cell { pp: 0, a: 0o50 });
     let _ = println!(rt; "back {back} to {before}, forward {forward} to {after}");
-    session
 }
 
 /// Performs a script whose answers go to standard output.
-fn serve_script(rt: &HostRuntime, mut session: Session<Rig>) -> Option<(Session<Rig>, Summary)> {
+fn serve_script(rt: &HostRuntime, session: &mut Session<Rig>) -> Option<Summary> {
     let script = b"BACK W\nDUMP PP 0\nDUMP CR\nGO\n".as_slice();
     let summary = serve(
-        &mut session,
+        session,
         &mut Counted::new(script),
         &mut Counted::new(rt.stdout()),
     )
     .ok()?;
     let _ = println!(rt; "lines {}, refused {}", summary.lines, summary.refused);
-    Some((session, summary))
+    Some(summary)
 }
 
 /// Performs a script whose answers go into a vector.
-fn keep_answers(rt: &HostRuntime, mut session: Session<Rig>) -> Option<()> {
+fn keep_answers(rt: &HostRuntime, session: &mut Session<Rig>) -> Option<()> {
     let mut answers = Counted::new(Vec::new(rt.alloc()));
-    answer_into(&mut session, b"BACK\nSTEP\n", &mut answers).ok()?;
+    answer_into(session, b"BACK\nSTEP\n", &mut answers).ok()?;
     let _ = println!(rt; "bytes {}", answers.device().len());
     Some(())
 }
 
-/// Does all of it with one session.
+/// Runs one session forward and back, and performs scripts in it.
+fn use_session(rt: &HostRuntime, session: &mut Session<Rig>) -> Option<Summary> {
+    run_to_the_store(rt, session);
+    go_back_and_forward(rt, session);
+    let summary = serve_script(rt, session)?;
+    keep_answers(rt, session)?;
+    Some(summary)
+}
+
+/// Shows one session at work.
+fn show_session(rt: &HostRuntime) -> Option<Summary> {
+    let mut session = session(rt.alloc())?;
+    use_session(rt, &mut session)
+}
+
+/// Shows a machine by itself.
+fn show_machine(rt: &HostRuntime) -> Option<()> {
+    let mut machine = machine(rt.alloc())?;
+    rigs::show(rt, &mut machine);
+    Some(())
+}
+
+/// Shows a change, and going back to it.
+fn show_change(rt: &HostRuntime) -> Option<()> {
+    let mut session = session(rt.alloc())?;
+    rigs::show_change(rt, &mut session);
+    Some(())
+}
+
+/// Shows settings.
+fn show_settings(rt: &HostRuntime) -> Option<()> {
+    let mut session = session(rt.alloc())?;
+    rigs::show_settings(rt, &mut session);
+    Some(())
+}
+
+/// Shows a console.
+fn show_console(rt: &HostRuntime, summary: &Summary) -> Option<()> {
+    let mut session = session(rt.alloc())?;
+    consoles::show(rt, &mut session, summary)
+}
+
+/// Makes each call.
 fn work(rt: &HostRuntime) -> Option<()> {
-    let ran = run_to_the_store(rt, session(rt.alloc())?);
-    let (served, summary) = serve_script(rt, go_back_and_forward(rt, ran))?;
-    keep_answers(rt, served)?;
+    let summary = show_session(rt)?;
     arithmetic::show(rt);
     parts::show(rt)?;
     steps::show(rt)?;
-    rigs::show(rt, machine(rt.alloc())?);
-    rigs::show_change(rt, session(rt.alloc())?);
-    rigs::show_settings(rt, session(rt.alloc())?);
-    consoles::show(rt, session(rt.alloc())?, &summary)
+    show_machine(rt)?;
+    show_change(rt)?;
+    show_settings(rt)?;
+    show_console(rt, &summary)
 }
 
 fn main(rt: HostRuntime) -> ExitCode {

@@ -15,7 +15,7 @@ fn show_undo(rt: &HostRuntime, rig: &mut Rig) {
     }
     let back = rig.act(&action);
     let (was, now) = (Rig::was(&back, &place), rig.value(&place));
-    rig.undo(back);
+    rig.undo(&back);
     let before = rig.value(&place);
     let _ = println!(rt; "refused {refused}, A {now} was {was:?}, undone {before}");
 }
@@ -36,26 +36,24 @@ fn show_getters(rt: &HostRuntime, rig: &Rig) {
 }
 
 /// Uses a machine by itself.
-pub fn show(rt: &HostRuntime, mut rig: Rig) {
-    show_undo(rt, &mut rig);
-    show_getters(rt, &rig);
-    drop(rig);
+pub fn show(rt: &HostRuntime, rig: &mut Rig) {
+    show_undo(rt, rig);
+    show_getters(rt, rig);
 }
 
 /// Performs an action in a session, and goes back to the change that it made.
-pub fn show_change(rt: &HostRuntime, mut session: Session<Rig>) {
+pub fn show_change(rt: &HostRuntime, session: &mut Session<Rig>) {
     let action = Action::SetA { pp: 0, v: 5 };
     if session.machine().admits(&action) {
         session.act(action);
     }
     let mut olds = [Old::default(); MOST_OLDS];
-    let listed = put_newest_old_values(&session, &mut olds, 0);
+    let listed = put_newest_old_values(session, &mut olds, 0);
     let _ = println!(rt; "listed {listed:?}");
     let (kept, capacity) = (session.kept(), session.capacity());
     let changed = session.back_to_change(&[Place::RegA { pp: 0 }]);
     let ahead = session.ahead();
     let _ = println!(rt; "kept {kept} of {capacity}, back {changed:?}, ahead {ahead}");
-    drop(session);
 }
 
 /// Asks a new session for more than it has kept or has ahead.
@@ -93,17 +91,16 @@ fn show_sets(rt: &HostRuntime, session: &mut Session<Rig>) {
 }
 
 /// Watches a place, stops watching it, and starts all processors anew.
-pub fn show_settings(rt: &HostRuntime, mut session: Session<Rig>) {
-    show_back_faults(rt, &mut session);
-    show_sets(rt, &mut session);
+pub fn show_settings(rt: &HostRuntime, session: &mut Session<Rig>) {
+    show_back_faults(rt, session);
+    show_sets(rt, session);
     let place = Watched::RegQ { pp: 1 };
-    let watched = act(&mut session, Action::Watch(place));
-    let unwatched = act(&mut session, Action::Unwatch(place));
-    let again = act(&mut session, Action::Unwatch(place));
-    let started = act(&mut session, Action::Deadstart);
+    let watched = act(session, Action::Watch(place));
+    let unwatched = act(session, Action::Unwatch(place));
+    let again = act(session, Action::Unwatch(place));
+    let started = act(session, Action::Deadstart);
     let p = session.machine().value(&Place::RegP { pp: 0 });
     let _ = println!(rt;
         "watched {watched}, unwatched {unwatched} and {again}, started {started} at {p}"
     );
-    drop(session);
 }

@@ -4,11 +4,12 @@ from argparse import Namespace
 from typing import List, Sequence, Tuple
 
 from ..failure import naming_line
-from ..language.cells import set_lines, word_of
+from ..language.cells import lines_of_cells, set_lines, word_of
 from ..language.listing import Listing, complain_of, is_listing, without_mark
 from ..language.printed import Columns
 from ..shell.command_line import Failure, Parser, bytes_of, cell, processor, read_lines, words_after, write_lines
 from ..shell.ending import complain, flush
+from .binary import packed_words, program_in, records_of, two_byte_words
 
 DESCRIPTION = """Writes the SET lines that load the words of a file into the cells of processor N from cell A on; after
 cell 7777 comes cell 0000. Without an option the file is text: octal numbers to 7777, one or many a line; what follows a *
@@ -28,31 +29,24 @@ def octal_words(lines: Sequence[str]) -> List[str]:
     return words
 
 
-def packed_words(data: bytes) -> List[str]:
-    """Returns the words of bytes that hold two words in three, the upper bits first. After an odd number of words the last
-    four bits are 0."""
-    bits = data.hex()
-    left = len(bits) % 3
-    if left == 2 or left == 1 and bits[-1] != "0":
-        raise Failure(f"{len(data)} (decimal) bytes do not end with a word of 12 bits")
-    return [f"{int(bits[at:at + 3], 16):04o}" for at in range(0, len(bits) - left, 3)]
+READERS = {"packed": packed_words, "two-bytes": two_byte_words}
 
 
-def two_byte_words(data: bytes) -> List[str]:
-    """Returns the words of bytes that hold each word in two, the upper bits first."""
-    if len(data) % 2:
-        raise Failure(f"{len(data)} (decimal) bytes are not two for each word")
-    for at in range(0, len(data), 2):
-        if data[at] > 0o17:
-            raise Failure(f"the two bytes from byte {at} (decimal, the first is 0) on have more than 12 bits")
-    return [f"{upper << 8 | lower:04o}" for upper, lower in zip(data[::2], data[1::2])]
-
-
-BINARY = {"packed": packed_words, "two-bytes": two_byte_words}
+def lines_of_binary(words: List[str]) -> Tuple[List[str], str]:
+    """Returns the SET lines of a program of a binary file, or what records the file has."""
+    if len(words) == 1:
+        return [record.row for record in records_of(bytes_of(words[0]), words[0])], ""
+    if len(words) != 3:
+        raise Failure("give a file, as load --binary FILE, or a processor, a file and a name, as load --binary 0 FILE 1AJ")
+    number, (path, name) = processor(words[0]), words[1:]
+    record = program_in(records_of(bytes_of(path), path), name, path)
+    return lines_of_cells(number, {at: f"{word:04o}" for at, word in record.cells.items()}), record.row
 
 
 def lines_of(asked: Namespace) -> Tuple[List[str], str]:
     """Returns the SET lines, and what is said of them."""
+    if asked.form == "binary":
+        return lines_of_binary(asked.words)
     is_listing_asked = asked.form == "listing"
     if (asked.columns or asked.trust) and not is_listing_asked:
         raise Failure(f"--{'columns' if asked.columns else 'trust'} is for --listing")
@@ -67,15 +61,17 @@ def lines_of(asked: Namespace) -> Tuple[List[str], str]:
         return listing.set_lines(number), f"{listing.counts()}{how}"
     (path,) = words_after(asked.words[2:], 1, "give a processor, a cell, one file")
     first = cell(asked.words[1])
-    words = BINARY[asked.form](bytes_of(path)) if asked.form in BINARY else octal_words(without_mark(read_lines(path)))
-    return set_lines(number, first, words), ""
+    if asked.form in READERS:
+        return set_lines(number, first, [f"{word:04o}" for word in READERS[asked.form](bytes_of(path))]), ""
+    return set_lines(number, first, octal_words(without_mark(read_lines(path)))), ""
 
 
 def main() -> None:
     parser = Parser(DESCRIPTION, "[--packed | --two-bytes | --listing [--columns A,W,T] [--trust]] N [A] [FILE]")
     parser.add_forms({"--packed": "the file is binary: two words in three bytes, the upper bits first",
                       "--two-bytes": "the file is binary: each word in two bytes, the upper bits first",
-                      "--listing": "the file is a listing, with addresses"})
+                      "--listing": "the file is a listing, with addresses",
+                      "--binary": "the file is a tape (.tap) or has words of 60 bits: list its records, or load its program NAME"})
     parser.add_argument("--columns", metavar="A,W,T", type=Columns.parse,
                         help="the columns of addresses, words and source lines of the listing, decimal, from 1; else guessed")
     parser.add_argument("--trust", action="store_true", help="load what is readable of a listing, and say what is in doubt")

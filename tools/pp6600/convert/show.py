@@ -19,8 +19,8 @@ def main() -> int:
     lines, status = symbols_of(asked).loading(script_lines(asked.script)), 0
     if asked.turn is not None:
         done, refusals = performed(words, lines)
-        tape, status = done.in_effect(), refusals.status()
-        lines = list(tape.lines(Position(0), tape.after_turn(asked.turn), with_watches=False))
+        tape = done.in_effect()
+        lines, status = list(tape.lines(Position(0), tape.after_turn(asked.turn), with_watches=False)), refusals.status()
     run = Session(words)
     status |= show_lines(run, lines, asked.stop)
     return max(run.end(), status)

@@ -27,8 +27,8 @@ class CardReader(Converter):
 
     def __init__(self, deck: Union[str, Iterable[Sequence[int]]] = (), equipment: str = "4", channel: int = 0o12,
                  busy: Union[int, str] = 0) -> None:
-        """The deck is its cards, each of up to 80 words, or the name of a file as for the option --deck. The reader is busy for so many
-        turns after a function, and before each card."""
+        """The deck is its cards, each of up to 80 words, or the name of a file as for the option --deck. The reader is busy for so
+        many turns after a function, and before each card."""
         super().__init__(equipment_of(equipment), channel, busy)
         self.deck = deck_of(deck) if isinstance(deck, str) else [tuple(card) for card in deck]
         self.start = ConverterState(Cards())

@@ -24,7 +24,8 @@ class Controller(Device):
         numbers = [one.equipment for one in equipments]
         twice = next((number for number in numbers if numbers.count(number) > 1), None)
         if twice is not None or not equipments:
-            raise Failure("a controller has one or more equipments" if twice is None else f"two equipments on one channel have number {twice}")
+            raise Failure("a controller has one or more equipments" if twice is None
+                          else f"two equipments on one channel have number {twice}")
         self.equipments, self.channel = equipments, channel
         self.start = ControllerState(tuple(one.start for one in equipments))
 

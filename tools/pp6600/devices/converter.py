@@ -1,5 +1,5 @@
-"""A 6681 data channel converter with one equipment of the 3000 series behind it. A program first connects the equipment, and then gives
-it functions, asks for its status, and moves words. docs/PYTHON.md has the codes, all from memory."""
+"""A 6681 data channel converter with one equipment of the 3000 series behind it. A program first connects the equipment, and then
+gives it functions, asks for its status, and moves words. docs/PYTHON.md has the codes, all from memory."""
 
 from __future__ import annotations
 
@@ -19,8 +19,8 @@ CODES = (CONNECT_BY_WORD, FUNCTION_BY_WORD, CONVERTER_STATUS, STATUS, INPUT_TO_E
 
 
 class ConverterState(NamedTuple):
-    """The state of the converter: the code in effect, what is connected, the last reject, and the state of the equipment, which is busy up
-    to a turn."""
+    """The state of the converter: the code in effect, what is connected, the last reject, and the state of the equipment, which is
+    busy up to a turn."""
 
     inner: Any
     code: int = 0

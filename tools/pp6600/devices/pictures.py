@@ -1,7 +1,7 @@
 """Pictures of devices: symbols and dots on screens, as SVG and as text for a terminal.
 
-A device that shows something has a method `picture(state)`, which returns a Picture. Equal pictures are the same SVG, byte for byte.
-The symbols are of strokes, and so is everything that is shown here."""
+A device that shows something has a method `picture(state)`, which returns a Picture. Equal pictures are the same SVG, byte for
+byte. The symbols are of strokes, and so is everything that is shown here."""
 
 from __future__ import annotations
 
@@ -45,8 +45,8 @@ class Mark(NamedTuple):
 
 
 class Picture(NamedTuple):
-    """What is on the screens of a device, from left to right; or without screens the lines of a page of paper, or of several pages, with a
-    form feed as the line between two."""
+    """What is on the screens of a device, from left to right; or without screens the lines of a page of paper, or of several pages,
+    with a form feed as the line between two."""
 
     screens: Tuple[FrozenSet[Mark], ...]
     lines: Tuple[str, ...] = ()
@@ -63,7 +63,8 @@ class Picture(NamedTuple):
 def joined(pictures: Sequence[Picture]) -> Picture:
     """Returns pictures as one, beside each other."""
     pages = (one.lines for one in pictures if one.lines)
-    return Picture(tuple(screen for one in pictures for screen in one.screens), tuple("\n\f\n".join(map("\n".join, pages)).split("\n")))
+    return Picture(tuple(screen for one in pictures for screen in one.screens),
+                   tuple("\n\f\n".join(map("\n".join, pages)).split("\n")))
 
 
 # ---- SVG
@@ -96,10 +97,12 @@ def paper_as_svg(pages: Sequence[Sequence[str]]) -> str:
     """Returns pages of paper as SVG, beside each other."""
     page_width, height = (COLUMNS + 2) * ACROSS_PAPER, (ROWS + 1) * DOWN_PAPER
     width = page_width * len(pages)
-    return "\n".join([f'<svg xmlns="http://www.w3.org/2000/svg" viewBox="0 0 {width} {height}" font-family="monospace" font-size="11">'
+    return "\n".join([f'<svg xmlns="http://www.w3.org/2000/svg" viewBox="0 0 {width} {height}" font-family="monospace" '
+                      f'font-size="11">'
                       f'<rect width="{width}" height="{height}" fill="#f6f4ea"/>',
                       *(f'<path d="M{page_width * at} 0V{height}" stroke="#15181a"/>' for at in range(1, len(pages))),
-                      *(f'<text x="{page_width * at + ACROSS_PAPER}" y="{DOWN_PAPER * number}" textLength="{ACROSS_PAPER * len(line)}" '
+                      *(f'<text x="{page_width * at + ACROSS_PAPER}" y="{DOWN_PAPER * number}" '
+                        f'textLength="{ACROSS_PAPER * len(line)}" '
                         f'xml:space="preserve">{escape(line)}</text>'
                         for at, page in enumerate(pages) for number, line in enumerate(page, 1) if line), "</svg>", ""])
 
@@ -119,8 +122,9 @@ MOST_CELLS, FEWEST_CELLS = 256, 16  # of a screen
 
 
 def braille(picture: Picture, width: int) -> List[str]:
-    """Returns a picture as lines of at most so many cells, the screens beside each other; paper as its lines. Its dots are those of braille symbols; a
-    symbol too small for strokes is a letter. A screen has 16, 32, 64 .. cells a line, so its symbols are at equal distances."""
+    """Returns a picture as lines of at most so many cells, the screens beside each other; paper as its lines. Its dots are those of
+    braille symbols; a symbol too small for strokes is a letter. A screen has 16, 32, 64 .. cells a line, so its symbols are at
+    equal distances."""
     if not picture.screens:
         return picture.last_lines(len(picture.lines))
     cells = MOST_CELLS

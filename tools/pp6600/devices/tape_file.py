@@ -20,7 +20,7 @@ def read_tape(path: str) -> List[Block]:
     """Returns the blocks of a tape file."""
     data = bytes_of(path)
     try:
-        return list(blocks_of(data))
+        return [words_of(own, place) for place, own in raw_records(data)]
     except ValueError as fault:
         raise Failure(f"{path} is no tape file: {fault}") from fault
 
@@ -35,8 +35,9 @@ def write_tape(path: str, blocks: Iterable[Block]) -> None:
         raise Failure(f"can't write {path}: {error.strerror}") from error
 
 
-def blocks_of(data: bytes) -> Iterator[Block]:
-    """Yields the blocks of a tape file; raises a ValueError that says what is wrong. The numbers of bytes are decimal."""
+def raw_records(data: bytes) -> Iterator[Tuple[int, bytes]]:
+    """Yields where each record of a tape file begins, and its bytes, none for a file mark; raises a ValueError that says what is
+    wrong. The numbers of bytes are decimal."""
     place = 0
     while place < len(data):
         size = number_at(data, place)
@@ -50,7 +51,7 @@ def blocks_of(data: bytes) -> Iterator[Block]:
         elif number_at(data, end) != size:
             raise ValueError(f"the record at byte {place} has {size} bytes, and after them another number")
         if size != GAP:
-            yield words_of(data[begin:begin + size], place)
+            yield place, data[begin:begin + size]
         place = end + 4
 
 

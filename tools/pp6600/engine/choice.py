@@ -10,7 +10,7 @@ from typing import List, Sequence, Tuple
 
 from ..failure import Failure
 
-PACKAGE = os.path.dirname(os.path.dirname(os.path.abspath(__file__)))
+PACKAGE = os.path.dirname(os.path.dirname(os.path.realpath(__file__)))  # which may be found by a link
 ABOVE = os.path.dirname(os.path.dirname(PACKAGE))  # the checkout, or where the tools are installed
 # A package of pip has the program and VERSION in itself.
 HOME = PACKAGE if os.path.exists(os.path.join(PACKAGE, "VERSION")) else ABOVE
@@ -20,7 +20,8 @@ NAMES = {"x86_64": ("pp6600", "pp6600-static"), "aarch64": ("pp6600-aarch64",), 
 # The library beside the programs, and what compilers link in its place.
 LIBRARIES = {"x86_64": ("libpp6600.so", "libpp6600.a"), "aarch64": ("libpp6600-aarch64.so", "libpp6600-aarch64.a"),
              "windows": ("pp6600.dll", "libpp6600.dll.a")}
-MACHINES = {("Linux", "x86_64"): "x86_64", ("Linux", "aarch64"): "aarch64", ("Windows", "AMD64"): "windows", ("Windows", "ARM64"): "windows"}
+MACHINES = {("Linux", "x86_64"): "x86_64", ("Linux", "aarch64"): "aarch64", ("Windows", "AMD64"): "windows",
+            ("Windows", "ARM64"): "windows"}
 MACHINE_HERE = MACHINES.get((platform.system(), platform.machine()), "")  # of another machine it is empty
 NAMES_HERE = NAMES.get(MACHINE_HERE, ())
 LIBRARY_HERE = LIBRARIES[MACHINE_HERE][0] if MACHINE_HERE else ""
@@ -39,9 +40,9 @@ def version() -> str:
 
 @functools.lru_cache(maxsize=None)
 def words_to_run(program: str) -> Tuple[str, ...]:
-    """Returns the words that run a simulator. For the launcher of a checkout or of a class it is the program that the launcher would
-    choose. If no program of one of these, of an installation or of a package starts, it is the one in Python, and standard error says
-    so."""
+    """Returns the words that run a simulator. For the launcher of a checkout or of a class it is the program that the launcher
+    would choose. If no program of one of these, of an installation or of a package starts, it is the one in Python, and standard
+    error says so."""
     if os.path.dirname(program) == "":
         return (program,)
     whole = os.path.realpath(program)

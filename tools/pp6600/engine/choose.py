@@ -23,8 +23,8 @@ def default_engine() -> str:
 
 
 def engine_of(name: str, words: Sequence[str]) -> Engine:
-    """Begins a session on an engine, which is named by its library, or as plain, or by the program pp6600, which has its library beside
-    it; the variable PP6600_ENGINE may name another for that. The words are the options of the program."""
+    """Begins a session on an engine, which is named by its library, or as plain, or by the program pp6600, which has its library
+    beside it; the variable PP6600_ENGINE may name another for that. The words are the options of the program."""
     if os.path.basename(name) == "pp6600":
         name = os.environ.get("PP6600_ENGINE") or name
     path = None if name == PLAIN else library_named(name)
@@ -68,6 +68,7 @@ def libraries_beside(name: str) -> List[str]:
     """Returns the paths of the libraries that belong to a program, the best first."""
     folder = os.path.dirname(os.path.abspath(name))
     led_to = os.path.dirname(os.path.realpath(name))  # by links
-    built = os.path.normpath(os.path.join(led_to, "..", "..", "..", "targets", "out"))  # where ./prove puts what it makes of crates/pp6600/out
+    # where ./prove puts what it makes of crates/pp6600/out
+    built = os.path.normpath(os.path.join(led_to, "..", "..", "..", "targets", "out"))
     places = (folder, os.path.join(folder, "dist"), os.path.join(folder, "lib"), led_to, built)
     return [path for path in (os.path.join(place, LIBRARY_HERE) for place in places) if LIBRARY_HERE and os.path.exists(path)]

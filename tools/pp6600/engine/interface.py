@@ -1,4 +1,5 @@
-"""What simulates, as the tools ask it: a session of the machine. The engines are the proved library, and the simulator in plain Python."""
+"""What simulates, as the tools ask it: a session of the machine. The engines are the proved library, and the simulator in plain
+Python."""
 
 from __future__ import annotations
 
@@ -16,8 +17,8 @@ FIRST = {"M": CELLS, "A": A, "P": P, "Q": Q, "PHASE": PHASE, "S": STATES, "H": R
          "CR CARD": CARD, "CR COLUMN": CARD + 1, "CR MODE": CARD + 2,
          "LP SYMBOLS": PAPER_LENGTH, "LP COLUMN": PAPER_COLUMN, "LP MODE": PAPER_COLUMN + 1, "LP": PAPER,
          "SLOT": SLOT, "W": WATCHES, "C": CENTRAL}
-# Of a form: the number at a place is inside or outside a range; one of some numbers changes; one of some places is written; a processor is
-# about to perform the instruction at an address; a processor waits; another alternative begins.
+# Of a form: the number at a place is inside or outside a range; one of some numbers changes; one of some places is written; a
+# processor is about to perform the instruction at an address; a processor waits; another alternative begins.
 INSIDE, OUTSIDE, CHANGES, WRITES, PERFORMS, WAITS, OR = range(7)
 MOST_TESTS, MOST_ALTERNATIVES = 8, 64  # of an alternative, and of a condition
 
@@ -52,7 +53,8 @@ class Records(NamedTuple):
     """Actions one after the other, mostly turns, with the numbers that they overwrote."""
 
     counts: Sequence[int]  # of each action how many numbers it overwrote
-    olds: bytes  # of all actions the places and the numbers, in turn, eight bytes each; where one has a place twice, the first counts
+    # of all actions the places and the numbers, in turn, eight bytes each; where one has a place twice, the first counts
+    olds: bytes
     is_watched: bool  # whether the last turn changed a watched number
 
     @property
@@ -62,6 +64,18 @@ class Records(NamedTuple):
     @property
     def numbers(self) -> Sequence[int]:
         return array("Q", self.olds)[1::2]
+
+
+class Columns(NamedTuple):
+    """Turns, by what their processors were about to do: of each number a column, with one of each turn."""
+
+    processor: Sequence[int]
+    p: Sequence[int]
+    a: Sequence[int]
+    q: Sequence[int]
+    phase: Sequence[int]
+    word: Sequence[int]  # in the cell P
+    m: Sequence[int]  # in the cell after that
 
 
 class Engine(Protocol):
@@ -79,7 +93,8 @@ class Engine(Protocol):
     def counts(self) -> Counts: ...
 
     def records(self, most: int, call: str = "turns") -> Records:
-        """Makes turns, at most so many. It ends at a change of a watched number. Or by "again" performs as many undone actions again."""
+        """Makes turns, at most so many. It ends at a change of a watched number. Or by "again" performs as many undone actions
+        again."""
 
     def origins(self, most: int) -> Tuple[List[Origins], Records]:
         """Makes turns as `records` does. Returns also where each number that they wrote comes from."""
@@ -88,15 +103,16 @@ class Engine(Protocol):
         """Returns the next turn, with where each number that its processor will write comes from. No turn is made."""
 
     def numbers_after(self, most: int, places: Sequence[int]) -> Tuple[List[int], bool]:
-        """Makes turns as `records` does. Returns the numbers at some places (1 to 16) after each, in turn, and whether a watched one changed."""
+        """Makes turns as `records` does. Returns the numbers at some places (1 to 16) after each, in turn, and whether a watched
+        one changed."""
 
     def until(self, condition: Sequence[Form], most: int) -> Tuple[int, bool]:
-        """Makes turns, at most so many, up to the first in which a condition comes to hold, whatever is watched. Returns how many they are,
-        and whether it does in the last one."""
+        """Makes turns, at most so many, up to the first in which a condition comes to hold, whatever is watched. Returns how many
+        they are, and whether it does in the last one."""
 
     def back_until(self, condition: Sequence[Form]) -> int:
-        """Goes back to the end of the last action before the newest in which a condition came to hold. Returns how many actions were
-        undone; 0 if there is none that can be undone."""
+        """Goes back to the end of the last action before the newest in which a condition came to hold. Returns how many actions
+        were undone; 0 if there is none that can be undone."""
 
     def back(self, count: int) -> bool:
         """Undoes actions, or by `forward` performs them again. Returns whether there were enough; if not, nothing is done."""

@@ -1,5 +1,5 @@
-"""The proved simulator as a library of C, called in this process by ctypes: `LibrarySession` has its calls. docs/LIBRARY.md and the header,
-pp6600.h, say what each call does."""
+"""The proved simulator as a library of C, called in this process by ctypes: `LibrarySession` has its calls. docs/LIBRARY.md and the
+header, pp6600.h, say what each call does."""
 
 from __future__ import annotations
 
@@ -11,10 +11,10 @@ from ctypes import byref, c_size_t, c_uint16, c_uint32, c_uint64
 from typing import Any, Iterator, List, NamedTuple, Optional, Sequence, Tuple
 
 from ..failure import Failure
+from .arguments import OutOfRange, bytes_of, checked, counted, forms_of, path_of, places_of, text_of
 from .choice import HOME, LIBRARY_HERE
 from .choose import libraries_beside
-from .interface import Counts, Form, Records, Rejection
-from .numbers_of_calls import checked, counted
+from .interface import Columns, Counts, Form, Records, Rejection
 from .origins import LINK_BYTES, Origins, origins_of
 
 DONE, ROOM, WATCHED, CLOSED, OPEN, NO_MEMORY, REFUSED, LIMIT, NOT_FOUND = range(9)
@@ -24,6 +24,7 @@ MOST_LINKS, LINKS_OF_TURN = 44, 8  # the most links of a turn, and more than mos
 MOST_CONTROL = 7  # the most control places of a turn
 LEAST_ROOM = 96  # bytes that the answer to a line that is no DUMP always fits in
 TEXT_ROOM, ANSWER_ROOM = 112, 1 << 16  # bytes
+NONE = object()  # that was given
 
 
 class Refused(Rejection):
@@ -80,13 +81,17 @@ class FormOfC(ctypes.Structure):
     _fields_ = [("kind", c_uint32), ("place", c_uint32), ("first", c_uint64), ("last", c_uint64)]
 
 
+RECORDED = ("turns", "again")  # the calls that record actions
 CALLS = ("open", "answer", "numbers", "counts", "turns", "again", "looks", "back", "forward", "close")
-LATER_CALLS = ("origins", "next_origins", "until", "back_until", "last_write")  # which a library before 5.2 does not have, or before 5.3
+# which an older library may lack
+LATER_CALLS = ("origins", "next_origins", "until", "back_until", "last_write", "columns")
 
 
 def load(path: Optional[str] = None) -> Any:
-    """Loads the library from this path, or from $PP6600_LIBRARY, or from where the tools are: a checkout, an installation, a package."""
-    path = path or os.environ.get("PP6600_LIBRARY") or next(iter(libraries_beside(os.path.join(HOME, "pp6600"))), None)
+    """Loads the library from this path, or from $PP6600_LIBRARY, or from where the tools are: a checkout, an installation, a
+    package."""
+    path = (path_of("path", path) or os.environ.get("PP6600_LIBRARY")
+            or next(iter(libraries_beside(os.path.join(HOME, "pp6600"))), None))
     return loaded(path or os.path.join(HOME, "dist", LIBRARY_HERE or "libpp6600.so"))
 
 
@@ -139,7 +144,7 @@ def instruction(code: int, path: Optional[str] = None) -> Tuple[str, int, int]:
 def room_for(kind: Any, count: int) -> Any:
     """Returns an array of C with so many elements. Fails if there is no memory for it."""
     try:
-        return (kind * counted(count))()
+        return (kind * count)()
     except (MemoryError, OverflowError):
         raise Failure(f"there is no memory for {count} numbers") from None
 
@@ -147,13 +152,16 @@ def room_for(kind: Any, count: int) -> Any:
 class LibrarySession:
     """A session: a machine with its undo history. It is used in a `with` block, or closed.
 
-    What is given and returned is plain numbers, so write 0o106 for an octal one; lines and their answers have octal digits. `history` is
-    1 to 10000 actions, `central` 32768, 65536 or 131072 words (decimal), `reader` and `printer` are channels from 0 to 0o13, and `deck` and
-    `panel` the bytes of their files. What can't be done raises Failure."""
+    What is given and returned is plain numbers, so write 0o106 for an octal one; lines and their answers have octal digits.
+    `history` is 1 to 10000 actions, `central` 32768, 65536 or 131072 words (decimal), `reader` and `printer` are channels from 0 to
+    0o13, and `deck` and `panel` the bytes of their files. What can't be done raises Failure, and an argument of a wrong type
+    TypeError; then nothing has changed. A session that has fewer actions than `back`, `forward` or `again` are asked for is no
+    failure: they return False or None."""
 
     def __init__(self, history: int = 10000, central: int = 131072, reader: int = 0o12, printer: int = 0o13, deck: bytes = b"",
                  panel: bytes = b"", path: Optional[str] = None) -> None:
         self._handle = Handle()
+        files = [part for data in (bytes_of("deck", deck), bytes_of("panel", panel)) for part in (data, c_size_t(len(data)))]
         library, self._at = load(path), byref(self._handle)
         self.calls = {name: functools.partial(getattr(library, f"pp6600_{name}"), self._at) for name in (*CALLS, *LATER_CALLS)
                       if hasattr(library, f"pp6600_{name}")}
@@ -166,15 +174,16 @@ class LibrarySession:
         self.most = -1
         self.passed: Sequence[Any] = ()
         self.size, self.answering = c_size_t(), (byref(self.text), c_size_t.from_param(ANSWER_ROOM), *self.counted)
-        self.searched: Tuple[Form, ...] = ()  # the latest condition, and as C has it
+        self.searched: Tuple[Tuple[int, ...], ...] = ()  # the latest condition, and as C has it
         self.forms: Any = (FormOfC * 0)(), c_size_t()
+        self.given: Any = NONE  # the latest places and condition, as they were given, if they can't change
+        self.condition: Any = NONE
         text, count, status = ctypes.create_string_buffer(TEXT_ROOM), c_size_t(), c_uint32()
         try:
             machine = checked("open", history, central, reader, printer)
         except Failure:
             raise Refused("pp6600: BAD ARGUMENTS", 2) from None
-        opened = library.pp6600_open(*machine, deck, c_size_t(len(deck)), panel, c_size_t(len(panel)),
-                                     self._at, text, c_size_t(len(text)), byref(count), byref(status))
+        opened = library.pp6600_open(*machine, *files, self._at, text, c_size_t(len(text)), byref(count), byref(status))
         if opened != DONE:
             raise Refused(text.raw[:count.value].decode("ascii"), status.value)
 
@@ -200,23 +209,29 @@ class LibrarySession:
     __del__ = close
 
     def answer(self, typed: bytes, room: int = 4096) -> Answers:
-        """Performs lines, and returns their answers. It asks with more room as long as an answer does not fit. At the limits of a call it
-        returns what was performed; it fails if the first line is longer than a call takes."""
-        texts, lines, refused, taken, size, status = [], 0, 0, 0, max(room, 1), ROOM
+        """Performs lines, and returns their answers. It asks with more room as long as an answer does not fit. At the limits of a
+        call it returns what was performed, and so it does where there is no memory for an answer; it fails if that is the first
+        line."""
+        typed, room = bytes_of("typed", typed), max(counted("room", room), 1)
+        texts, lines, refused, taken, size, status = [], 0, 0, 0, room, ROOM
         while status == ROOM:
-            left, into = typed[taken:], self.text if size <= len(self.text) else ctypes.create_string_buffer(size)
+            try:
+                into = self.text if size <= len(self.text) else ctypes.create_string_buffer(size)
+            except (MemoryError, OverflowError):
+                break
+            left = typed[taken:]
             status = self._call("answer", left, c_size_t(len(left)), into, c_size_t(size), *self.counted)
             more, count, performed, rejected = (number.value for number in self.answered)
             texts.append(into[:count])
             lines, refused, taken = lines + performed, refused + rejected, taken + more
-            size = max(2 * size, LEAST_ROOM) if more == 0 else max(room, 1)
-        if status == LIMIT and not taken:
-            raise Failure("a line is too long for the library")
+            size = max(2 * size, LEAST_ROOM) if more == 0 else room
+        if status != DONE and not taken:
+            raise Failure("a line is too long for the library" if status == LIMIT else "there is no memory for the answer")
         return Answers(b"".join(texts), lines, refused, taken)
 
     def answers(self, text: str) -> List[str]:
         """Performs lines, also beyond the limits of a call. Returns the lines of their answers."""
-        typed, found = text.encode("latin-1"), b""
+        typed, found = text_of("text", text).encode("latin-1"), b""
         while typed:
             answers = self.answer(typed, ANSWER_ROOM)
             typed, found = typed[answers.taken:], found + answers.text
@@ -224,6 +239,7 @@ class LibrarySession:
 
     def perform(self, typed: bytes) -> None:
         """Performs lines of actions. Fails if one is rejected."""
+        typed = bytes_of("typed", typed)
         self.size.value = len(typed)
         if self._call("answer", typed, self.size, *self.answering) != DONE or self.answered[3].value:
             raise Failure(f"the simulator refuses {typed.decode('latin-1')}")
@@ -231,6 +247,7 @@ class LibrarySession:
     def numbers(self, first: int, count: int) -> List[int]:
         """Returns the numbers at consecutive places."""
         place, = checked("numbers", first)
+        count = counted("count", count)
         into: ctypes.Array[c_uint64] = room_for(c_uint64, count)
         if self._call("numbers", place, into, c_size_t(count)) != DONE:
             raise Failure(f"the machine does not have the places {first} to {first + count - 1}")
@@ -261,10 +278,12 @@ class LibrarySession:
         return records
 
     def _recorded(self, call: str, most: int, pairs_of_turn: int) -> Tuple[int, Sequence[int], Records]:
-        """Makes a call that records actions, with room for so many pairs for each. Returns its status; of each action the processor and the
-        number of places, in turn; and what they overwrote."""
+        """Makes a call that records actions, with room for so many pairs for each. Returns its status; of each action the processor
+        and the number of places, in turn; and what they overwrote."""
+        if call not in RECORDED:
+            raise OutOfRange(f"call: {call!r} is none of {', '.join(RECORDED)}")
         at_most, = checked(call, most)
-        pairs, turns, used = pairs_of_turn * counted(most) + MOST_OLDS, c_size_t(), c_size_t()
+        pairs, turns, used = pairs_of_turn * most + MOST_OLDS, c_size_t(), c_size_t()
         if self.room != (most, pairs):  # it is kept for the next call
             self.room, self.rooms = (most, pairs), (room_for(c_uint32, 2 * most), room_for(c_uint64, 2 * pairs))
         made, olds = self.rooms
@@ -273,43 +292,51 @@ class LibrarySession:
         return status, of_turns, Records(of_turns[1::2], memoryview(olds).cast("B")[:16 * used.value].tobytes(), status == WATCHED)
 
     def origins(self, most: int) -> Tuple[List[Origins], Records]:
-        """As `turns`, in as few as there is room for. Returns each with where the numbers that it wrote come from, and what they overwrote."""
+        """As `turns`, in as few as there is room for. Returns each with where the numbers that it wrote come from, and what they
+        overwrote."""
         at_most, = checked("origins", most)
         pairs, links = PAIRS_OF_TURN * most + MOST_OLDS, LINKS_OF_TURN * most + MOST_LINKS
         made, of_links, olds = room_for(Made, most), room_for(ctypes.c_char, LINK_BYTES * links), room_for(c_uint64, 2 * pairs)
         turns, linked, used = c_size_t(), c_size_t(), c_size_t()
-        status = self._call("origins", at_most, made, c_size_t(most), of_links, c_size_t(links), olds, c_size_t(pairs), byref(turns),
-                            byref(linked), byref(used))
+        status = self._call("origins", at_most, made, c_size_t(most), of_links, c_size_t(links), olds, c_size_t(pairs),
+                            byref(turns), byref(linked), byref(used))
         turns_made = made[:turns.value]
-        records = Records([one.olds for one in turns_made], memoryview(olds).cast("B")[:16 * used.value].tobytes(), status == WATCHED)
+        records = Records([one.olds for one in turns_made], memoryview(olds).cast("B")[:16 * used.value].tobytes(),
+                          status == WATCHED)
         return list(turns_of(turns_made, of_links.raw[:LINK_BYTES * linked.value])), records
 
     def next_origins(self) -> Origins:
         """Returns the next turn, with where the numbers that its processor will write come from. No turn is made."""
         made, of_links, count = Made(), ctypes.create_string_buffer(LINK_BYTES * MOST_LINKS), c_size_t()
         control, places = (c_uint64 * MOST_CONTROL)(), c_size_t()
-        self._call("next_origins", byref(made), of_links, c_size_t(MOST_LINKS), byref(count), control, c_size_t(MOST_CONTROL), byref(places))
+        self._call("next_origins", byref(made), of_links, c_size_t(MOST_LINKS), byref(count), control, c_size_t(MOST_CONTROL),
+                   byref(places))
         return next(turns_of([made], of_links.raw[:LINK_BYTES * count.value]))._replace(control=control[:places.value])
 
     def last_write(self, first: int, count: int = 1) -> Optional[Tuple[int, Origins]]:
-        """Returns the newest action that can be undone and wrote one of so many places: how many actions are newer, and it with where the
-        numbers that it wrote come from; if it is no turn, its processor is 10. Returns None if there is none."""
+        """Returns the newest action that can be undone and wrote one of so many places: how many actions are newer, and it with
+        where the numbers that it wrote come from; if it is no turn, its processor is 10. Returns None if there is none."""
         newer, made, of_links = c_uint32(), Made(), ctypes.create_string_buffer(LINK_BYTES * MOST_LINKS)
-        status = self._call("last_write", *checked("last_write", first, count), byref(newer), byref(made), of_links, c_size_t(MOST_LINKS))
+        status = self._call("last_write", *checked("last_write", first, count), byref(newer), byref(made), of_links,
+                            c_size_t(MOST_LINKS))
         if status == REFUSED:
             raise Failure(f"the machine does not have the places {first} to {first + count - 1}")
         return (newer.value, next(turns_of([made], of_links.raw))) if status == DONE else None
 
     def looks(self, most: int, places: Sequence[int]) -> Tuple[List[List[int]], bool]:
-        """Performs turns as `turns` does. Returns the numbers at the places after each, and whether the last changed a watched number."""
+        """Performs turns as `turns` does. Returns the numbers at the places after each, and whether the last changed a watched
+        number."""
         numbers, is_watched = self.numbers_after(most, places)
         return [numbers[at:at + len(places)] for at in range(0, len(numbers), len(places))], is_watched
 
     def numbers_after(self, most: int, places: Sequence[int]) -> Tuple[List[int], bool]:
         """As `looks`, but the numbers are one after the other. What is passed for the same places is converted once."""
         at_most, = checked("looks", most)
-        if most > self.most or self.places != tuple(places):
-            self._make_room(most, tuple(places))
+        if places is not self.given or most > self.most:
+            chosen = places_of(places)
+            if most > self.most or self.places != chosen:
+                self._make_room(most, chosen)
+            self.given = places if type(places) is tuple else NONE
         status = self._call("looks", at_most, *self.passed)
         if status == REFUSED:
             raise Failure("looks are at 1 to 16 places that the machine has")
@@ -317,30 +344,46 @@ class LibrarySession:
 
     def _make_room(self, most: int, places: Tuple[int, ...]) -> None:
         """Makes room for the numbers at places after so many turns."""
-        chosen = [number.value for place in places for number in checked("looks", place)]
+        chosen = [number.value for place in places for number in checked("place", place)]
         width, room = len(places), most * len(places)
         into = room_for(c_uint64, room)
         self.places, self.most, self.into = places, most, memoryview(into).cast("B").cast("Q")
-        self.passed = byref((c_uint32 * width)(*chosen)), c_size_t.from_param(width), byref(into), c_size_t.from_param(room), self.counted[0]
+        self.passed = (byref((c_uint32 * width)(*chosen)), c_size_t.from_param(width), byref(into), c_size_t.from_param(room),
+                       self.counted[0])
+
+    def columns(self, most: int) -> Tuple[Columns, bool]:
+        """Performs turns as `turns` does. Returns what their processors were about to do, and whether the last changed a watched
+        number."""
+        at_most, = checked("columns", most)
+        rows, turns = room_for(c_uint64, 2 * most), c_size_t()
+        status = self._call("columns", at_most, rows, c_size_t(most), byref(turns))
+        written = memoryview(rows).cast("B")[:16 * turns.value].tobytes()
+        halves, words = array("H", written), array("I", written)
+        return Columns(halves[::8], halves[1::8], words[1::4], *(halves[at::8] for at in range(4, 8))), status == WATCHED
 
     def until(self, condition: Sequence[Form], most: int) -> Tuple[int, bool]:
-        """Performs turns, up to the first in which a condition comes to hold. Returns how many, and whether it does in the last one."""
+        """Performs turns, up to the first in which a condition comes to hold. Returns how many, and whether it does in the last
+        one."""
         found = self._search("until", condition, *checked("until", most))
         return self.answered[2].value, found
 
     def back_until(self, condition: Sequence[Form]) -> int:
-        """Goes back to the end of the last action before the newest in which a condition came to hold. Returns how many actions were
-        undone; 0 if there is none."""
+        """Goes back to the end of the last action before the newest in which a condition came to hold. Returns how many actions
+        were undone; 0 if there is none."""
         return self.answered[2].value if self._search("back_until", condition) else 0
 
     def _search(self, call: str, condition: Sequence[Form], *most: object) -> bool:
         """Makes a call that searches. Returns whether it found something. The latest condition is converted once."""
-        if self.searched != tuple(condition):
-            forms = [FormOfC(*(number.value for number in checked("form", *form))) for form in condition]
-            self.searched, self.forms = tuple(condition), ((FormOfC * len(forms))(*forms), c_size_t(len(forms)))
+        if condition is not self.condition:
+            given = forms_of(condition)
+            if self.searched != given:
+                forms = [FormOfC(*(number.value for number in checked("form", *form))) for form in given]
+                self.searched, self.forms = given, ((FormOfC * len(forms))(*forms), c_size_t(len(forms)))
+            self.condition = condition if type(condition) is tuple and all(type(form) is Form for form in condition) else NONE
         status = self._call(call, *self.forms, *most, self.counted[2])
         if status == REFUSED:
-            raise Failure("these are no tests of places that the machine has, or more than 64 alternatives, or more than 8 tests in one")
+            raise Failure("these are no tests of places that the machine has, or more than 64 alternatives, or more than 8 tests "
+                          "in one")
         return status == DONE
 
     def back(self, count: int) -> bool:

@@ -36,8 +36,8 @@ def options_of(words: Sequence[str]) -> Dict[str, Any]:
 
 
 def bytes_of(path: str, name: str) -> bytes:
-    """Returns the bytes of a file, up to one beyond the most that the program reads. No bytes would mean no file, so an empty file is an
-    empty line."""
+    """Returns the bytes of a file, up to one beyond the most that the program reads. No bytes would mean no file, so an empty file
+    is an empty line."""
     try:
         file = open(path, "rb")
     except IsADirectoryError:  # which can be opened, but not read

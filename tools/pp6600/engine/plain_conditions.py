@@ -1,5 +1,5 @@
-"""In which turns a condition comes to hold: the small answer of the simulator in plain Python, read straight from the definition. The tests
-compare it with the proved one."""
+"""In which turns a condition comes to hold: the small answer of the simulator in plain Python, read straight from the definition.
+The tests compare it with the proved one."""
 
 from __future__ import annotations
 
@@ -52,4 +52,5 @@ def holds(form: Form, done: Done) -> bool:
 
 def comes_to_hold(alternatives: Iterable[Sequence[Form]], done: Done) -> bool:
     """Returns whether one of some alternatives comes to hold in an action."""
-    return any(all(holds(form, done) for form in tests) and not all(is_met(form, done.old) for form in tests) for tests in alternatives)
+    return any(all(holds(form, done) for form in tests) and not all(is_met(form, done.old) for form in tests)
+               for tests in alternatives)

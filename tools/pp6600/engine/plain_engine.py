@@ -20,7 +20,8 @@ from .plain_conditions import Done, alternatives_of, comes_to_hold
 # The places of the flat order by ranges: the first one, and the place of the simulator that it is.
 RANGES: Sequence[Tuple[int, int]] = (
     (flat.CELLS, places.M), (flat.A, places.A), (flat.P, places.P), (flat.Q, places.Q), (flat.PHASE, places.PHASE),
-    (flat.STATES, places.STATE), (flat.REGISTERS, places.H), (flat.CLOCK, places.CLOCK), (flat.FRAME, places.FRAME), (flat.CARD, places.CARD),
+    (flat.STATES, places.STATE), (flat.REGISTERS, places.H), (flat.CLOCK, places.CLOCK), (flat.FRAME, places.FRAME),
+    (flat.CARD, places.CARD),
     (flat.PAPER_LENGTH, places.PAPER_LENGTH), (flat.PAPER, places.PAPER), (flat.SLOT, places.SLOT), (flat.CENTRAL, places.C))
 FIRST = [first for first, _ in RANGES]
 OWN = sorted((own, first) for first, own in RANGES)

@@ -1,7 +1,7 @@
 """Where each number that a turn writes comes from: an answer of the simulator's own, which the tests compare with the library's.
 
-What a step writes, `instructions` and `devices` say. Here each place of it gets its operation and what that reads, by the code of the
-instruction. Places are those of the simulator."""
+What a step writes, `instructions` and `devices` say. Here each place of it gets its operation and what that reads, by the code of
+the instruction. Places are those of the simulator."""
 
 from __future__ import annotations
 
@@ -9,28 +9,29 @@ from functools import partial
 from typing import Callable, Dict, List, Tuple
 
 from .origins import (
-    ACTED, AFTER1, AFTER2, AFTER5, AFTER_INDEXED, CENTRAL_AFTER, CLEARED, COMPLEMENT, COUNT_DOWN, COUNT_UP, COUNT_UP2, DIFFERENCE, FIRST, IN_BLOCK,
-    INDEXED, JOINED, LINE_END, LOGICAL_DIFFERENCE, LOGICAL_PRODUCT, LOW, LOW_ONE_LESS, LOW_ONE_MORE, LOW_SUM, LOWER_SIX, MOVED, NEXT_SLOT, NO_WORD,
-    ONE_LESS, ONE_MORE, PASSED, PROGRAM_ADDRESS, PUNCHED, RELATIVE, SHIFTED, SUM, UPPER_SIX, WAITED, WHOLE, WITHOUT_B0, WORD, ZERO, D, M, Origin, Origins, Reading)
+    ACTED, AFTER1, AFTER2, AFTER5, AFTER_INDEXED, CENTRAL_AFTER, CLEARED, COMPLEMENT, COUNT_DOWN, COUNT_UP, COUNT_UP2, DIFFERENCE,
+    FIRST, IN_BLOCK, INDEXED, JOINED, LINE_END, LOGICAL_DIFFERENCE, LOGICAL_PRODUCT, LOW, LOW_ONE_LESS, LOW_ONE_MORE, LOW_SUM,
+    LOWER_SIX, MOVED, NEXT_SLOT, NO_WORD, ONE_LESS, ONE_MORE, PASSED, PROGRAM_ADDRESS, PUNCHED, RELATIVE, SHIFTED, SUM, UPPER_SIX,
+    WAITED, WHOLE, WITHOUT_B0, WORD, ZERO, D, M, Origin, Origins, Reading)
 from .plain import places
 from .plain.devices import LINE_END as SYMBOL_OF_LINE_END
 from .plain.devices import READING, printer, reader
-from .plain.instructions import CODES, TWO_WORDS, PlainProcessor, Step, processor
+from .plain.instructions import CODES, TABLE, TWO_WORDS, PlainProcessor, Step, processor
 from .plain.machine import Machine, Part, Record, barrel
-from .plain.places import CARD, CARD_COLUMN, CELLS, CHANNELS, FRAME, FRAME_WORDS, PAPER, PAPER_COLUMN, PAPER_LENGTH, READER_MODE, STATE, C, H
+from .plain.places import (CARD, CARD_COLUMN, CELLS, CHANNELS, FRAME, FRAME_WORDS, PAPER, PAPER_COLUMN, PAPER_LENGTH, READER_MODE,
+                           STATE, C, H)
 
 Kind = Tuple[int, Tuple[Reading, ...]]
-# How A is made, by codes: of A, of d (and m, or the operand's cell), or of that alone.
-OF_A = {0o10: SHIFTED, 0o13: CLEARED, 0o16: SUM, 0o17: DIFFERENCE, 0o21: SUM, 0o12: LOGICAL_PRODUCT, 0o22: LOGICAL_PRODUCT,
-        0o11: LOGICAL_DIFFERENCE, 0o23: LOGICAL_DIFFERENCE,
-        **{code + more: operation for code in (0o30, 0o40, 0o50)
-           for more, operation in ((1, SUM), (2, DIFFERENCE), (3, LOGICAL_DIFFERENCE), (5, SUM))}}
-OF_OPERAND = {0o14: MOVED, 0o15: COMPLEMENT, 0o20: MOVED, **{code + more: operation for code in (0o30, 0o40, 0o50)
-                                                             for more, operation in ((0, MOVED), (6, ONE_MORE), (7, ONE_LESS))}}
+# The codes of each row of the instruction table, by its first name.
+ROWS = {names[:3]: [int(code, 8) for code in codes.split()] for codes, names, _ in TABLE}
+# How A is made, by codes: of A, and of d (and m, or the operand's cell); or of that alone.
+OF_A, OF_OPERAND = ({code: operation for name, operation in rows.items() for code in ROWS[name]} for rows in (
+    {"SHN": SHIFTED, "SCN": CLEARED, "ADN": SUM, "SBN": DIFFERENCE, "LPN": LOGICAL_PRODUCT, "LMN": LOGICAL_DIFFERENCE, "RAD": SUM},
+    {"LDN": MOVED, "LCN": COMPLEMENT, "AOD": ONE_MORE, "SOD": ONE_LESS}))
 LOW_OF = {SUM: LOW_SUM, ONE_MORE: LOW_ONE_MORE, ONE_LESS: LOW_ONE_LESS}
-BLOCKS = (0o61, 0o63, 0o71, 0o73)
-INDIRECT_CODES, INDEXED_CODES = range(0o40, 0o50), (0o01, 0o02, *range(0o50, 0o60))
-BY_A, BY_STATE = (0o04, 0o05, 0o06, 0o07, 0o26, 0o60, 0o62), (0o64, 0o65, 0o66, 0o67, 0o70, 0o72, 0o74, 0o75, 0o76, 0o77)
+BLOCKS, INDIRECT_CODES, INDEXED_CODES = ROWS["CRM"], range(0o40, 0o50), (0o01, 0o02, *range(0o50, 0o60))
+BY_A, BY_STATE = ([code for name in names.split() for code in ROWS[name]]
+                  for names in ("ZJN NJN PJN MJN EXN CRD CWD", "AJM IJM FJM EJM IAN OAN ACN DCN FAN FNC"))
 
 
 def constant(number: int) -> Kind:
@@ -117,7 +118,8 @@ class Looker:
         s, is_central = self.s, self.s.code in (0o61, 0o63)
         if place == s.P:
             is_cleared = ends and s.p == 0 and s.code == 0o71 and s.a > 0
-            return constant(1) if is_cleared else made(AFTER1, Reading(s.M(0))) if ends else made(AFTER5 if is_central else AFTER1, self.p)
+            return (constant(1) if is_cleared else made(AFTER1, Reading(s.M(0))) if ends
+                    else made(AFTER5 if is_central else AFTER1, self.p))
         if place == s.A:
             return made(CENTRAL_AFTER if is_central else COUNT_DOWN, self.a)
         if place == s.Q:
@@ -139,10 +141,12 @@ def of_processor(machine: Machine) -> List[Origin]:
     if s.phase:
         ends = s.PHASE in writes
         is_constant = {s.PHASE, STATE + s.d, *([s.M(s.p)] if ends else [])}
-        kinds = {place: constant(number) if place in is_constant else look.of_block(place, ends) for place, number in writes.items()}
+        kinds = {place: constant(number) if place in is_constant else look.of_block(place, ends)
+                 for place, number in writes.items()}
     else:
         effect = CODES[s.code][2](s) or {}
-        kinds = {place: constant(number) if place == STATE + s.d else look.of_instruction(place, s.P in effect) for place, number in writes.items()}
+        kinds = {place: constant(number) if place == STATE + s.d else look.of_instruction(place, s.P in effect)
+                 for place, number in writes.items()}
     return [Origin(place, *kind) for place, kind in kinds.items()]
 
 

@@ -1,5 +1,5 @@
-"""The keys of the panel and of a film's page: one table, so that a key that both have does the same in both. Each has a function of its
-own for an action. The help of both, and the tables of docs/PANEL.md and docs/FILM.md, are the rows of this table."""
+"""The keys of the panel and of a film's page: one table, so that a key that both have does the same in both. Each has a function of
+its own for an action. The help of both has the rows of this table."""
 
 from __future__ import annotations
 
@@ -13,7 +13,8 @@ EVENTS = {"Left": "ArrowLeft", "Right": "ArrowRight", "Up": "ArrowUp", "Down": "
 
 
 class HelpRow(NamedTuple):
-    """A row of the help: each key with its action, and a sentence for the panel and for the page; "" if it has none of these keys."""
+    """A row of the help: each key with its action, and a sentence for the panel and for the page; "" if it has none of these
+    keys."""
 
     actions: Dict[str, str]
     panel: str
@@ -33,7 +34,8 @@ def both(actions: Dict[str, str], text: str, *names: str) -> HelpRow:
 # Those that send lines of the console come first.
 ROWS = (
     HelpRow({"s": "on"}, "one turn on: FORWARD if something is ahead, else STEP", "one turn on; at the end it makes one"),
-    HelpRow({"b": "back", "Backspace": "back"}, "BACK: undoes the newest action", "back by one turn, or by one line that makes none"),
+    HelpRow({"b": "back", "Backspace": "back"}, "BACK: undoes the newest action",
+            "back by one turn, or by one line that makes none"),
     both({"S": "round-on"}, "on by a round of turns, 12"),
     both({"B": "round-back"}, "back by a round of turns"),
     both({"n": "next-turn"}, "on to the next turn of the chosen processor"),
@@ -74,6 +76,7 @@ ROWS = (
     HelpRow({" ": "play", "+": "faster", "-": "slower"}, "", "play or pause; faster; slower"),
     HelpRow({",": "script-line-before", ".": "next-script-line"}, "", "to the line of the script before; to the next one"),
     HelpRow({"}": "run-to", "{": "run-back"}, "", "on, and back, to where P is at the chosen cell, or to a breakpoint"),
+    HelpRow({"*": "breakpoint"}, "", "set a breakpoint at the chosen cell, or take it away"),
     HelpRow({"e": "set"}, "", "set the chosen number to another one"),
     HelpRow({"O": "barrel"}, "", "fold the picture of the barrel away, or unfold it"),
     HelpRow({"z": "projector"}, "", "large, for a projector; again, as before"),
@@ -83,7 +86,8 @@ PAGE: Dict[str, str] = {key: action for row in ROWS if row.page for key, action 
 
 
 def for_page() -> Dict[str, object]:
-    """Returns what the page has to know: the action of each key, by the name of the key in a browser's events; and the rows of its help."""
+    """Returns what the page has to know: the action of each key, by the name of the key in a browser's events; and the rows of its
+    help."""
     return {"actions": {EVENTS.get(key, key): action for key, action in PAGE.items()},
             "help": [(row.shown(), row.page) for row in ROWS if row.page]}
 

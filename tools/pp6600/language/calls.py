@@ -1,5 +1,5 @@
-"""The subroutines that a processor is in: its calls that have not returned, as `Stack` has them, and what is said of each. In a block
-transfer P is the cell of the next word, and no jump."""
+"""The subroutines that a processor is in: its calls that have not returned, as `Stack` has them, and what is said of each. In a
+block transfer P is the cell of the next word, and no jump."""
 
 from __future__ import annotations
 
@@ -17,8 +17,8 @@ if TYPE_CHECKING:
 
 
 class SubroutineCall(NamedTuple):
-    """A subroutine that was called and has not returned, and the last write of its return word and of its jump back, if that was after
-    its RJM."""
+    """A subroutine that was called and has not returned, and the last write of its return word and of its jump back, if that was
+    after its RJM."""
 
     call: Call
     overwritten: Optional[Step]

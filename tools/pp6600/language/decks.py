@@ -1,4 +1,5 @@
-"""The texts that a source has: the common decks that it names by XTEXT or *CALL, files in a folder, and system texts, each a file."""
+"""The texts that a source has: the common decks that it names by XTEXT or *CALL, files in a folder, and system texts, each a
+file."""
 
 import os
 from typing import Iterator, List, Optional, Sequence
@@ -26,9 +27,9 @@ def text_of(name: str, lines: Sequence[str]) -> Text:
 
 
 def decks_of(folder: Optional[str], lines: Sequence[str]) -> List[Text]:
-    """Returns the common decks in a folder whose names are in lines, or in those of such a deck: files with the name of the deck, whatever
-    is after a point, in letters of either case. Without a folder there is none. With one there is a deck without a name too, which no line
-    can read: so a deck that is not there is said to be missing in the folder."""
+    """Returns the common decks in a folder whose names are in lines, or in those of such a deck: files with the name of the deck,
+    whatever is after a point, in letters of either case. Without a folder there is none. With one there is a deck without a name
+    too, which no line can read: so a deck that is not there is said to be missing in the folder."""
     try:
         names = [] if folder is None else sorted(os.listdir(folder))
     except OSError as error:

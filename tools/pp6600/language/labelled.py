@@ -40,7 +40,8 @@ def pieces_of(lines: Sequence[str]) -> Iterator[Piece]:
 
 
 def usable(labels: Mapping[int, Sequence[str]]) -> Dict[int, str]:
-    """Returns the first label of each address that can be a symbol, is no other address's, and is none of those that the library makes."""
+    """Returns the first label of each address that can be a symbol, is no other address's, and is none of those that the library
+    makes."""
     found: Dict[int, str] = {}
     for address, names in sorted(labels.items()):
         name = next((name.upper() for name in names if SYMBOL.fullmatch(name.upper()) and len(name) <= LONGEST

@@ -1,5 +1,5 @@
-"""The notation of sources, docs/ASSEMBLER.md: the names of operations, and the fields of a line. What they mean only the library's assembler
-knows."""
+"""The notation of sources, docs/ASSEMBLER.md: the names of operations, and the fields of a line. What they mean only the library's
+assembler knows."""
 
 from typing import Dict, List, NamedTuple, Optional, Sequence
 
@@ -55,7 +55,7 @@ def size_of(code: int) -> int:
 
 def end_of_text(operand: str, at: int) -> Optional[int]:
     """Returns where the text that begins at a column ends; None if none begins there."""
-    counted, delimited = COUNTED.match(operand, at), DELIMITED.match(operand, at) if operand.startswith("=") else None
+    counted, delimited = COUNTED.match(operand, at), DELIMITED.match(operand, at) if operand[at - 1:at] == "=" else None
     if counted:
         return counted.end() + (int(counted[1]) or len(re.split("[ \t,]", operand[counted.end():], maxsplit=1)[0]))
     end = operand.find(delimited[1], delimited.end()) if delimited else -1

@@ -19,7 +19,8 @@ INDENT = "  "
 STATE_WORDS = ("INACTIVE", "EMPTY", "FULL", "FUNCTION")
 NOTE = re.compile(r"[ \t]*([*].*)?\r?")
 Parts = Tuple[int, ...]
-Task = Tuple[Optional[Step], Place, int, Optional[Parts]]  # a step that is to be shown, its place, how deep, and the parts that are wanted
+# a step that is to be shown, its place, how deep, and the parts that are wanted
+Task = Tuple[Optional[Step], Place, int, Optional[Parts]]
 Shown = Tuple[Optional[Step], str]  # a step, if it was searched, and its line
 
 
@@ -58,11 +59,12 @@ class Writer:
     def __init__(self, tape: Tape, words: Sequence[str], symbols: Any = AllSymbols(), with_reasons: bool = False) -> None:
         """The words are the program and its options, which name the deck file and the panel file."""
         self.tape, self.symbols, self.with_reasons = tape, symbols, with_reasons
-        self.deck, self.panel = (WordFile(words[words.index(option) + 1] if option in words else None) for option in ("--deck", "--panel"))
+        self.deck, self.panel = (WordFile(words[words.index(option) + 1] if option in words else None)
+                                 for option in ("--deck", "--panel"))
 
     def rows(self, root: Step, now: Optional[str] = None) -> Iterator[Shown]:
-        """Yields the lines of a step and of all that it came from, each with its step; None for one that was not searched. P advances
-        after it is written; now it has this number."""
+        """Yields the lines of a step and of all that it came from, each with its step; None for one that was not searched. P
+        advances after it is written; now it has this number."""
         seen: Set[int] = set()  # steps, and links that were followed
         todo: List[Task] = [(root, root.place, 0, None)]
         while todo:
@@ -83,7 +85,8 @@ class Writer:
 
     @staticmethod
     def wanted(step: Step, parts: Optional[Parts]) -> List[Link]:
-        """Returns the links of a step, if these parts of its word are wanted: of a word that was joined only those that wrote them."""
+        """Returns the links of a step, if these parts of its word are wanted: of a word that was joined only those that wrote
+        them."""
         if parts is None or step.cause != TURN or not step.write.is_joined:
             return step.links
         places = [place for part, (place, _) in enumerate(step.write.sources) if part in parts]
@@ -111,7 +114,7 @@ class Writer:
     def by_set(self, step: Step) -> List[str]:
         line, word = step.detail
         if isinstance(line, SourceLine):
-            return [f"FROM {line.origin[word]}"]
+            return [f"FROM {line.origin(word)}"]
         if isinstance(line, ReplyLine):
             return [f"DEVICE {line.origin}"]
         return [f"SET LINE {line.origin} WORD {word} (decimal)"]

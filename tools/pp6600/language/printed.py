@@ -1,23 +1,29 @@
 """The parts of the lines of a printed listing: error flag, address, words and source line. The columns of these are found from the
 addresses that go on where the words of the line before end; if there are none, the first number of a line is its address."""
 
+import functools
 import re
 from itertools import takewhile
-from typing import Iterable, Iterator, List, NamedTuple, Optional, Sequence, Set, Tuple
+from typing import Dict, Iterable, Iterator, List, NamedTuple, Optional, Sequence, Tuple
 
 from ..failure import Failure
-from .notation import BLOCKS, CODES, DIRECTIVES, FIRST_OF_COMMENTS, INSIDE, LONG_FORMS, MAKERS, OF_LINES, REFUSED, SUBR, TAB
+from .notation import (BLOCKS, CODES, DIRECTIVES, FIRST_OF_COMMENTS, INSIDE, LONG_FORMS, MAKERS, OF_LINES, REFUSED, SUBR, TAB,
+                       size_of, statement_of)
+from .notation import parts_of as operands_of
 
 WORD = re.compile("[0-7]{4}[bB]?")
 SHORT = re.compile("[0-7]{1,4}[bB]?")  # what is a word where zeros before it are left out
-ADDRESS = re.compile("(>?)([0-7]{1,4})[bB]?")  # a > marks where words are loaded that are assembled for another place
+# a > marks where words are loaded that are assembled for another place
+ADDRESS = re.compile("(>?)(?:00(?=[0-7]{4}))?([0-7]{1,4})[bB]?")
+# before each address with words, or first
+NUMBERS = re.compile(r"\s*(?:{0}|(?:\S+\s+){{1,2}}{0}\s+{0})(?!\S)".format(">?(?:00)?[0-7]{1,4}[bB]?"))
 ALMOST = re.compile(r"(?=(?:\D*\d){2})\S{3,5}|\d\S{0,5}")  # a number that was read wrongly, as 14O5 or 14.5
 SPECK = re.compile(r"[^\sA-Za-z0-9*]")
 FLAG = re.compile("[A-Z]{1,3}")
 NAME = re.compile(r"[^\W\d_][^\s,+\-*/^\"()_]*:?|[.#%@&!?<>\[\];\\'][^\s,+\-*/^\"()_]*:?")
 MOST_BEFORE = 2  # numbers before an address: a carriage control and a line number
-GAP = 3  # blanks between a carriage control and the address
 FIRST_OF_OPERATIONS = 2  # the first column of a source line in which an operation may begin
+USUAL = 6  # the first column of an operation behind a label, if it is one that is not known
 MOST_OTHERS = 8  # one line of so many may have its fields in other columns
 OPERATIONS = frozenset((*CODES, *DIRECTIVES, *BLOCKS, *INSIDE, *OF_LINES, *REFUSED, SUBR))
 WITH_WORDS = frozenset((*CODES, *MAKERS, *LONG_FORMS, SUBR, "LIT"))
@@ -85,9 +91,10 @@ class Run(NamedTuple):
 
 
 class Parts(NamedTuple):
-    """The parts of a line: all of it; the error flag; the address, and that to which the words are loaded; what is in the place of the
-    words; the source line, the column at which it begins, and whether that is the column of source lines; and the fields of the source
-    line: the operand has the comment after it, and the statement is the line without its label, in the columns of sources."""
+    """The parts of a line: all of it; the error flag; the address, and that to which the words are loaded; what is in the place of
+    the words; the source line, the column at which it begins, and whether that is the column of source lines; and the fields of the
+    source line: the operand has the comment after it, and the statement is the line without its label, in the columns of
+    sources."""
 
     line: str
     flag: Optional[Token]
@@ -103,9 +110,20 @@ class Parts(NamedTuple):
     statement: str = ""
 
     @property
+    def source(self) -> str:
+        """The source line in the columns of sources."""
+        label, rest = f" {self.label}" if self.label else "", self.statement
+        return f"{label}{rest[len(label):]}" if not rest[:len(label) + 1].strip() else f"{label} {rest.lstrip()}"
+
+    @property
+    def shown(self) -> str:
+        """The source line in its own columns, if it begins where all do."""
+        return (self.text if self.is_aligned else f" {self.label:8} {self.operation:6} {self.operand}").rstrip()
+
+    @property
     def expression(self) -> str:
         """The operand without its comment."""
-        return next(iter(self.operand.split()), "")
+        return ",".join(operands_of(statement_of(self.source).operand))
 
     @property
     def starts(self) -> List[int]:
@@ -113,6 +131,7 @@ class Parts(NamedTuple):
         return [found.start() for found in re.finditer(r"\S+", self.text)] if self.is_aligned else []
 
 
+@functools.lru_cache(maxsize=1 << 13)
 def tokens_of(line: str) -> List[Token]:
     return [Token(found[0], found.start(), found.end()) for found in re.finditer(r"\S+", line)]
 
@@ -155,27 +174,25 @@ def continuity(runs: Iterable[Run]) -> int:
     return sum(one.after == other.first for one, other in zip(coded, coded[1:]))
 
 
-def order(runs: Sequence[Run]) -> Tuple[int, float]:
-    """Returns how well the addresses of lines go on: how many do, and, of as many, which part."""
-    return continuity(runs), continuity(runs) / max(len(with_words(runs)), 1)
+def order(runs: Sequence[Run]) -> Tuple[int, float, int]:
+    """Returns how well the addresses of lines go on: how many do, and, of as many, which part; and how many lines have whole
+    words."""
+    whole = sum(all(WORD.fullmatch(word.text) for word in run.words) for run in with_words(runs))
+    return continuity(runs), continuity(runs) / max(len(with_words(runs)), 1), whole
 
 
-def has_carriage_control(tokens: Sequence[Token]) -> bool:
-    """Returns whether a line alone begins with a digit that moves the paper of a printer."""
-    return len(tokens) > 2 and tokens[0].start == 0 and tokens[0].text in ("0", "1") and tokens[1].start > GAP
-
-
-def guessed(texts: Iterable[str]) -> Optional[Columns]:
-    """Returns the columns of a listing; None if its lines have none in common."""
+def guessed(texts: Iterable[str]) -> List[Optional[Columns]]:
+    """Returns the columns of a listing, None if its lines have none in common; and others that it has if it leaves addresses
+    out."""
     lines = [tokens_of(text) for text in texts]
     plain = first_runs(lines)
     every = [run for tokens in lines for at in range(MOST_BEFORE + 1) if (run := run_from(tokens, at))]
     ends = sorted({run.token.end_of_digits for run in with_words(every)})
     found = [([run for run in every if run.token.end_of_digits == end], end) for end in ends]
-    if len(with_words(plain)) == 1 and any(map(has_carriage_control, lines)):
-        return next((columns_of(runs, end) for runs, end in found if runs[0].token.start), None)
     runs, end = max(found, key=lambda pair: order(pair[0]), default=([], 0))
-    return columns_of(runs, end) if order(runs) > order(plain) or are_aligned(plain, end) else None
+    first = columns_of(runs, end) if order(runs) > order(plain) or are_aligned(plain, end) else None
+    others = [columns for columns in (columns_of(runs, end) for runs, end in found[:MOST_BEFORE]) if columns and columns != first]
+    return [first, *others]
 
 
 def few(others: int, all_: int) -> bool:
@@ -209,6 +226,38 @@ def columns_of(runs: Sequence[Run], end: int) -> Optional[Columns]:
 
 
 # -- the parts of a line
+
+def all_parts(lines: Sequence[str], columns: Optional[Columns]) -> List[Parts]:
+    """Returns the parts of each line. Without columns the first number of a line is a word, if many lines leave their addresses
+    out."""
+    found = list(with_synonyms(with_fields(parts_of(line, columns)) for line in lines))
+    words_alone = [parts._replace(address=None, words=[parts.address, *parts.words])
+                   if not columns and parts.address and not parts.flag and len(parts.words) + 1 == count_of_words(parts) else parts
+                   for parts in found]
+    others = sum(one is not other for one, other in zip(found, words_alone))
+    return found if few(others, sum(bool(parts.words) for parts in words_alone)) else words_alone
+
+
+def with_synonyms(every: Iterable[Parts]) -> Iterator[Parts]:
+    """Yields the parts of lines, with the names of operations for those that OPSYN gives them."""
+    names: Dict[str, str] = {}
+    for parts in every:
+        if parts.operation in names:
+            own = names[parts.operation]
+            at = parts.statement.upper().find(parts.operation)
+            parts = parts._replace(operation=own,
+                                   statement=f"{parts.statement[:at]}{own}{parts.statement[at + len(parts.operation):]}")
+        elif parts.operation == "OPSYN" and is_operation(parts.expression):
+            names[parts.label.upper()] = parts.expression
+        yield parts
+
+
+def count_of_words(parts: Parts) -> int:
+    """Returns how many words a line must have: as its instruction has, or its CON; one if it has words alone. 0 if that is not
+    known."""
+    operands = len(operands_of(parts.expression)) if parts.operation == "CON" else not parts.statement.strip()
+    return size_of(CODES[parts.operation]) if parts.operation in CODES else operands
+
 
 def parts_of(line: str, columns: Optional[Columns]) -> Parts:
     tokens = tokens_of(line)
@@ -265,53 +314,34 @@ def is_almost_word(text: str, after: str, second: str, has_columns: bool) -> boo
 
 # -- the fields of a source line
 
-def operation_columns(all_parts: Iterable[Parts]) -> Set[int]:
-    """Returns the columns of operations, if the labels of a listing begin in the column of the source line or the next one, and its
-    operations do not; else none. A few lines may be otherwise."""
-    known = list(known_operations(all_parts))
-    others = sum(not is_usual for _, is_usual in known)
-    return {column for column, is_usual in known if is_usual} if others * MOST_OTHERS <= len(known) else set()
-
-
-def known_operations(all_parts: Iterable[Parts]) -> Iterator[Tuple[int, bool]]:
-    """Yields the column of each operation that is known, and whether the source line begins where that says."""
-    for parts in all_parts:
-        starts = parts.starts
-        at = operation_at(parts.text.split(), starts[0]) if starts else None
-        if at is not None:
-            yield starts[at], (starts[0] < FIRST_OF_OPERATIONS) == (at > 0)
-
-
-def operation_at(words: Sequence[str], start: int) -> Optional[int]:
-    """Returns whether the first word of a source line, which begins in this column, is its operation, 0, or the second, 1; None if
-    neither is one that is known. A label may be called like an operation."""
-    known = [at for at, word in enumerate(words[:2]) if is_operation(word)]
-    return known[-1 if start < FIRST_OF_OPERATIONS else 0] if known else None
-
-
-def with_fields(parts: Parts, operations: Set[int]) -> Parts:
-    """Returns the parts of a line with the fields of its source line. The columns of operations are those of the whole listing."""
-    if parts.starts and parts.starts[0] >= FIRST_OF_COMMENTS:
+def with_fields(parts: Parts) -> Parts:
+    """Returns the parts of a line with the fields of its source line. A + or - in place of a label is in the statement."""
+    if not parts.text.strip() or parts.starts and parts.starts[0] >= FIRST_OF_COMMENTS:
         return parts
-    label = label_of(parts.text.split(), parts, operations)
+    sign = parts.text.lstrip()[:2].strip() if parts.text.lstrip()[:2] in ("+ ", "- ") else ""
+    label = sign or label_of(parts.text.split(), parts)
     _, _, rest = parts.text.lstrip().partition(label) if label else ("", "", parts.text)
     operation, *operand = rest.lstrip(":").split(None, 1) or [""]
     blanks = max(len(parts.text) - len(rest.lstrip(" :")), FIRST_OF_OPERATIONS)  # before the operation
     statement = f"{'':{blanks}}{rest.lstrip(' :')}" if parts.is_aligned else f"          {operation:6} {''.join(operand)}"
-    return parts._replace(label=label, operation=operation.upper(), operand="".join(operand), statement=statement)
+    return parts._replace(label="" if sign else label, operation=operation.upper(), operand="".join(operand),
+                          statement=f" {sign}{statement[2:]}" if sign else statement)
 
 
-def label_of(words: Sequence[str], parts: Parts, operations: Set[int]) -> str:
-    """Returns the label that a source line begins with: it has a colon, is alone, or is before an operation or a comment. In a
-    listing whose operations have columns it begins in those of the labels, and the operation may be a macro of the source."""
+def label_of(words: Sequence[str], parts: Parts) -> str:
+    """Returns the label that a source line begins with: it is before an operation, or else is none, has a colon, is alone beside
+    words, or is before a comment; in a line whose source line begins where all do, it begins in the first columns, and what follows
+    does not."""
     if not words or not NAME.fullmatch(words[0]):
         return ""
-    label, is_alone = words[0].rstrip(":"), len(words) == 1
-    is_before_operation = not is_alone and is_operation(words[1])
-    is_label = is_before_operation or not is_alone and not words[1][0].isalnum()  # before a comment
-    if operations:
-        is_in_columns = bool(parts.starts) and parts.starts[0] < FIRST_OF_OPERATIONS
-        is_label = is_in_columns and (is_label or is_alone or parts.starts[1] in operations)
-        return label if is_label and (is_before_operation or not is_operation(label)) else ""
-    is_label = is_label or label != words[0] or is_alone and bool(parts.words)
-    return label if is_label and not is_operation(label) else ""
+    label, after, (start, second) = words[0], next(iter(words[1:]), ""), [*parts.starts, 0, USUAL][:2]
+    is_before_operation = is_operation(after)
+    if start >= FIRST_OF_OPERATIONS:  # in which a label begins only if no operation does
+        is_alone = not after and bool(parts.words)
+        if start >= USUAL or is_operation(label) or not (is_before_operation or is_alone):
+            return ""
+    is_alone = not after and bool(parts.words or parts.starts)
+    is_before_comment = after != "" and not after[0].isalnum()
+    is_before_macro = parts.is_aligned and second >= USUAL
+    is_likely = is_alone or is_before_comment or is_before_macro or label.endswith(":")
+    return label.rstrip(":") if is_before_operation or is_likely and not is_operation(label) else ""

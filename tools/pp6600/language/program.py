@@ -1,20 +1,24 @@
-"""A source that the library has assembled: its programs, its names, and the rows of its listing, for tools that show a run beside it."""
+"""A source that the library has assembled: its programs, its names, and the rows of its listing, for tools that show a run beside
+it."""
 
 import bisect
+import copy
+import functools
 import re
-from typing import Dict, Iterator, List, Mapping, NamedTuple, Optional, Sequence, Tuple
+from itertools import groupby
+from typing import Dict, FrozenSet, Iterator, List, Mapping, NamedTuple, Optional, Sequence, Tuple
 
 from ..engine.assembler import COMPLAINTS, NAMES, ROWS, UNITS, Text, assembler_here
 from ..failure import Failure
 from ..run.turn import CONSTANTS, TWO_WORDS
 from ..shell.text_files import lines_of
 from .notation import CODES, LITERAL, WORD_BITS, Statement, parts_of, statement_of
-from .performing import Given, performed, used_in
 
 LOCAL = re.compile("Z[.][0-7]{4,}")  # a name that a macro has for itself
 OF_ANOTHER_PROGRAM = re.compile("=[XSY][A-Z][A-Z0-9.$=]*")
 ADDRESS = (1 << WORD_BITS) - 1
 MACROS = ("MACRO", "MACROE")
+HAS_WORDS = re.compile(r"(?:[^ \t]+ ){6}(?:[=~]\S+ )?[0-7]")  # of a line of ROWS
 
 
 class FilledCell(NamedTuple):
@@ -25,9 +29,9 @@ class FilledCell(NamedTuple):
 
 
 class ListingRow(NamedTuple):
-    """What the listing shows of a line: its number in the source and its text, its words, and the counters before it if it has an address;
-    or the number that it names, which SET may change. If a macro made the line, there are the numbers of the lines of macros that it was
-    made of, that of the innermost macro last."""
+    """What the listing shows of a line: its number in the source and its text, its words, and the counters before it if it has an
+    address; or the number that it names, which SET may change. Of a line of the form ROWS also whether a macro made it, where its
+    text begins among those of all lines, and whether it was performed, and not only listed."""
 
     number: int
     text: str
@@ -38,8 +42,8 @@ class ListingRow(NamedTuple):
     value: Optional[int] = None
     is_set: bool = False
     is_made: bool = False
-    macros: Tuple[int, ...] = ()
-    left_out: range = range(0)  # the cells of a BSS
+    first: int = 0
+    is_performed: bool = True
 
     @property
     def statement(self) -> Statement:
@@ -54,19 +58,25 @@ class Unit(NamedTuple):
     start: Optional[int]
 
 
-class Program(NamedTuple):
-    """What a source makes: the cells of a unit by their addresses, where a processor begins, the number of each name and whether it is a
-    label, the rows of the listing, what is wrong or to be known, how many faults these are, all units, and what the cells of literals are
-    called."""
+class Program:
+    """What a source makes: the cells of a unit by their addresses, where a processor begins, the number of each name and whether it
+    is a label, the rows of the listing, the cells that BSS leaves out, what is wrong or to be known, how many faults these are, all
+    units, what the cells of literals are called, and of which lines of macros the lines that calls made were made."""
 
-    cells: Dict[int, FilledCell]
-    start: Optional[int]
-    names: Dict[str, Tuple[int, bool]]
-    rows: List[ListingRow]
     complaints: Sequence[str] = ()
-    faults: int = 0
+    faults = 0
     units: Sequence[Unit] = ()
     literals: Mapping[int, str] = {}
+    macros: Mapping[int, Tuple[int, ...]] = {}  # by where the text of a line begins: the numbers, that of the innermost macro last
+
+    def __init__(self, cells: Dict[int, FilledCell], start: Optional[int], names: Dict[str, Tuple[int, bool]],
+                 rows: List[ListingRow], left_out: FrozenSet[int]) -> None:
+        self.cells, self.start, self.names, self.rows, self.left_out = cells, start, names, rows, left_out
+
+    @functools.cached_property
+    def coded(self) -> List[List[ListingRow]]:
+        """The rows with words, together those of one line that come after one another."""
+        return [[row for row in own if row.words] for _, own in groupby(self.rows, key=lambda row: row.number)]
 
     def unit(self, name: str) -> "Program":
         """Returns the program of the unit with a name."""
@@ -74,38 +84,88 @@ class Program(NamedTuple):
         if not unit:
             names = ", ".join(unit.name for unit in self.units if unit.name)
             raise Failure(f"the source has no IDENT {name}; {f'it has {names}' if names else 'it has none at all'}")
-        return self._replace(cells=unit.cells, start=unit.start, literals=literals_of(self.rows, unit.cells))
+        found = copy.copy(self)
+        found.cells, found.start = unit.cells, unit.start
+        vars(found).pop("literals", None)  # which are of cells
+        return found
 
 
-class Row(NamedTuple):
-    """A line of the form ROWS."""
+class AssembledProgram(Program):
+    """A source that is assembled. What is not asked for is not made: each form of it is a call, and a source may have 100,000
+    lines."""
 
-    row: ListingRow
-    first: int  # where the text of the line begins among those of all lines
-    is_performed: bool
+    def __init__(self, lines: Sequence[str], texts: Sequence[Text]) -> None:
+        self.lines, self.texts = lines, texts
+        units, self.faults = form_of(lines, UNITS, texts)
+        self.made = list(units_of(lines_of(units)))
+        self.cells, self.start = self.made[0].cells, self.made[0].start
+
+    @functools.cached_property
+    def complaints(self) -> Sequence[str]:  # type: ignore[override]
+        return complaints_of(self.lines, self.texts)[0]
+
+    @functools.cached_property
+    def row_lines(self) -> List[str]:
+        return with_numbers(written(self.lines, ROWS, self.texts))
+
+    @functools.cached_property
+    def rows(self) -> List[ListingRow]:  # type: ignore[override]
+        return list(map(row_of, self.row_lines))
+
+    @functools.cached_property
+    def coded(self) -> List[List[ListingRow]]:
+        of_lines = groupby(self.row_lines, key=lambda line: line[:line.index(" ")])
+        return [[row_of(line) for line in own if HAS_WORDS.match(line)] for _, own in of_lines]
+
+    @functools.cached_property
+    def names(self) -> Dict[str, Tuple[int, bool]]:  # type: ignore[override]
+        found = map(name_of, written(self.lines, NAMES, self.texts))
+        return {name: (number, is_label) for name, number, is_label in found if not LOCAL.fullmatch(name)}
+
+    @functools.cached_property
+    def units(self) -> Sequence[Unit]:  # type: ignore[override]
+        statements = (row.statement for row in self.rows if row.is_performed)
+        operand = next((one.operand for one in statements if one.operation == "IDENT"), "")
+        return [self.made[0]._replace(name=first_name(operand)), *self.made[1:]]
+
+    @functools.cached_property
+    def left_out(self) -> FrozenSet[int]:  # type: ignore[override]
+        starts = sorted({row.location for own in self.coded for row in own})
+        return frozenset(cell for cells in left_out_of(self.row_lines, starts) for cell in cells)
+
+    @functools.cached_property
+    def literals(self) -> Mapping[int, str]:  # type: ignore[override]
+        return literals_of(self.row_lines, self.cells)
+
+    @functools.cached_property
+    def macros(self) -> Mapping[int, Tuple[int, ...]]:  # type: ignore[override]
+        return macros_of(self.rows)
 
 
 def assembled(lines: Sequence[str], texts: Sequence[Text] = ()) -> Program:
     """Assembles the lines of a source, which may name common decks."""
-    complaints, faults = complaints_of(lines, texts)
-    if faults:
-        return Program({}, None, {}, [], complaints, faults)
-    return program_of(complaints, *(written(lines, form, texts) for form in (ROWS, NAMES, UNITS)))
+    return AssembledProgram(lines, texts)
 
 
 def source_of(lines: Sequence[str]) -> bytes:
     return "".join(f"{line}\n" for line in lines).encode("utf-8")
 
 
+def form_of(lines: Sequence[str], form: int, texts: Sequence[Text] = ()) -> Tuple[str, int]:
+    """Returns the text of a form of a source, and how many faults the source has."""
+    text, faults = assembler_here().text(source_of(lines), form, texts)
+    return text.decode("utf-8"), faults
+
+
 def written(lines: Sequence[str], form: int, texts: Sequence[Text] = ()) -> List[str]:
     """Returns the lines of a form of a source."""
-    return lines_of(assembler_here().text(source_of(lines), form, texts)[0].decode("utf-8"))
+    return lines_of(form_of(lines, form, texts)[0])
 
 
 def complaints_of(lines: Sequence[str], texts: Sequence[Text] = ()) -> Tuple[List[str], int]:
     """Returns what is wrong with a source, and what is to be known, as LINE:COLUMN: and a text; and how many faults these are."""
-    text, faults = assembler_here().text(source_of(lines), COMPLAINTS, texts)
-    return [in_letters(lines, complaint) for complaint in lines_of(text.decode("utf-8"))], faults
+    text, faults = form_of(lines, COMPLAINTS, texts)
+    return [in_letters(lines, complaint) for complaint in lines_of(text)], faults
 
 
 def in_letters(lines: Sequence[str], complaint: str) -> str:
@@ -113,17 +173,6 @@ def in_letters(lines: Sequence[str], complaint: str) -> str:
     line, column, text = complaint.split(":", 2)
     own = "".join(lines[int(line) - 1:int(line)]).encode("utf-8")
     return f"{line}:{int(column) + len(own[:int(column) - 1].decode('utf-8', 'ignore')) - len(own[:int(column) - 1])}:{text}"
-
-
-def program_of(complaints: Sequence[str], row_lines: Sequence[str], name_lines: Sequence[str], unit_lines: Sequence[str]) -> Program:
-    """Returns a program by the lines of the library's forms."""
-    names = {name: (number, is_label) for name, number, is_label in map(name_of, name_lines) if not LOCAL.fullmatch(name)}
-    rows = with_macros(with_numbers([row_of(line) for line in row_lines]))
-    first = next((statement_of(one.row.text).operand for one in rows if one.is_performed and one.row.statement.operation == "IDENT"), "")
-    units = list(units_of(first, unit_lines))
-    listed = with_gaps(rows, {name: number for name, (number, _) in names.items()})
-    program = Program(units[0].cells, units[0].start, names, listed, complaints, 0, units)
-    return program._replace(literals=literals_of(listed, program.cells))
 
 
 # ---- the library's forms
@@ -134,21 +183,20 @@ def name_of(line: str) -> Tuple[str, int, bool]:
     return name, int(number, 8), line.count(" ") == 1
 
 
-def row_of(line: str) -> Row:
+def row_of(line: str) -> ListingRow:
     """Returns a line of ROWS: NUMBER FIRST S|M|L LOCATION ORIGIN A|-P|- [=|~VALUE] [WORD ..], a tab and the text."""
     fields, _, text = line.partition("\t")
     number, first, kind, location, origin, letters, *rest = fields.split(" ")
     named = rest[0] if rest and rest[0][0] in "=~" else None
-    words = tuple(int(word, 8) for word in (rest[1:] if named else rest))
-    value = int(named[1:], 8) if named else None
-    row = ListingRow(int(number, 8) if kind != "L" else 0, text, int(origin, 8), int(location, 8), words, letters[0] == "A", value,
-                     named is not None and named[0] == "~", kind == "M")
-    return Row(row, int(first, 8), letters[1] == "P")
+    words = tuple([int(word, 8) for word in (rest[1:] if named else rest)])
+    return ListingRow(int(number, 8), text, int(origin, 8), int(location, 8), words, letters[0] == "A", int(named[1:], 8) if named
+                      else None,
+                      named is not None and named[0] == "~", kind == "M", int(first, 8), letters[1] == "P")
 
 
-def units_of(name: str, lines: Sequence[str]) -> Iterator[Unit]:
-    """Yields the programs of the lines of UNITS, of which the first has this name."""
-    unit = Unit(first_name(name), {}, None)
+def units_of(lines: Sequence[str]) -> Iterator[Unit]:
+    """Yields the programs of the lines of UNITS, which do not name the first one."""
+    unit = Unit("", {}, None)
     for line in lines:
         head, *rest = line.split(" ")
         if head == "IDENT":
@@ -166,57 +214,60 @@ def first_name(operand: str) -> str:
     return next(iter(operand.split()), "").partition(",")[0]
 
 
-def with_numbers(rows: Sequence[Row]) -> List[Row]:
-    """Returns rows in which those of literals have the number of the line that ends their program."""
-    found, number = [], max((one.row.number for one in rows[-1:]), default=0)
-    for one in reversed(rows):
-        is_literal = one.row.text == LITERAL and not one.row.number
-        number = number if is_literal else one.row.number
-        found.append(one._replace(row=one.row._replace(number=number)) if is_literal else one)
-    return found[::-1]
+def with_numbers(lines: Sequence[str]) -> List[str]:
+    """Returns lines of ROWS in which those of literals have the number of the line that ends their program."""
+    found, number = list(lines), "0"
+    for at in reversed(range(len(lines))):
+        own, rest = lines[at].split(" ", 1)
+        if rest.startswith("0 L "):
+            found[at] = f"{number} {rest}"
+        else:
+            number = own
+    return found
 
 
 # ---- the lines of macros
 
-def with_macros(rows: Sequence[Row]) -> List[Row]:
-    """Returns rows with the numbers of the lines of macros of which the lines that calls made were made. A call makes its lines at once, so
-    that their texts follow one another."""
+def macros_of(rows: Sequence[ListingRow]) -> Dict[int, Tuple[int, ...]]:
+    """Returns the numbers of the lines of macros of which the lines that calls made were made, by where their texts begin. A call
+    makes its lines at once, so that their texts follow one another."""
     bodies: Dict[str, List[Tuple[int, str]]] = {"SUBR": [(0, "LJM"), (0, "EQU")]}
-    operations = {one.first: one.row.statement.operation for one in rows if one.row.is_made and one.row.text}
+    operations = {row.first: row.statement.operation for row in rows if row.is_made and row.text}
     firsts = sorted(operations)
-    macros: Dict[int, Tuple[int, ...]] = {}  # by where the text of a line begins
+    macros: Dict[int, Tuple[int, ...]] = {}
     free = 0
-    for at, one in enumerate(rows):
-        name, after = one.row.statement.operation, rows[at + 1] if at + 1 < len(rows) else None
-        if not one.is_performed:
+    for at, (row, after) in enumerate(zip(rows, [*rows[1:], None]) if firsts else ()):
+        if not row.is_performed:
             continue
+        label, name, operand = row.statement
         if name in MACROS:
-            bodies[one.row.statement.label or first_name(one.row.statement.operand)] = list(body_after(rows, at))
-        elif name in bodies and after and after.row.is_made and after.first >= free:
+            bodies[label or first_name(operand)] = list(body_after(rows, at))
+        elif name in bodies and after and after.is_made and after.first >= free:
             made = firsts[bisect.bisect_left(firsts, after.first):]
             numbers = numbers_of(bodies[name], [operations[first] for first in made])
-            macros.update({first: (*macros.get(one.first, ()), number) for first, number in zip(made, numbers)})
+            macros.update({first: (*macros.get(row.first, ()), number) for first, number in zip(made, numbers)})
             free = max([free, *(first + 1 for first, _ in zip(made, numbers))])
-    return [one._replace(row=one.row._replace(macros=macros.get(one.first, ()))) if one.row.is_made else one for one in rows]
+    return macros
 
 
-def body_after(rows: Sequence[Row], at: int) -> Iterator[Tuple[int, str]]:
-    """Yields the numbers and the operations of the lines of the macro that begins at a row; empty lines are none. The LOCAL, IRP and ELSE of a
-    macro within are lines as others."""
+def body_after(rows: Sequence[ListingRow], at: int) -> Iterator[Tuple[int, str]]:
+    """Yields the numbers and the operations of the lines of the macro that begins at a row; empty lines are none. The LOCAL, IRP
+    and ELSE of a macro within are lines as others."""
     depth = 0
-    for one in rows[at + 1:]:
-        statement = one.row.statement
-        depth += (statement.operation in MACROS) - (statement.operation == "ENDM")
-        if depth < 0 or one.is_performed:
+    for row in rows[at + 1:]:
+        label, operation, _ = row.statement
+        depth += (operation in MACROS) - (operation == "ENDM")
+        if depth < 0 or row.is_performed:
             return
-        if one.row.text.strip():
-            operation = statement.label if statement.label in ("LOCAL", "IRP") else statement.operation
-            yield one.row.number, f"{operation} within" if depth else operation
+        if row.text.strip():
+            operation = label if label in ("LOCAL", "IRP") else operation
+            yield row.number, f"{operation} within" if depth else operation
 
 
 def numbers_of(body: Sequence[Tuple[int, str]], operations: Sequence[str]) -> List[int]:
-    """Returns the number of the line of a macro for each line that a call makes of it, of lines with these operations. Lines between two
-    IRP are there again as long as what comes next is like the first of them; an ELSE that was performed is not listed."""
+    """Returns the number of the line of a macro for each line that a call makes of it, of lines with these operations. Lines
+    between two IRP are there again as long as what comes next is like the first of them; an ELSE that was performed is not
+    listed."""
     found: List[int] = []
     at, begin = 0, 0
     while at < len(body):
@@ -234,14 +285,15 @@ def numbers_of(body: Sequence[Tuple[int, str]], operations: Sequence[str]) -> Li
 
 # ---- literals, and the cells that BSS leaves out
 
-def literals_of(rows: Sequence[ListingRow], cells: Mapping[int, FilledCell]) -> Dict[int, str]:
-    """Returns what the cells of the literals of a program are called: as the first line that names each has it."""
-    sizes = {row.location: len(row.words) for row in rows
-             if row.text == LITERAL and row.words and cells.get(row.origin) == (row.words[0], row.number)}
+def literals_of(lines: Sequence[str], cells: Mapping[int, FilledCell]) -> Dict[int, str]:
+    """Returns what the cells of the literals of a program are called: as the first of the lines of ROWS that names each has it."""
+    sizes = {row.location: len(row.words) for row in map(row_of, (line for line in lines if line.endswith(LITERAL)))
+             if row.words and cells.get(row.origin) == (row.words[0], row.number)}
     found: Dict[int, str] = {}
-    for address, text in (pair for row in rows if "=" in row.text or row.value is not None for pair in literals_in(row)):
-        if address in sizes and address not in found:
-            found.update({address + at: f"{text}+{at:o}" if at else text for at in range(sizes[address])})
+    for line in (line for line in lines if "=" in line) if sizes else ():  # before the text if it names a number
+        for address, text in literals_in(row_of(line)):
+            if address in sizes and address not in found:
+                found.update({address + at: f"{text}+{at:o}" if at else text for at in range(sizes[address])})
     return found
 
 
@@ -250,13 +302,21 @@ def literals_in(row: ListingRow) -> Iterator[Tuple[int, str]]:
     label, name, operand = row.statement
     if name == "LIT" and row.value is not None:
         yield row.value, label or f"={operand.split(' ')[0]}"
-    bits, all_, used = WORD_BITS * len(row.words), sum(word << WORD_BITS * at for at, word in enumerate(reversed(row.words))), 0
-    for number, part in enumerate(parts_of(operand) if row.words and "=" in operand else ()):
+    for number, _, text in fields_in(row.text, row.words) if "=" in operand else ():
+        if text.startswith("=") and not OF_ANOTHER_PROGRAM.fullmatch(text):
+            yield number & ADDRESS, text
+
+
+def fields_in(line: str, words: Sequence[int]) -> Iterator[Tuple[int, int, str]]:
+    """Yields the number that words have for each operand of a line, how many bits its field has, and the operand."""
+    _, name, operand = statement_of(line)
+    bits, all_, used = WORD_BITS * len(words), sum(word << WORD_BITS * at for at, word in enumerate(reversed(words))), 0
+    for at, part in enumerate(parts_of(operand) if words else ()):
         size, _, text = part.rpartition("/") if name == "VFD" else ("", "", part)
-        first, width = field_of(name, number, bits) if name != "VFD" else (used, int(size) if size.isdigit() else 0)
+        first, width = field_of(name, at, bits) if name != "VFD" else (used, int(size) if size.isdigit() else 0)
         used = first + width
-        if text.startswith("=") and used <= bits and not OF_ANOTHER_PROGRAM.fullmatch(text):
-            yield all_ >> bits - used & ADDRESS & (1 << width) - 1, text
+        if used <= bits:
+            yield all_ >> bits - used & (1 << width) - 1, width, text
 
 
 def field_of(name: str, number: int, bits: int) -> Tuple[int, int]:
@@ -269,20 +329,12 @@ def field_of(name: str, number: int, bits: int) -> Tuple[int, int]:
     return WORD_BITS // 2, WORD_BITS // 2
 
 
-def with_gaps(rows: Sequence[Row], names: Mapping[str, int]) -> List[ListingRow]:
-    """Returns the rows of the listing, with the cells that each BSS leaves out."""
-    numbers, bases, given = dict(names), ["OCTAL"], {}  # type: Dict[str, int], List[str], Dict[int, Given]
-    for at, row in ((at, one.row) for at, one in enumerate(rows) if one.is_performed):
-        label, name, operand = row.statement
-        if name in ("BASE", "PERIPH"):
-            base = "DECIMAL" if name == "PERIPH" else first_name(operand)
-            bases = bases[:-1] or bases if base == "*" else [*bases, base]
-        elif row.is_set and row.value is not None:
-            numbers[label] = row.value
-        elif name == "BSS":
-            line = f"  BSS {operand}"
-            given[at] = Given(bases[-1], row.origin, row.location, line, {name: numbers[name] for name in used_in(line, numbers)})
-    found = [one.row for one in rows]
-    for at, one in zip(given, performed(list(given.values()))):
-        found[at] = found[at]._replace(left_out=range(found[at].location, one.after if one else found[at].location))
-    return found
+def left_out_of(lines: Sequence[str], starts: Sequence[int]) -> Iterator[range]:
+    """Yields the cells that each BSS of the lines of ROWS leaves out: up to the next row, or, if that goes elsewhere, to the next
+    of the starts of code."""
+    for line, after in zip(lines, lines[1:]):
+        row = row_of(line) if "BSS" in line.upper() else None
+        if row and row.is_performed and row.statement.operation == "BSS":
+            is_elsewhere = row_of(after).statement.operation in ("ORG", "LOC", "USE", "IDENT")
+            yield range(row.location, next((start for start in starts if start >= row.location), row.location) if is_elsewhere
+                        else row_of(after).location)

@@ -3,12 +3,12 @@
 A cell is of the line whose location it is, or else of the line whose origin it is, as long as it has the word of that line. So a
 program that moved itself by LOC keeps its lines. The second word of an instruction may be another one, for RJM writes it."""
 
+import functools
 import os
-from itertools import groupby
-from typing import Dict, Iterator, List, NamedTuple, Optional, Sequence, Tuple, Union
+from typing import Dict, FrozenSet, List, NamedTuple, Optional, Sequence, Tuple, Union
 
 from ..failure import Failure, Faults
-from ..run.forms import CELLS, Place
+from ..run.forms import CELLS
 from ..run.names import AddressNames, Names
 from ..run.tape import SourceLine
 from ..run.turn import TWO_WORDS, places_of_setting
@@ -17,9 +17,9 @@ from ..shell.text_files import named, read_lines
 from .cells import lines_of_cells
 from .decks import texts_of
 from .symbol_options import Given
-from .listing import Listing, is_printed, without_mark
+from .listing import Listing, is_printed, names_of, without_mark
 from .notation import CODES, TAB
-from .program import FilledCell, ListingRow, Program, Unit, assembled
+from .program import ListingRow, Program, Unit, assembled
 
 
 def source_lines(path: Optional[str]) -> List[str]:
@@ -82,16 +82,46 @@ class Source(AddressNames):
 
     def __init__(self, path: str, program: Program) -> None:
         self.path, self.program = path, program
-        self.at_location: Dict[int, List[Word]] = {}
-        self.at_origin: Dict[int, Word] = {}
-        for word in words_of(program.rows):
-            self.at_location.setdefault((word.row.location + word.at) % CELLS, []).append(word)
-            cell = word.row.origin + word.at
-            if program.cells.get(cell) == (word.row.words[word.at], word.row.number):  # a source with several units has others too
-                self.at_origin[cell] = word
-        super().__init__(names_of(program), {*self.at_location, *(cell for row in program.rows for cell in row.left_out)})
-        self.jumps = {**super().entries(), **jumps_back(program.rows)}
-        self.literals = {address: text for address, text in program.literals.items() if address not in self.labels}
+
+    # ---- what is made when it is asked for
+
+    @functools.cached_property
+    def names(self) -> Names:  # type: ignore[override]
+        return names_of(self.program)
+
+    @functools.cached_property
+    def cells(self) -> FrozenSet[int]:  # type: ignore[override]
+        return frozenset({*self.at_location, *self.program.left_out})
+
+    @functools.cached_property
+    def words(self) -> List[Word]:
+        """The words of all lines."""
+        return [Word(row, at, number) for own in self.program.coded
+                for number, (row, at) in enumerate(((row, at) for row in own for at in range(len(row.words))), 1)]
+
+    @functools.cached_property
+    def at_location(self) -> Dict[int, List[Word]]:
+        found: Dict[int, List[Word]] = {}
+        for word in self.words:
+            found.setdefault((word.row.location + word.at) % CELLS, []).append(word)
+        return found
+
+    @functools.cached_property
+    def at_origin(self) -> Dict[int, Word]:
+        """Without the words of other units."""
+        cells = self.program.cells
+        return {cell: word for word in self.words for cell in [word.row.origin + word.at]
+                if cells.get(cell) == (word.word, word.row.number)}
+
+    @functools.cached_property
+    def jumps(self) -> Dict[int, int]:
+        return {**super().entries(), **jumps_back([row for own in self.program.coded for row in own])}
+
+    @functools.cached_property
+    def literals(self) -> Dict[int, str]:
+        return {address: text for address, text in self.program.literals.items() if address not in self.labels}
+
+    # ---- names of cells
 
     def name(self, address: int, farthest: Optional[int] = None) -> str:
         """Returns an address by a label, or as the literal that it is of."""
@@ -99,12 +129,12 @@ class Source(AddressNames):
 
     @classmethod
     def of_file(cls, path: str, given: Given = Given()) -> "Source":
-        """Returns the source in a file, which has the given texts, or the one that a printed listing has; of FILE#NAME the unit with this
-        name is loaded."""
+        """Returns the source in a file, which has the given texts, or the one that a printed listing has; of FILE#NAME the unit
+        with this name is loaded."""
         file, _, unit = path.rpartition("#")
         path, unit = (file, unit) if file and not os.path.exists(path) else (path, "")
         lines = source_lines(path)
-        program = program_of(Listing.of_file(path)) if is_printed(lines) else assembled(lines, texts_of(given, lines))
+        program = Listing.of_file(path).program if is_printed(lines) else assembled(lines, texts_of(given, lines))
         if program.faults:
             raise Faults(complaints(path, program))
         program = program.unit(unit) if unit else program
@@ -116,16 +146,16 @@ class Source(AddressNames):
 
     def loading(self, number: int) -> List[SourceLine]:
         """Returns the lines that load it into a processor."""
-        return [SourceLine(line, {at: self.place_of(place) for place, at in places_of_setting(line).items() if at is not None})
-                for line in set_lines(self.program, number)]
+        return [SourceLine(line, functools.partial(self.place_in, line)) for line in set_lines(self.program, number)]
 
-    def place_of(self, place: Place) -> str:
-        """Returns the place in the source from which the number at a place of the machine comes."""
+    def place_in(self, line: str, word: int) -> str:
+        """Returns the place in the source from which a number of a line that loads it comes, by its number in the line."""
+        place = next(place for place, at in places_of_setting(line).items() if at == word)
         if place.kind == "P":
             end = next(row for row in reversed(self.program.rows) if row.statement.operation == "END")
             return f"{self.path}:{end.number}"
-        word = self.at_origin[place.numbers[1]]
-        return f"{self.path}:{word.row.number} WORD {word.number}"
+        made = self.at_origin[place.numbers[1]]
+        return f"{self.path}:{made.row.number} WORD {made.number}"
 
     def is_loaded(self, address: int, word: int) -> bool:
         """Returns whether a cell has the word with which the source filled it."""
@@ -168,39 +198,11 @@ class Source(AddressNames):
         return {address: (word.row.words[0], text_of(word.row)) for address, word in found.items()}
 
 
-def program_of(listing: Listing) -> Program:
-    """Returns the program that a printed listing is of: its source lines and its words."""
-    rows, origin, names = [], 0, {}  # type: List[ListingRow], int, Dict[str, Tuple[int, bool]]
-    for entry in listing.entries:
-        load, address = (entry.load, entry.address) if entry.words else (origin, origin)
-        words = tuple(word for word in entry.words if word is not None)
-        rows.append(ListingRow(entry.number, entry.source, load, address, words, bool(words), left_out=entry.left_out))
-        origin = load + len(words)
-        names.update({name: (number, True) for name, number in entry.labels})
-        names.update({name: (number, False) for name, number in entry.equates})
-    cells = {address: FilledCell(word, line.number) for address, (word, line) in listing.cells.items()}
-    return Program(cells, listing.start, names, rows)
-
-
 def jumps_back(rows: Sequence[ListingRow]) -> Dict[int, int]:
     """Returns the second words of LJM that an RJM names, by the addresses of the LJM."""
     pairs = [(row.location, *row.words) for row in rows if len(row.words) == 2]
     named_by_rjm = {m for _, word, m in pairs if word == CODES["RJM"] << 6}
     return {jump: jump + 1 for jump, word, _ in pairs if word == CODES["LJM"] << 6 and jump + 1 in named_by_rjm}
-
-
-def words_of(rows: Sequence[ListingRow]) -> Iterator[Word]:
-    for _, rows_of_line in groupby(rows, key=lambda row: row.number):
-        places = ((row, at) for row in rows_of_line for at in range(len(row.words)))
-        yield from (Word(row, at, number) for number, (row, at) in enumerate(places, 1))
-
-
-def names_of(program: Program) -> Names:
-    """Returns the names of a source."""
-    names = Names()
-    for name, (number, is_label) in program.names.items():
-        names.add(name, number, is_label and number < CELLS)
-    return names
 
 
 def text_of(row: ListingRow) -> str:

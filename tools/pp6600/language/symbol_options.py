@@ -23,7 +23,8 @@ TEXT_OPTIONS: Arguments = [("--text", {"metavar": "DIR", "help": "the folder of 
                                          "help": "a system text, whose names, macros and micros a source has; for each one"})]
 SOURCE_OPTIONS: Arguments = [*TEXT_OPTIONS, ("--source", {**FILES, "help": "assemble FILE, or read a printed listing, and load it "
                              "into processor N before the script; show its lines and names; for each one"})]
-SYMBOL_OPTIONS: Arguments = [("--symbols", {**FILES, "help": "show addresses of processor N by the labels of a listing, or of lines "
+SYMBOL_OPTIONS: Arguments = [
+    ("--symbols", {**FILES, "help": "show addresses of processor N by the labels of a listing, or of lines "
                              "NAME ADDRESS; for each one"}), *SOURCE_OPTIONS]
 
 

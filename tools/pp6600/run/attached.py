@@ -1,21 +1,22 @@
 """A session with devices of one's own, in which all goes back.
 
 Its unit is an action of the user: a turn with the replies of the devices after it is one, and so is each other action. BACK and
-FORWARD count units and have no limit. The tape has each reply as the SET H that it is. What a device is told is an action too: its line
-sets Q of PP 00 to the number that it has."""
+FORWARD count units and have no limit. The tape has each reply as the SET H or SET C that it is. What a device is told is an action
+too: its line sets Q of PP 00 to the number that it has."""
 
 from __future__ import annotations
 
 import re
 from typing import Any, Dict, List, Sequence, Tuple
 
-from ..engine import interface as flat
+from ..engine.interface import MOST_ALTERNATIVES
 from ..failure import Failure
+from .central_device import CentralDevice
 from .console import COUNTED, LONGEST_LINE
-from .device import Channel, Device, DeviceFailure, Value, is_value, looked
-from .forms import CHANNELS, MOST_TURNS, Place, refused
-from .new_turns import NewTurns, value_told
-from .past import Past, name_of
+from .device import CompanionDevice, Device, DeviceFailure, Value, is_value
+from .forms import CHANNELS, MOST_TURNS, MOST_WATCHES, Place, refused
+from .new_turns import NewTurns
+from .past import EVERY, EXACT, name_of, past_of
 from .plain_script import PlainScript
 from .session import Session
 from .tape import STEP, Position, Units
@@ -23,23 +24,24 @@ from .tape import STEP, Position, Units
 BACK_W = re.compile(r"[ \t]*BACK[ \t]+W[ \t\r]*", re.I)
 
 
-def names_of(devices: Sequence[Device]) -> Dict[int, str]:
-    """Returns the names of devices by their channels."""
-    return {device.channel: name_of(device) for device in devices}
+def names_of(devices: Sequence[CompanionDevice]) -> Dict[int, str]:
+    """Returns the names of devices of channels by their channels."""
+    return {device.channel: name_of(device) for device in devices if device.channel is not None}
 
 
 class Attached(Session):
     """A simulator with devices. A front end can take it in the place of a Session."""
 
-    exact_values, every_value = 20000, 1000
+    exact_values, every_value = EXACT, EVERY
 
-    def __init__(self, words: Sequence[str] = (), devices: Sequence[Device] = ()) -> None:
-        """Begins a session with devices, no two of them on one channel."""
+    def __init__(self, words: Sequence[str] = (), devices: Sequence[CompanionDevice] = ()) -> None:
+        """Begins a session with devices of channels, no two of them on one channel, and of central memory."""
         self.devices = tuple(devices)
         super().__init__(words)
         try:
             self._check_channels()
-            self.pasts = [Past(device, self.exact_values, self.every_value) for device in self.devices]
+            self.pasts = [past_of(device, self, self.exact_values, self.every_value) for device in self.devices]
+            self._check_alternatives()
         except Failure:
             self.close()
             raise
@@ -50,6 +52,8 @@ class Attached(Session):
     def _check_channels(self) -> None:
         taken = {self.reader_channel: "the card reader", self.printer_channel: "the printer"}
         for device in self.devices:
+            if isinstance(device, CentralDevice):
+                continue
             if not isinstance(device, Device):
                 raise Failure(f"{device!r:.60} is not a Device")
             channel, name = device.channel, type(device).__name__
@@ -59,6 +63,13 @@ class Attached(Session):
                 raise Failure(f"{name} can't be on channel {channel:o}: {taken[channel]} is on it")
             taken[channel] = f"{name}, another device,"
 
+    def _check_alternatives(self) -> None:
+        """Sees that one search can judge what all devices see, and what the user watches."""
+        count, most = sum(len(past.alternatives(past.value.seen)) for past in self.pasts), MOST_ALTERNATIVES - MOST_WATCHES
+        if count > most:
+            raise Failure(f"devices of channels and rows of words that devices watch are at most {most}, and these are {count} "
+                          f"(decimal)")
+
     # ---- what there is to see
 
     def state(self, number: int = 0) -> Any:
@@ -67,11 +78,11 @@ class Attached(Session):
         return self.pasts[number].value.state
 
     def printed(self) -> List[str]:
-        """Returns what devices have printed since this was asked last, each line after the name of its device. What is taken back is printed
-        no more."""
+        """Returns what devices have printed since this was asked last, each line after the name of its device. What is taken back
+        is printed no more."""
         found = []
         for number, device in enumerate(self.devices):
-            if type(device).paper is not Device.paper:
+            if type(device).paper is not CompanionDevice.paper:
                 paper, shown = device.paper(self.state(number)), self.papers[number]
                 new = paper[len(shown):] if paper.startswith(shown) else ""
                 whole = new.rpartition("\n")[0]
@@ -85,8 +96,8 @@ class Attached(Session):
 
     @property
     def sent(self) -> List[str]:
-        """A script for the simulator alone that gives the session again, with what was taken back and the dumps. Lines that were refused
-        are left out. After `replays` it begins anew."""
+        """A script for the simulator alone that gives the session again, with what was taken back and the dumps. Lines that were
+        refused are left out. After `replays` it begins anew."""
         return self.plain.lines
 
     @property
@@ -163,22 +174,16 @@ class Attached(Session):
                 self.goto(here)
 
     def _value_anew(self, number: int, entry: int) -> Value:
-        """Returns the value of a device that was not kept: it looks at its channel again."""
+        """Returns the value of a device that was not kept: it looks again."""
         past = self.pasts[number]
         begin, value = past.kept_before(entry)
         for at in past.at[begin + 1:entry + 1]:
             end = Position(self.tape.after_units(Units(self.tape.units(Position(at)) - 1)) + 1)  # of the unit, without its replies
             self.goto(end)
-            if end in self.told:
-                value, _ = value_told(past, value, self.told[end][1], self._channel(past.device.channel), self.turn)
-            else:
-                value, _ = looked(past.device, value, self._channel(past.device.channel), self.turn)
+            now = past.now(self.engine)
+            value, _ = (past.told(value, self.told[end][1], now, self.turn) if end in self.told
+                        else past.looked(value, now, self.turn))
         return value
-
-    def _channel(self, number: int) -> Channel:
-        """Returns the state and the register of a channel."""
-        state, register = (self.engine.numbers(first + number, 1)[0] for first in (flat.STATES, flat.REGISTERS))
-        return state, register
 
     def _back_to_unit(self, answer: List[str]) -> List[str]:
         """Goes back to before a whole unit, after the simulator has answered BACK W."""
@@ -213,8 +218,7 @@ class Attached(Session):
         """Takes a line and what was made after it into the tape, in place of what is ahead."""
         self.cut(self.position)
         self.tape.append(line, bool(line))
-        for replies in new.replies:
-            self.tape.append_replies(*replies)
+        self.tape.append_replies(*new.replies)
         self.tape.append(STEP, new.turn - self.tape.turns)
         self.performed(new.position - self.position, self.engine.counts().kept)
         self.plain.stops += new.stops

@@ -33,11 +33,13 @@ def has_no_answer(line: str) -> bool:
 
 
 class Console:
-    """A session of the simulator, by its lines. With `with` it is closed at the end of the block. What can't be done raises Failure: a
-    number that the machine does not have, a line that the simulator rejects, an engine that does not start, a session that has ended."""
+    """A session of the simulator, by its lines. With `with` it is closed at the end of the block. What can't be done raises
+    Failure: a number that the machine does not have, a line that the simulator rejects, an engine that does not start, a session
+    that has ended."""
 
     def __init__(self, words: Sequence[str] = (), options: Sequence[str] = ()) -> None:
-        """The words are the engine and the options of the program; without any it is the engine that the tools run on, with the options."""
+        """The words are the engine and the options of the program; without any it is the engine that the tools run on, with the
+        options."""
         self.words = [*(words or [default_engine()]), *options]
         self.is_ended = False
         self.start()
@@ -136,6 +138,14 @@ class Console:
         """How many words central memory has."""
         return 0o2000 * int(self.words[self.words.index("--central") + 1] if "--central" in self.words else 128)
 
+    def checked(self, place: Place) -> Place:
+        """Returns a place; if the machine does not have it, that is a failure."""
+        if not place.exists:
+            raise Failure(f"there is no {place.short}")
+        if place.kind == "C" and place.numbers[0] >= self.central_size:
+            raise Failure(f"there is no {place.short}: central memory has {self.central_size:o} words (octal)")
+        return place
+
     @functools.cached_property
     def reader_channel(self) -> int:
         return int(fields(self.reader())["H"], 8)
@@ -175,7 +185,8 @@ class Console:
         if self.is_ended:
             return "<p>This simulator has ended.</p>"
         from .notebook import table_of  # no tool needs it
-        return table_of(self.slot(), [self.processor(number) for number in range(PROCESSORS)], self.channels(), [self.reader(), self.printer()[0]])
+        return table_of(self.slot(), [self.processor(number) for number in range(PROCESSORS)], self.channels(),
+                        [self.reader(), self.printer()[0]])
 
 
 def file_of(words: Sequence[str], text: str) -> str:

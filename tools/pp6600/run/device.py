@@ -15,7 +15,8 @@ from ..failure import Failure
 from .forms import STATES
 
 MOST_WORD = 0o7777
-KINDS = ("disconnected", "activated", "word", "function")  # of events, by the state that a channel has come to, in the order of STATES
+# of events, by the state that a channel has come to, in the order of STATES
+KINDS = ("disconnected", "activated", "word", "function")
 INACTIVE_STATE, EMPTY_STATE, FULL_STATE = map(STATES.index, "IEF")
 
 
@@ -60,17 +61,40 @@ FULL = [Reply("F", word) for word in range(MOST_WORD + 1)]
 
 def full(word: int) -> Reply:
     """Returns the reply that puts a word on the channel."""
-    return FULL[word] if type(word) is int and 0 <= word <= MOST_WORD else Reply("F", word)  # the session says what is wrong with another
+    # the session says what is wrong with another
+    return FULL[word] if type(word) is int and 0 <= word <= MOST_WORD else Reply("F", word)
 
 
-class Device:
+class CompanionDevice:
+    """What a device of a channel and one of central memory have in common."""
+
+    channel: Optional[int] = None
+    start: Any = None  # its state at first
+
+    def due(self, state: Any, event: Any) -> Tuple[Any, Any]:
+        """Handles the turn that an earlier reply asked for by `waking`, or one of central memory by `wake`."""
+        return state, NOTHING
+
+    def told(self, state: Any, event: Any) -> Tuple[Any, Any]:
+        """Handles what the user has done to the device, for example which key was pressed: event.word, or event.new of a Change."""
+        return state, NOTHING
+
+    def paper(self, state: Any) -> str:
+        """Returns all that the device has printed."""
+        return ""
+
+    def picture(self, state: Any) -> Any:
+        """Returns what the device shows in a state, a `Picture`; None if it shows nothing."""
+        return None
+
+
+class Device(CompanionDevice):
     """A device on a channel. A subclass overrides the methods for what it reacts to. A method may be called for a turn that is
     then taken back, or with a word that does not come: it must depend on its arguments alone, and change nothing.
 
     The option `--device NAME:WORD,..@CHANNEL` calls the constructor with the words, as texts, and then sets `channel`."""
 
-    channel = 0o11
-    start: Any = None  # its state at first
+    channel: int = 0o11
 
     def function(self, state: Any, event: Event) -> Answer:
         """Handles a function code on the channel. The processor goes on when the channel is made inactive."""
@@ -91,22 +115,6 @@ class Device:
     def disconnected(self, state: Any, event: Event) -> Answer:
         """Handles a channel that has become inactive."""
         return state, NOTHING
-
-    def due(self, state: Any, event: Event) -> Answer:
-        """Handles the turn that an earlier reply asked for by `waking`."""
-        return state, NOTHING
-
-    def told(self, state: Any, event: Event) -> Answer:
-        """Handles what the user has done to the device, for example which key was pressed: event.word."""
-        return state, NOTHING
-
-    def paper(self, state: Any) -> str:
-        """Returns all that the device has printed."""
-        return ""
-
-    def picture(self, state: Any) -> Any:
-        """Returns what the device shows in a state, a `Picture`; None if it shows nothing."""
-        return None
 
 
 class Chain(NamedTuple):
@@ -168,68 +176,76 @@ def is_value(state: Any) -> bool:
     return isinstance(state, enum.Enum)
 
 
-def drawn(device: Device, state: Any, draw: Callable[[Any], Any]) -> Any:
+def drawn(device: CompanionDevice, state: Any, draw: Callable[[Any], Any]) -> Any:
     """Returns what a function makes of the picture of a device in a state; None if it shows nothing."""
     try:
         picture = device.picture(state)
         return None if picture is None else draw(picture)
     except Exception as error:
-        raise DeviceFailure(f"picture of {type(device).__name__} fails: {type(error).__name__}: {error}{place_of(error)}") from error
+        said = f"{type(error).__name__}: {error}{place_of(error)}"
+        raise DeviceFailure(f"picture of {type(device).__name__} fails: {said}") from error
 
 
 Channel = Tuple[int, int]  # its state, by its number in STATES, and its register
 
 
-def channel_of(line: str) -> Channel:
-    """Returns the channel of a line of DUMP H."""
-    _, _, state, register = line.split()
-    return STATES.index(state), int(register, 8)
-
-
 class Value(NamedTuple):
-    """All that is known of a device at a position: its state, its channel as it left it, and the turn for which it is due."""
+    """All that is known of a device at a position: its state, the numbers that it sees as it left them, the next turn for which it
+    is due, and the stores that come then and later."""
 
     state: Any
-    seen: Channel
+    seen: Tuple[int, ...]
     due: Optional[int] = None
+    to_come: Tuple[Any, ...] = ()
 
 
 # As Event(..) and Value(..) of a tuple, in less than half the time.
 event_of: Callable[[Tuple[str, Any, int]], Event] = functools.partial(tuple.__new__, Event)  # type: ignore[assignment]
-value_of: Callable[[Tuple[Any, Channel, Optional[int]]], Value] = functools.partial(tuple.__new__, Value)  # type: ignore[assignment]
+value_of: Callable[[Tuple[Any, ...]], Value] = functools.partial(tuple.__new__, Value)  # type: ignore[assignment]
 
 
-def value_at_start(device: Device) -> Value:
-    """Returns the value of a device at the beginning, when all channels are inactive."""
+def value_at_start(device: CompanionDevice, seen: Tuple[int, ...]) -> Value:
+    """Returns the value of a device at the beginning."""
     if not is_value(device.start):
         raise DeviceFailure(f"{device.start!r:.60} can't be the state of a device: it can be changed in place")
-    return Value(device.start, (INACTIVE_STATE, 0))
+    return Value(device.start, seen)
 
 
 def place_of(error: Exception) -> str:
-    """Returns the file and the line where a device failed, in brackets; nothing if it is not known."""
+    """Returns the last line of its own file where a device failed, in brackets; nothing if it is not known."""
     import traceback  # devices seldom fail
     frames = traceback.extract_tb(error.__traceback__)[1:]
+    frames = [frame for frame in frames if frame.filename == frames[0].filename]
     return f" ({frames[-1].filename}, line {frames[-1].lineno} (decimal))" if frames else ""
+
+
+def call_method(device: CompanionDevice, kind: str, state: Any, event: Any, kinds: Any, wanted: str) -> Tuple[Any, Any]:
+    """Returns what a method of a device returns: its new state, and what it does, which is of some types."""
+    try:
+        answer = getattr(device, kind)(state, event)
+    except Exception as error:
+        raise failure_of(device, kind, f"fails: {type(error).__name__}: {error}{place_of(error)}") from error
+    if not isinstance(answer, tuple) or len(answer) != 2 or not isinstance(answer[1], kinds):
+        raise failure_of(device, kind, f"must return a state and {wanted}, and returned {answer!r:.60}")
+    if answer[0] is not state and not is_value(answer[0]):
+        raise failure_of(device, kind, f"returned a state that can be changed in place: {answer[0]!r:.60}")
+    return answer[0], answer[1]
+
+
+def failure_of(device: CompanionDevice, kind: str, what: str) -> DeviceFailure:
+    """Returns why a device can't go on after a call of a method."""
+    return DeviceFailure(f"{kind} of {type(device).__name__} {what}")
 
 
 def called(device: Device, value: Value, event: Event, now: Channel) -> Tuple[Value, Optional[Reply]]:
     """Returns the value of a device after an event, and its reply if it changes the channel, which is as `now`."""
     kind, _, turn = event
-    before, _, due = value
-    try:
-        answer = getattr(device, kind)(before, event)
-    except Exception as error:
-        raise failure(device, event, f"fails: {type(error).__name__}: {error}{place_of(error)}") from error
-    if not isinstance(answer, tuple) or len(answer) != 2 or not isinstance(answer[1], Reply):
-        raise failure(device, event, f"must return a state and a Reply, and returned {answer!r:.60}")
-    state, reply = answer
-    if state is not before and not is_value(state):
-        raise failure(device, event, f"returned a state that can be changed in place: {state!r:.60}")
+    state, reply = call_method(device, kind, value[0], event, Reply, "a Reply")
+    due: Optional[int] = value[2]
     letter, word, wake, _ = reply
     if wake is not None:
         if type(wake) is not int or wake < 1:
-            raise failure(device, event, f"can't wake after {wake!r:.60} turns")
+            raise failure_of(device, kind, f"can't wake after {wake!r:.60} turns")
         due = turn + wake
     elif kind == "due":
         due = None
@@ -237,19 +253,15 @@ def called(device: Device, value: Value, event: Event, now: Channel) -> Tuple[Va
         now = FULL_STATE, word
     elif letter is not None:
         if letter not in ("I", "E") or word is not None:
-            raise failure(device, event, f"can't reply {letter} {word!r:.60}: a reply is INACTIVE, EMPTY, or full(word up to 7777 octal)")
+            raise failure_of(device, kind,
+                             f"can't reply {letter} {word!r:.60}: a reply is INACTIVE, EMPTY, or full(word up to 7777 octal)")
         now = STATES.index(letter), now[1]
-    return value_of((state, now, due)), None if letter is None else reply
-
-
-def failure(device: Device, event: Event, what: str) -> DeviceFailure:
-    """Returns why a device can't go on after an event."""
-    return DeviceFailure(f"{event.kind} of {type(device).__name__} {what}")
+    return value_of((state, now, due, ())), None if letter is None else reply
 
 
 def looked(device: Device, value: Value, now: Channel, turn: int) -> Tuple[Value, Optional[Reply]]:
-    """Returns the value of a device after it has looked at its channel, which is so after so many turns, and its reply if it changes the
-    channel."""
+    """Returns the value of a device after it has looked at its channel, which is so after so many turns, and its reply if it
+    changes the channel."""
     state, word = now
     if now != value.seen:
         kind = "taken" if state == EMPTY_STATE and value.seen[0] != INACTIVE_STATE else KINDS[state]

@@ -57,8 +57,8 @@ def rows_around(word: Word, address: int, before: int, after: int, heads: Contai
 
 
 def rows_above(at: Optional[int], count: int, top: int, is_centred: bool = False) -> Optional[int]:
-    """Returns how many rows a window of so many moves to have above the one that it must show; None if it stays. That one is at `at`
-    now, or not in the window; nothing is above address 0. In a high window it may have to be in the middle third."""
+    """Returns how many rows a window of so many moves to have above the one that it must show; None if it stays. That one is at
+    `at` now, or not in the window; nothing is above address 0. In a high window it may have to be in the middle third."""
     if is_centred and count >= HIGH:
         return None if at is not None and (count // 3 <= at < count - count // 3 or top == 0 and at < count // 3) else count // 2
     if at is None:

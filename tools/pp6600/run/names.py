@@ -3,6 +3,8 @@
 from __future__ import annotations
 
 import bisect
+import functools
+import os
 import re
 from typing import Any, Dict, Iterable, List, Mapping, NamedTuple, Optional, Sequence, Tuple
 
@@ -10,12 +12,15 @@ from ..failure import Failure
 from .forms import CELLS
 from .turn import Processor
 
-FARTHEST = 0o77  # from a label to a cell outside the program, if the label is outside too, as that of a buffer or of a list of names
+# from a label to a cell outside the program, if the label is outside too, as that of a buffer or of a list of names
+FARTHEST = 0o77
 EQUATES = ("=", "EQU")  # before the number of a name that is no label
 EXIT = "X"  # at the end of the name of a subroutine's jump back
 OF_A_PROCESSOR = ("M", "A", "P", "Q")
+BEGINS_NAME = re.compile(r"[^\W\d]")
 WITH_PLACES = ("SET", "DUMP", "WATCH", "UNWATCH")
 NUMBER = re.compile("(-?[0-7]+)[bB]?")  # a B after a number says that it is octal
+MOST_NEAR = 9  # names that are looked at for the nearest
 
 
 def octal_number(text: str) -> Optional[int]:
@@ -45,6 +50,10 @@ class Names:
         return the_number(name, [number for names in (self.labels, self.equates) for number, own in names.items()
                                  if name.upper() in (one.upper() for one in own)])
 
+    def numbers(self) -> Dict[str, int]:
+        """Returns the number of each name."""
+        return {name: number for names in (self.equates, self.labels) for number, own in names.items() for name in own}
+
     def __len__(self) -> int:
         return sum(len(own) for names in (self.labels, self.equates) for own in names.values())
 
@@ -57,6 +66,14 @@ def the_number(name: str, numbers: Iterable[int]) -> Optional[int]:
     return found[0] if found else None
 
 
+def nearest(name: str, names: Iterable[str]) -> str:
+    """Returns the name that may be meant by one that is not known, as the assembler finds it: of the nearest ones that which begins
+    alike the longest; nothing if none is near."""
+    import difflib  # few names are wrong
+    near = difflib.get_close_matches(name.upper(), sorted(set(names)), MOST_NEAR)
+    return max(near, key=lambda one: len(os.path.commonprefix([one, name.upper()])), default="")
+
+
 class AddressNames:
     """What the addresses of one processor are called."""
 
@@ -65,12 +82,18 @@ class AddressNames:
     def __init__(self, names: Names, cells: Iterable[int]) -> None:
         """The cells of the program belong to the label before them, however far it is."""
         self.names, self.cells = names, frozenset(cells)
-        self.labels = names.firsts()
-        self.addresses = sorted(self.labels)
+
+    @functools.cached_property
+    def labels(self) -> Dict[int, str]:
+        return self.names.firsts()
+
+    @functools.cached_property
+    def addresses(self) -> List[int]:
+        return sorted(self.labels)
 
     def name(self, address: int, farthest: Optional[int] = None) -> str:
-        """Returns an address by the nearest label before it, as START+3; if there is none, a name of this number, if any. Outside the program
-        a label counts that is outside too, and near."""
+        """Returns an address by the nearest label before it, as START+3; if there is none, a name of this number, if any. Outside
+        the program a label counts that is outside too, and near."""
         at = bisect.bisect_right(self.addresses, address) - 1
         label = self.addresses[at] if at >= 0 else -CELLS
         distance, most = address - label, (0 if label in self.cells else FARTHEST) if farthest is None else farthest
@@ -133,6 +156,30 @@ class AllSymbols(NamedTuple):
         """Returns the number that a name has, of whichever processor it is; None if there is no such name."""
         return the_number(text, [number for processor in self.of if (number := self.address(processor, text)) is not None])
 
+    def near(self, processor: Optional[int], text: str) -> str:
+        """Returns the name of a processor, or of any, that may be meant by a word that is none; nothing if none is near, or the
+        word is one."""
+        name, known = text.partition("+")[0], [one for number, symbols in self.of.items() if processor in (None, number)
+                                               for one in symbols.names.numbers()]
+        is_wrong = BEGINS_NAME.match(text) and name.upper() not in (one.upper() for one in known)
+        return nearest(name, known) if is_wrong else ""
+
+    def not_known(self, processor: Optional[int], text: str) -> Failure:
+        """Returns what is wrong with a word that is no octal number and no name, of a processor or of any."""
+        near = self.near(processor, text)
+        has_names = any(processor in (None, number) for number in self.of) and BEGINS_NAME.match(text) and "+" not in text
+        return Failure(f"{text} is no name; the nearest is {near}" if near else f"{text} is no name" if has_names
+                       else f"{text} is not octal")
+
+    def cell(self, text: str, own: Optional[int]) -> Optional[Tuple[int, int]]:
+        """Returns the processor and the address of a label, of the own processor or else of the only one that has it; None if there
+        is none."""
+        found = [(processor, address) for processor in self.of if (address := self.address(processor, text)) is not None
+                 and address < CELLS]
+        if len(found) > 1 and own not in dict(found):
+            raise Failure(f"{text} is a name of {' and of '.join(f'PP {processor:02o}' for processor, _ in found)}")
+        return next((one for one in found if len(found) == 1 or one[0] == own), None)
+
     def place_in_digits(self, words: Sequence[str]) -> List[str]:
         """Returns the words of a place, M 0 START or H CH, with digits for the names that are known."""
         kind, processor = [*words[:2], "", ""][:2]
@@ -174,8 +221,8 @@ class AllSymbols(NamedTuple):
         return str(symbols.text(address, word)) if symbols else ""
 
     def line_at_p(self, number: int, processor: Processor) -> str:
-        """Returns the line of a source whose instruction is at P of a processor, or was there, after two blanks; nothing without one, and
-        in a block transfer."""
+        """Returns the line of a source whose instruction is at P of a processor, or was there, after two blanks; nothing without
+        one, and in a block transfer."""
         symbols = self.of.get(number)
         line = symbols.beside(processor.p, processor.words) if symbols and not processor.phase else ""
         return f"  {line}" if line else ""

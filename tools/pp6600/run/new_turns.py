@@ -1,24 +1,26 @@
 """New turns of a session with devices, and the replies to them, before they are on its tape: a device may fail in one of them.
 
-A device uses no watch. Turns are made many at once, as many as passed between the last two changes of a channel; those after the first
-that changed one are undone."""
+A device uses no watch. Turns are made many at once: as many as passed between the last two changes of what the devices see, with a
+look after each, and those after the first that changed it are undone; or up to the next change, which a search of the engine
+finds."""
 
 from __future__ import annotations
 
-from typing import Dict, List, Optional, Sequence, Tuple
+from typing import Any, Dict, List, Optional, Sequence, Tuple
 
 from ..engine import interface as flat
-from ..engine.interface import CHANGES, OUTSIDE, Engine, Form
+from ..engine.interface import CHANGES, Engine, Form
 from .conditions import joined
-from .device import Channel, Event, Reply, Value, called, looked
-from .forms import CHANNELS, Place
-from .past import Past
+from .device import Value
+from .forms import Place
+from .past import Past, Seen
 from .tape import Action, Position, Tape
 
 MOST_AT_ONCE = 4096  # turns
-FEW_TURNS = 32  # turns: to look at the channels after each takes less time than a search
+FEW_NUMBERS = 1024  # to look at so many takes less time than a search
+FEW_TURNS = 32  # the same, if a search would judge each turn
 MOST_PLACES = 16  # of a look
-Channels = Sequence[Channel]
+Numbers = List[int]
 
 
 class NewTurns:
@@ -26,16 +28,23 @@ class NewTurns:
 
     def __init__(self, engine: Engine, pasts: Sequence[Past], room: int, tape: Tape, position: Position) -> None:
         """The engine keeps so many actions, and is at a position of the tape."""
-        self.engine, self.pasts, self.room, self.turn = engine, pasts, min(room, MOST_AT_ONCE), tape.turn(position)
+        self.engine, self.room, self.turn = engine, min(room, MOST_AT_ONCE), tape.turn(position)
         self.others = position - self.turn  # the actions that are no turns
-        self.replies: List[Tuple[Sequence[int], Sequence[Action]]] = []  # each after so many turns
+        self.replies: Tuple[List[int], List[Action]] = [], []  # each after so many turns
         self.stops: List[int] = []  # positions after turns with a HIT
-        self.values = [past.value for past in pasts]  # of the devices
-        self.new: List[Tuple[List[int], List[Value]]] = [([], []) for _ in pasts]  # those that came, with their positions
-        self.gap, self.changed = 1, self.turn  # turns between the last two changes of a channel, and the turn of the last one
-        self.channels = [past.device.channel for past in pasts]
-        self.places = [place for channel in self.channels for place in (flat.STATES + channel, flat.REGISTERS + channel)]
-        self.states = [value.seen[0] for value in self.values]  # of the channels, as the devices left them
+        self.pasts, self.values = pasts, [past.value for past in pasts]
+        self.new: List[Tuple[List[int], List[Value]]] = [([], []) for _ in pasts]  # the values that came, with their positions
+        self.places = tuple([place for past in pasts for place in past.places])
+        ends = [0]
+        for past in pasts:
+            ends.append(ends[-1] + len(past.places))
+        self.parts = [slice(*part) for part in zip(ends, ends[1:])]  # of all numbers that are seen, those of each device
+        self.seen = [number for value in self.values for number in value.seen]  # as the devices left them
+        self.conditions: Dict[Seen, Tuple[Sequence[Form], Sequence[Form]]] = {}
+        self.gap, self.changed = 1, self.turn  # turns between the last two changes of what is seen, and the turn of the last one
+        few = FEW_NUMBERS // max(len(self.places), 1) if all(past.is_found for past in pasts) else FEW_TURNS
+        # turns: as many as are made with a look after each
+        self.few = min(few, self.room) if 0 < len(self.places) <= MOST_PLACES else 0
         self._see_dues()
 
     @property
@@ -46,140 +55,115 @@ class NewTurns:
 
     def make(self, most: int, watched: Sequence[Place]) -> Optional[str]:
         """Makes so many turns, or up to a HIT. Returns the HIT."""
-        end, hit, is_regular = self.turn + most, None, False
-        is_new = self._now() != [value.seen for value in self.values]  # after a SET or a DEADSTART there is something to see
+        end, hit = self.turn + most, None
+        is_new = self._now() != self.seen  # after a SET or a DEADSTART there is something to see
         while self.turn < end and hit is None:
-            if is_regular and self.changed == self.turn and self.due is None and not watched:
-                self._regular_words(end)
-            now = self._turns(1 if is_new else min(self._expected(), end - self.turn), watched) if self.turn < end else None
-            hit = self._hit(watched) if watched else None
-            if now:
-                gap, self.gap = self.gap, min(self.turn - self.changed, self.room)
-                is_regular, self.changed = len(self.pasts) == 1 and gap == self.gap, self.turn
-            if now or is_new or self.due is not None and self.due <= self.turn:
-                now = now or self._now()
-                self._look(now)
-                hit = self._hit_with_replies(watched, hit, now) if watched else None
+            now = self._turns(1 if is_new else self._expected(end), watched)
             is_new = False
+            hit = self._hit(watched) if watched else None
+            if now != self.seen:
+                self.gap, self.changed = min(self.turn - self.changed, self.room), self.turn
+            elif self.due is None or self.due > self.turn:
+                continue
+            before = self._digits(watched) if watched else []
+            if self._look(now) and len(self.pasts) > 1:
+                is_new = self._now() != self.seen  # one has set a word that another one sees
+            if watched:
+                hit = hit_with_replies(watched, hit, before, self._digits(watched))
         return hit
 
-    def _turns(self, most: int, watched: Sequence[Place]) -> Optional[Channels]:
-        """Makes turns up to the first that changes the state of a channel, or a watched number, at most so many. Returns the channels if
-        one changed a state. An instruction that changes a channel changes its state."""
-        if most <= FEW_TURNS and 0 < len(self.places) <= MOST_PLACES:
-            return self._few_turns(most)
-        leaves = [[Form(OUTSIDE, flat.STATES + channel, state, state)] for channel, state in zip(self.channels, self.states)]
-        self.turn += self.engine.until(joined([*leaves, *([Form(CHANGES, place.number, 1)] for place in watched)]), most)[0]
-        now = self._now()
-        return now if any(state != old for (state, _), old in zip(now, self.states)) else None
-
-    def _few_turns(self, most: int) -> Optional[Channels]:
-        """Makes turns as `_turns` does, with a look at the channels after each."""
-        numbers, devices = self.engine.numbers_after(most, self.places)[0], len(self.states)
-        states, width = numbers[::2], 2 * devices
-        made = count = len(numbers) // width
-        same = self.states * (made - 1)
-        if states[:-devices] != same:
-            count = next(at for at, state in enumerate(states) if state != same[at]) // devices + 1
+    def _turns(self, most: int, watched: Sequence[Place]) -> Numbers:
+        """Makes turns up to the first that changes what a device sees, or a watched number, at most so many. Returns what all see
+        then."""
+        if most > self.few:
+            return self._many_turns(most, watched)
+        seen, numbers = self.seen, self.engine.numbers_after(most, self.places)[0]
+        width = len(seen)
+        made, same = len(numbers) // width, numbers[:-width]
+        if same and same != seen * (made - 1):
+            count = next(at for at in range(made) if same[at * width:at * width + width] != seen) + 1
             self.engine.back(made - count)
-        self.turn += count
-        now = numbers[(count - 1) * width:count * width]
-        return list(zip(now[::2], now[1::2])) if now[::2] != self.states else None
+            self.turn += count
+            return same[(count - 1) * width:count * width]
+        self.turn += made
+        return numbers[-width:]
 
-    def _regular_words(self, end: int) -> None:
-        """Makes turns and the replies of the one device, as long as a reply comes after as many turns as the one before."""
-        past, gap, value, turn, engine, (state,) = self.pasts[0], self.gap, self.values[0], self.turn, self.engine, self.states
-        values: List[Value] = []
-        replies: List[Action] = []
-        typed = b""
-        try:
-            while turn + gap <= end:
-                if typed:
-                    engine.perform(typed)
-                typed, turn, numbers = b"", turn + gap, engine.numbers_after(gap, self.places)[0]
-                now = numbers[-2], numbers[-1]
-                new, reply = looked(past.device, value, now, turn) if numbers[:-2:2] == [state] * (gap - 1) else (value, None)
-                if reply is None or new.due is not None:  # these turns are made once more
-                    engine.back(gap)
-                    turn -= gap
-                    break
-                value = new
-                action, typed = past.action(reply)
-                values.append(value)
-                replies.append(action)
-                state = value.seen[0]
-        finally:
-            self.turn = turn
-            self._perform(typed)
-            self.states[0] = state
-            self._note_words(gap, replies, values)
+    def _many_turns(self, most: int, watched: Sequence[Place]) -> Numbers:
+        """Makes turns as `_turns` does, by searches of the engine."""
+        key = tuple([value.seen[0] for past, value in zip(self.pasts, self.values) if not past.is_found])  # the states of channels
+        if key not in self.conditions:
+            self.conditions[key] = self._conditions(watched)
+        found, judged = self.conditions[key]
+        if found and judged:  # two searches are faster than one for both, which would judge all in each turn
+            most = self.engine.until(found, min(most, self.room))[0]
+            self.engine.back(most)
+        self.turn += self.engine.until(judged or found, most)[0]
+        return self._now()
 
-    def _note_words(self, gap: int, replies: Sequence[Action], values: Sequence[Value]) -> None:
-        """Notes replies that came after so many turns each."""
-        if replies:
-            turns = range(self.changed + gap, self.changed + gap * len(replies) + 1, gap)
-            self.replies.append((turns, replies))
-            at, new = self.new[0]
-            at += range(turns[0] + self.others + 1, turns[-1] + self.others + len(turns) + 1, gap + 1)
-            new += values
-            self.values[0], self.changed = values[-1], turns[-1]
-            self.others += len(replies)
+    def _conditions(self, watched: Sequence[Place]) -> Tuple[Sequence[Form], Sequence[Form]]:
+        """Returns what a search goes to at once, and what it judges in each turn."""
+        found: List[List[Form]] = [[Form(CHANGES, place.number, 1)] for place in watched]
+        judged: List[List[Form]] = []
+        for past, value in zip(self.pasts, self.values):
+            (found if past.is_found else judged).extend(past.alternatives(value.seen))
+        return joined(found), joined(judged)
 
-    def _expected(self) -> int:
-        """Returns after how many turns a channel may change, if it goes on as before, or a device is due."""
+    def _expected(self, end: int) -> int:
+        """Returns after how many turns what is seen may change, if it goes on as before, or a device is due; or if these are more
+        than a few, how many turns there are up to then: a search stops by itself."""
         quiet = self.turn - self.changed
-        expected = self.gap - quiet if self.gap > quiet else min(quiet + 1, self.room)
-        return expected if self.due is None else min(expected, max(self.due - self.turn, 1))
+        expected = self.gap - quiet if self.gap > quiet else quiet + 1
+        most = end - self.turn if self.due is None else min(end - self.turn, max(self.due - self.turn, 1))
+        return min(expected, most) if expected <= self.few else most
 
-    def _now(self) -> Channels:
-        """Returns the channels of the devices."""
-        numbers = self.engine.numbers(flat.STATES, 2 * CHANNELS)
-        return [(numbers[channel], numbers[CHANNELS + channel]) for channel in self.channels]
+    def _now(self) -> Numbers:
+        """Returns the numbers that all devices see."""
+        return [number for past in self.pasts for number in past.now(self.engine)]
 
     # ---- what devices do
 
-    def _look(self, now: Channels) -> None:
-        """Lets the devices look after a turn, and performs their replies."""
-        changed: List[Tuple[int, Value]] = []
-        replies: List[Action] = []
+    def _look(self, now: Numbers) -> bool:
+        """Lets the devices look after a turn, and performs their replies. Returns whether there are some."""
+        changed: List[Tuple[int, Value, Any]] = []
         for number, value in enumerate(self.values):
-            past = self.pasts[number]
-            new, reply = looked(past.device, value, now[number], self.turn)
+            new, reply = self.pasts[number].looked(value, tuple(now[self.parts[number]]), self.turn)
             if new is not value:
-                changed.append((number, new))
-                if reply is not None:
-                    replies.append(past.action(reply)[0])
-        self._note(changed, replies)
+                changed.append((number, new, reply))
+        return self._note(changed)
 
     def tell(self, number: int, what: object) -> str:
-        """Tells a device something. It does not look at its channel. Returns the line that the action is."""
-        value, reply = value_told(self.pasts[number], self.values[number], what, self._now()[number], self.turn)
+        """Tells a device something. It does not look. Returns the line that the action is."""
+        past = self.pasts[number]
+        value, reply = past.told(self.values[number], what, past.now(self.engine), self.turn)
         line = f"SET Q 0 {self.engine.numbers(flat.Q, 1)[0]:04o}"
-        self._perform(line.encode())
+        self.engine.perform(line.encode())
         self.others += 1
-        self._note([(number, value)], [] if reply is None else [self.pasts[number].action(reply)[0]])
+        self._note([(number, value, reply)])
         return line
 
-    def _note(self, changed: Sequence[Tuple[int, Value]], replies: Sequence[Action]) -> None:
-        """Performs replies, and notes what devices are after them."""
-        if replies:
-            self._perform("\n".join([line for line, _ in replies]).encode())
-            self.others += len(replies)
-            self.replies.append(([self.turn] * len(replies), replies))
+    def _note(self, changed: Sequence[Tuple[int, Value, Any]]) -> bool:
+        """Performs the replies of devices, each by its number, and notes what they are after them. Returns whether there are
+        some."""
+        turns, replies = self.replies
+        before = len(replies)
+        for number, _, reply in changed:
+            if reply is not None:
+                actions, typed = self.pasts[number].actions(reply)
+                self.engine.perform(typed)
+                replies += actions
+                turns += [self.turn] * len(actions)
+        self.others += len(replies) - before
         position, has_dues = self.turn + self.others, self.due is not None
-        for number, value in changed:
+        for number, value, _ in changed:
             at, values = self.new[number]
             at.append(position)
             values.append(value)
             self.values[number] = value
-            _, (self.states[number], _), due = value
+            _, self.seen[self.parts[number]], due, _ = value
             has_dues = has_dues or due is not None
         if has_dues:
             self._see_dues()
-
-    def _perform(self, typed: bytes) -> None:
-        if typed:
-            self.engine.perform(typed)
+        return len(replies) > before
 
     def _see_dues(self) -> None:
         """Sees for which turn the first device is due."""
@@ -197,26 +181,13 @@ class NewTurns:
         self.stops += [self.position] if hit else []
         return hit
 
-    def _hit_with_replies(self, watched: Sequence[Place], hit: Optional[str], now: Channels) -> Optional[str]:
-        """Returns the HIT of a turn with its replies: that of the turn itself, and the channels after it."""
-        names = [f"H {channel:02o}" for channel in self.channels]
-        seen, after = ({name: f"{register:04o}" for name, (_, register) in zip(names, channels)}
-                       for channels in (now, [value.seen for value in self.values]))
-        return hit_with_replies(watched, hit, seen, after)
-
     def _digits(self, places: Sequence[Place]) -> List[str]:
         return [f"{self.engine.numbers(place.number, 1)[0]:0{place.digits}o}" for place in places]
 
 
-def value_told(past: Past, value: Value, what: object, now: Channel, turn: int) -> Tuple[Value, Optional[Reply]]:
-    """Returns the value of a device after it was told something, and its reply if it changes the channel, which is as `now`."""
-    new, reply = called(past.device, value, Event("told", what, turn), now)
-    return (new._replace(seen=value.seen) if reply is None else new), reply
-
-
-def hit_with_replies(watched: Sequence[Place], hit: Optional[str], seen: Dict[str, str], after: Dict[str, str]) -> Optional[str]:
-    """Returns the HIT of a turn with its replies: that of the first watched place that one of them changed, with the numbers before and
-    after the last one that did."""
+def hit_with_replies(watched: Sequence[Place], hit: Optional[str], before: Sequence[str], after: Sequence[str]) -> Optional[str]:
+    """Returns the HIT of a turn with its replies: that of the first watched place that one of them changed, with the numbers before
+    and after the replies if they did, else before and after the turn."""
     hits = {" ".join(hit.split()[1:-2]): hit} if hit else {}
-    hits.update((place, f"HIT {place} {seen[place]} {number}") for place, number in after.items() if number != seen[place])
+    hits.update((place.text, f"HIT {place.text} {was} {now}") for place, was, now in zip(watched, before, after) if was != now)
     return next((hits[place.text] for place in watched if place.text in hits), None)

@@ -1,4 +1,5 @@
-"""The search for where a number came from: from the end of a run backwards, to the last write of a place that is still asked for."""
+"""The search for where a number came from: from the end of a run backwards, to the last write of a place that is still asked
+for."""
 
 from __future__ import annotations
 
@@ -42,7 +43,8 @@ class Step:
 
     def __init__(self, place: Place, cause: int, position: Position = Position(0), detail: Any = None) -> None:
         """The position is that after the action that wrote it. The detail: of a turn it, its processor and its write; of a SET or a
-        DEADSTART a pair of its line and the number of the word, from 1, or None; of the reader a pair of card and column, or None."""
+        DEADSTART a pair of its line and the number of the word, from 1, or None; of the reader a pair of card and column, or
+        None."""
         self.place, self.cause, self.position, self.first_position, self.detail = place, cause, position, position, detail
         self.times = 1
         self.links: List[Link] = []
@@ -62,8 +64,8 @@ class OriginSearch:
                  progress: Optional[Callable[[Position], object]] = None,
                  is_loaded: Callable[[int, int, int], bool] = lambda number, address, word: True) -> None:
         """After so many steps by processors the sources of a step are searched no more; None: there is no limit. The function
-        `progress` is called with each position that is reached. The function `is_loaded` returns whether a word of an instruction may
-        be as it was loaded into a processor; if not, a constant in it is followed to who wrote the word."""
+        `progress` is called with each position that is reached. The function `is_loaded` returns whether a word of an instruction
+        may be as it was loaded into a processor; if not, a constant in it is followed to who wrote the word."""
         self.run, self.tape, self.is_loaded = run, run.tape, is_loaded
         self.most_steps, self.with_addresses, self.progress = most_steps, with_addresses, progress or (lambda position: None)
         self.asked: Dict[Place, List[Link]] = {}  # places, each with the links that ask for it
@@ -143,7 +145,8 @@ class OriginSearch:
             self._found(Step(place, START))
 
     def _last_write(self, first: Position, last: Position) -> Position:
-        """Returns the position after the last turn between two positions that wrote a place that is asked for; the first if there is none."""
+        """Returns the position after the last turn between two positions that wrote a place that is asked for; the first if there
+        is none."""
         ranges = ranges_of(place.number for place in self.asked)
         for condition in TurnFinder([[is_written(place, size)] for place, size in ranges]).conditions:
             self.run.goto(last)
@@ -177,8 +180,8 @@ class OriginSearch:
             self._follow(step, parts, Position(position - 1))
 
     def _look_at_devices(self, turn: Origins, position: Position, read: Tuple[int, int], length: int) -> None:
-        """Looks at what the reader and the printer wrote in a turn, before which the reader was at a card and column, and the paper had so many
-        symbols."""
+        """Looks at what the reader and the printer wrote in a turn, before which the reader was at a card and column, and the paper
+        had so many symbols."""
         written = {origin.place: origin.operation for origin in turn.others}
         for place in [place for place in self.asked if place.number in written]:
             if place.kind == "LP":
@@ -202,7 +205,8 @@ class OriginSearch:
         later = links[0].owner
         if later is None or later.links != links or later.place != step.place or later.cause != TURN or later.write != step.write:
             return False
-        if step.write.is_moved or self._instruction(step) != self._instruction(later) or addresses_of(step.turn) and self.with_addresses:
+        if (step.write.is_moved or self._instruction(step) != self._instruction(later) or addresses_of(step.turn)
+            and self.with_addresses):
             return False
         if step.processor.phase and later.block and later.block.step:  # the later one's block has begun since
             return False

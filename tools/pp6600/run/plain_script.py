@@ -10,8 +10,8 @@ from .tape import History, Position, Tape, with_notes
 
 
 class PlainScript(History):
-    """The lines that give a session again to the simulator alone: each reply is a SET H after a note that names its device. What the
-    simulator would no longer keep is performed anew, and the script begins anew with it."""
+    """The lines that give a session again to the simulator alone: each reply is a SET H after a note that names its device. What
+    the simulator would no longer keep is performed anew, and the script begins anew with it."""
 
     def __init__(self, room: int, tape: Tape) -> None:
         """The simulator keeps so many actions."""

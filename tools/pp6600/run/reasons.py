@@ -8,8 +8,8 @@ from .forms import CENTRAL_ADDRESSES, CLOCK, KINDS, MOST_TURNS
 from .console import LONGEST_LINE
 
 FORMS = ("SET M n a v ..", "SET A n v", "SET P n v", "SET Q n v", "SET C a v", "SET H c s [v]", "STEP [count]",
-         "BACK [count]", "BACK W", "FORWARD [count]", "WATCH place", "UNWATCH place", "DEADSTART", "DUMP M n a b", "DUMP PP n", "DUMP H",
-         "DUMP C a b", "DUMP XP", "DUMP CR", "DUMP LP", "DUMP W")
+         "BACK [count]", "BACK W", "FORWARD [count]", "WATCH place", "UNWATCH place", "DEADSTART", "DUMP M n a b", "DUMP PP n",
+         "DUMP H", "DUMP C a b", "DUMP XP", "DUMP CR", "DUMP LP", "DUMP W")
 PLACES = ("M n a", "A n", "P n", "Q n", "C a", "H c")
 COMMANDS = tuple(dict.fromkeys(form.split()[0] for form in FORMS))
 SET_STATES = ("I", "E", "F")

@@ -33,8 +33,8 @@ def next_turn(run: Session) -> Tuple[Dict[int, int], Numbers]:
 
 
 def next_changes(run: Session, count: int = 1) -> Dict[int, int]:
-    """Returns the present numbers at the places where they are others after the next actions, so many, which the engine has undone. They are
-    performed again, and undone."""
+    """Returns the present numbers at the places where they are others after the next actions, so many, which the engine has undone.
+    They are performed again, and undone."""
     was, now = overwritten(run.engine.records(count, "again")), Numbers(run)
     found = {place: number for place, number in was.items() if number != now[place]}
     run.engine.back(count)

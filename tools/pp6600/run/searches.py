@@ -1,8 +1,8 @@
-"""The searches of the tools and of the panel: for the turns at which a condition comes to hold, before the present turn and after it, and for
-those by which a processor begins a line of its source. A simulator of its own searches them.
+"""The searches of the tools and of the panel: for the turns at which a condition comes to hold, before the present turn and after
+it, and for those by which a processor begins a line of its source. A simulator of its own searches them.
 
-A processor begins a line by a turn if it is in another line before this turn than before its turn before. So an instruction of two words,
-all instructions that a macro made of a line, and a block transfer with the instruction that began it are one line each.
+A processor begins a line by a turn if it is in another line before this turn than before its turn before. So an instruction of two
+words, all instructions that a macro made of a line, and a block transfer with the instruction that began it are one line each.
 `Source.line_of` says whose line a cell is."""
 
 from __future__ import annotations
@@ -34,7 +34,7 @@ class Stopped(Failure):
 def search_for(run: Session, condition: Condition, progress: Progress = lambda turn: None) -> Search:
     """Returns the search for the turns in which a condition comes to hold."""
     for column in condition.columns:
-        run.number_at(column.place)  # which is refused if the machine has no such place
+        run.checked(column.place)
     finders: List[Finder] = []
     by_turn = []
     for one in condition.alternatives:
@@ -99,7 +99,8 @@ class LineFinder:
         self.turn = run.turn
 
     def begin(self, run: Session) -> None:
-        """Sees which line the processor is in, if it has not seen the turns before. A setting may have changed P, or the cell there."""
+        """Sees which line the processor is in, if it has not seen the turns before. A setting may have changed P, or the cell
+        there."""
         if self.turn != run.turn:
             self.see(run)
         self.has_moved = True
@@ -136,7 +137,8 @@ class LineFinder:
 
 
 def turn_of_next_line(session: Any, number: int, source: Any, count: int, progress: Progress) -> int:
-    """Returns after how many turns a processor begins the line that comes so many lines later, by a turn that was made or a new one."""
+    """Returns after how many turns a processor begins the line that comes so many lines later, by a turn that was made or a new
+    one."""
     with going_on(session) as run:
         begins = LineFinder(number, source)
         run.goto(session.simulator.position)

@@ -130,7 +130,8 @@ CONDITIONS: Dict[str, Callable[[Any], Any]] = {
     "lost": lambda one: one.state == "I" and one.p == 0,
 }
 NUMBERS: Dict[str, Callable[[Any], Any]] = {
-    "A": lambda one: f"{one.a:06o}", "P": lambda one: four(one.p), "Q": lambda one: four(one.processor.q), "a": lambda one: four(one.a),
+    "A": lambda one: f"{one.a:06o}", "P": lambda one: four(one.p), "Q": lambda one: four(one.processor.q), "a": lambda one: four(
+    one.a),
     "A#": lambda one: f"{one.a:o}", "A,": lambda one: counted(one.a), "Q,": lambda one: counted(one.processor.q),
     "d": lambda one: f"{one.d:02o}", "m": lambda one: four(one.processor.words[1]),
     "dm": lambda one: f"{one.d:02o}{four(one.processor.words[1])}",

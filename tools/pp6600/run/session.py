@@ -1,20 +1,23 @@
 """One run of the machine: its tape, a position in it, and the way to any other.
 
-A session performs lines of its user (`act`), and goes to any position of its tape (`goto`): back and forward by the engine's undo history
-and redo list, else by the lines of the tape, from here or from the start in a fresh engine. BACK and FORWARD of its user may go over all
-actions (`act_by_move`). A session that searches performs the actions of a tape anew, but for its watches, so it stops nowhere. One with
-devices is an `Attached`."""
+A session performs lines of its user (`act`), and goes to any position of its tape (`goto`): back and forward by the engine's undo
+history and redo list, else by the lines of the tape, from here or from the start in a fresh engine. BACK and FORWARD of its user
+may go over all actions (`act_by_move`). A session that searches performs the actions of a tape anew, but for its watches, so it
+stops nowhere. One with devices is an `Attached`."""
 
 from __future__ import annotations
 
 import itertools
 import re
-from typing import FrozenSet, Iterator, List, Optional, Sequence
+from typing import TYPE_CHECKING, Iterator, List, Optional, Sequence
 
 from ..failure import Failure
 from .console import Console
 from .forms import MOST_TURNS, refused
 from .tape import STEP, History, Position, Tape, Units, room_of
+
+if TYPE_CHECKING:
+    from .past import Past
 
 MOVE = re.compile(r"[ \t]*(BACK|FORWARD)(?:[ \t]+([0-7]{1,10}))?[ \t\r]*", re.I)
 TOO_FEW_KEPT, TOO_FEW_AHEAD = "ERR 07 TOO FEW KEPT", "ERR 16 TOO FEW AHEAD"
@@ -36,11 +39,11 @@ def number_in(line: str) -> int:
 class Session(Console, History):
     """A run, and a position in it."""
 
-    device_channels: FrozenSet[int] = frozenset()  # on which devices of one's own replied when its tape was made
+    pasts: Sequence[Past] = ()  # of the devices of one's own that replied when its tape was made
 
     def __init__(self, words: Sequence[str] = (), tape: Optional[Tape] = None, is_search: bool = False) -> None:
-        """It begins at the beginning of the tape. A search counts the watches of the tape, and performs none; its history is as long as can
-        be."""
+        """It begins at the beginning of the tape. A search counts the watches of the tape, and performs none; its history is as
+        long as can be."""
         Console.__init__(self, without_history(words) if is_search else words)
         History.__init__(self, room_of(self.words), tape or Tape())
         self.is_search = is_search
@@ -82,8 +85,8 @@ class Session(Console, History):
         return []
 
     def act_by_move(self, line: str) -> List[str]:
-        """As `act`, but BACK goes back over all actions in effect, and FORWARD on over all that are ahead. The answer says also whether
-        `sent` has begun anew."""
+        """As `act`, but BACK goes back over all actions in effect, and FORWARD on over all that are ahead. The answer says also
+        whether `sent` has begun anew."""
         replays, asked = self.replays, MOVE.fullmatch(line)
         word, count = (asked[1].upper(), int(asked[2] or "1", 8)) if asked else ("", 0)
         near, far = (self.kept, self.unit) if word == "BACK" else (self.ahead, self.to_redo)
@@ -99,8 +102,8 @@ class Session(Console, History):
         return [f"{word} {count:o} SLOT {self.slot():02o}"]
 
     def lines_to(self, turn: int) -> Iterator[str]:
-        """Yields the lines that go back or on to where so many turns are in effect, after the settings that follow the last of them. Each
-        must be performed before the next one. New turns do not end where a watched number changes."""
+        """Yields the lines that go back or on to where so many turns are in effect, after the settings that follow the last of
+        them. Each must be performed before the next one. New turns do not end where a watched number changes."""
         if turn < self.turn:
             yield f"BACK {self.back_over(self.turn - turn):o}"
         elif turn >= self.tape.turns and self.to_redo:
@@ -131,7 +134,8 @@ class Session(Console, History):
         return sum(action.times for action in self.tape.actions(first, last) if action.is_watch)
 
     def _play(self, position: Position) -> None:
-        """Performs the actions of the tape up to a position by their lines. A STEP may end where a watched number changes, and goes on."""
+        """Performs the actions of the tape up to a position by their lines. A STEP may end where a watched number changes, and goes
+        on."""
         stops = self.watched or self.tape.watches and not self.is_search
         lines = self.tape.lines(self.position, position, not self.is_search)
         while some := list(itertools.islice(lines, 1 if stops else AT_ONCE)):

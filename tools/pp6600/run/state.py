@@ -1,7 +1,7 @@
 """The whole machine at one position, and the difference of two.
 
-A state has the numbers of the machine as the engine has them, and their digits are made when they are asked for: so to read one takes
-milliseconds although it has 41,000 cells."""
+A state has the numbers of the machine as the engine has them, and their digits are made when they are asked for: so to read one
+takes milliseconds although it has 41,000 cells."""
 
 from __future__ import annotations
 
@@ -87,7 +87,8 @@ class State:
         self.memories = [Memory(numbers[CELLS * number:CELLS * (number + 1)]) for number in range(PROCESSORS)]
         self.processors = [Processor.read(number, numbers.__getitem__) for number in range(PROCESSORS)]
         registers = [f"{numbers[flat.REGISTERS + number]:04o}" for number in range(CLOCK + 1)]
-        self.channels = [Channel(f"{number:02o}", state, register) for number, (state, register) in enumerate(zip(self.states(), registers))]
+        self.channels = [Channel(f"{number:02o}", state, register)
+                         for number, (state, register) in enumerate(zip(self.states(), registers))]
         self.watched = [Place.parse(line[2:]) for line in console.demand("DUMP W") if line != "W NONE"]
         printer, *paper = console.printer()
         channel, symbols, column, mode = fields(printer).values()

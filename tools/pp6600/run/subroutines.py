@@ -1,6 +1,6 @@
-"""The calls of a processor that have not returned: a stack. A call is on it from its RJM until a jump by its entry word is performed, which
-is the LJM in the two cells that end with the return word, wherever P is in between. A jump by the entry word of a call takes those above it
-off too; one by that of no call does nothing."""
+"""The calls of a processor that have not returned: a stack. A call is on it from its RJM until a jump by its entry word is
+performed, which is the LJM in the two cells that end with the return word, wherever P is in between. A jump by the entry word of a
+call takes those above it off too; one by that of no call does nothing."""
 
 from __future__ import annotations
 
@@ -11,7 +11,7 @@ from ..engine import interface as flat
 from ..engine.interface import INSIDE, MOST_ALTERNATIVES, Form
 from .conditions import Alternative, is_written, joined
 from .forms import CELLS
-from .search import first_turn, hold, waits
+from .search import first_turn, holds
 from .session import Session
 from .tape import Position
 
@@ -20,7 +20,8 @@ OFTEN = 0o10000  # turns after which the calls are put onto the tape
 
 
 class Call(NamedTuple):
-    """An RJM that was performed: the cell of the return word, the position after it, its address, and the return address that it stored."""
+    """An RJM that was performed: the cell of the return word, the position after it, its address, and the return address that it
+    stored."""
 
     entry: int
     position: Position
@@ -40,8 +41,8 @@ class Return(NamedTuple):
 
 
 class Stack:
-    """The calls of one processor, the innermost last, as a run goes on. It goes from one turn to the next in which P comes to a jump back
-    or to the first cell of a subroutine."""
+    """The calls of one processor, the innermost last, as a run goes on. It goes from one turn to the next in which P comes to a
+    jump back or to the first cell of a subroutine."""
 
     def __init__(self, number: int, entries: Iterable[int]) -> None:
         """The entries are the cells of return words."""
@@ -49,7 +50,8 @@ class Stack:
         self.calls: Tuple[Call, ...] = ()
         self.astray: Tuple[Call, ...] = ()  # those that another instruction than their jump back has led elsewhere
         ends = [range_ for entry in self.entries for range_ in around(entry)]
-        self.comes = joined([is_written(flat.P + number), Form(INSIDE, flat.P + number, *one)] for one in merged(ends, MOST_ALTERNATIVES))
+        self.comes = joined([is_written(flat.P + number), Form(INSIDE, flat.P + number, *one)]
+                            for one in merged(ends, MOST_ALTERNATIVES))
         self.leaves = (is_written(flat.P + number),)
 
     def begin(self, run: Session) -> None:
@@ -74,8 +76,8 @@ class Stack:
         return self.left(run, (processor.p + 1) % CELLS, processor.name == LJM) if was_at_jump else None
 
     def left(self, run: Session, entry: int, is_back: bool) -> Optional[Return]:
-        """Sees what was performed in the place of the jump back of an entry: it ends the innermost call, and those above it, if it is that
-        jump; else it leads the call astray, once."""
+        """Sees what was performed in the place of the jump back of an entry: it ends the innermost call, and those above it, if it
+        is that jump; else it leads the call astray, once."""
         at = next((at for at in reversed(range(len(self.calls))) if self.calls[at].entry == entry), None)
         if at is None or not is_back and self.calls[at] in self.astray:
             return None
@@ -103,35 +105,33 @@ def merged(ranges: Iterable[Tuple[int, int]], most: int) -> List[Tuple[int, int]
 
 
 def calls_at(run: Session, number: int, entries: Iterable[int], position: Position) -> List[Call]:
-    """Returns the calls of a processor that have not returned at a position of a run, the innermost last. It goes on from the last position
-    before at which the tape has them."""
+    """Returns the calls of a processor that have not returned at a position of a run, the innermost last. It goes on from the last
+    position before at which the tape has them."""
     stack, tape = Stack(number, entries), run.tape
     if not stack.entries:
         return []
     seen = tape.seen.setdefault((number, stack.entries), [(Position(0), ((), ()))])
     first, (stack.calls, stack.astray) = seen[bisect.bisect_right(seen, (position + 1,)) - 1]
-    run.goto(first)
-    while run.position < position:
-        run.goto(min(tape.after_turn(run.turn), position))
+    for row, end in tape.rows_of_turns(first, position):
+        run.goto(row)
         stack.begin(run)
-        end = min(tape.starts[tape.run_after(run.position) + 1], position)
         while run.position < end:
             stack.next(run, end - run.position)
-            if run.position >= first + OFTEN or run.position == position:
+            if run.position >= min(first + OFTEN, position):
                 first = run.position
                 bisect.insort(seen, (first, (stack.calls, stack.astray)))
     return list(stack.calls)
 
 
 class ReturnFinder:
-    """Finds the turns in which an alternative holds that has a subroutine return wrongly: what is performed in the place of its jump back
-    leads to another address than its RJM stored."""
+    """Finds the turns in which an alternative holds that has a subroutine return wrongly: what is performed in the place of its
+    jump back leads to another address than its RJM stored."""
 
     remembers = True
 
     def __init__(self, alternative: Alternative) -> None:
         self.stacks = [Stack(one.number, one.entries) for one in alternative.returns]
-        self.others, self.waits = alternative.forms, alternative.waits
+        self.alternative = alternative
 
     def begin(self, run: Session) -> None:
         for stack in self.stacks:
@@ -141,6 +141,6 @@ class ReturnFinder:
         end, (stack, *others) = run.position + most, self.stacks
         while run.position < end:
             returned = stack.next(run, end - run.position)
-            if returned and returned.is_wrong and not others and hold(run, self.others) and all(waits(run, one) for one in self.waits):
+            if returned and returned.is_wrong and not others and holds(run, self.alternative):
                 return True
         return False

@@ -1,13 +1,13 @@
 """The actions of a run, and a history as a place in them.
 
-A tape is a list of actions in the order of a script: each a line, and how often it was performed in a row. All turns are one kind of
-action, STEP, however they were asked for. A position is a number of actions: at position n so many are performed. A tape turns
+A tape is a list of actions in the order of a script: each a line, and how often it was performed in a row. All turns are one kind
+of action, STEP, however they were asked for. A position is a number of actions: at position n so many are performed. A tape turns
 positions into turns and back by prefix sums and a search by halves, so 20 million turns cost no more than one.
 
-A history is a cursor on a tape. What is before its position is in effect, and what is after it is ahead. The simulator itself can go by
-BACK to the positions from `oldest` on, and by FORWARD to those up to `newest`; all others need a replay. A new action cuts what is ahead
-off the tape, as the console discards its redo list. An action that is replayed does not, so a session goes back and forward without a
-limit."""
+A history is a cursor on a tape. What is before its position is in effect, and what is after it is ahead. The simulator itself can
+go by BACK to the positions from `oldest` on, and by FORWARD to those up to `newest`; all others need a replay. A new action cuts
+what is ahead off the tape, as the console discards its redo list. An action that is replayed does not, so a session goes back and
+forward without a limit."""
 
 from __future__ import annotations
 
@@ -15,8 +15,9 @@ import bisect
 import functools
 import re
 from array import array
-from itertools import chain, repeat
-from typing import Any, Container, Dict, Iterable, Iterator, List, MutableSequence, NamedTuple, NewType, Optional, Sequence, Tuple, Type, TypeVar
+from itertools import repeat
+from typing import (Any, Container, Dict, Iterable, Iterator, List, MutableSequence, NamedTuple, NewType, Optional, Sequence,
+                    Tuple, Type, TypeVar)
 
 from ..failure import Failure
 from .forms import MOST_TURNS, PROCESSORS
@@ -26,9 +27,10 @@ Position = NewType("Position", int)  # how many actions of a tape come before
 Units = NewType("Units", int)  # a number of actions as a user counts them
 L = TypeVar("L", bound="KnownLine")
 STEP = "STEP"
-NOTE_OF_DEVICE = re.compile(r"\* DEVICE (\S+)((?: [A-Z]+(?: [0-7]+)?)*)\r?")  # the line after it is a reply of this device, with a remark
+# the line after it is a reply of this device, with a remark
+NOTE_OF_DEVICE = re.compile(r"\* DEVICE (\S+)((?: [A-Z]+(?: [0-7]+)?)*)\r?")
 REJECT = "REJECT"  # the remark of a device that takes no such code
-REPLY = "SET H "
+REPLIES = "SET H ", "SET C "
 WATCH = re.compile(r"[ \t]*(?:UN)?WATCH\b", re.I)
 DEAD_START = re.compile(r"[ \t]*DEADSTART\b", re.I)
 
@@ -54,12 +56,12 @@ class ScriptLine(KnownLine):
 
 
 class ReplyLine(KnownLine):
-    """A SET H that is the reply of a device of one's own, with the name of this, and its remark."""
+    """A SET H or SET C that is the reply of a device of one's own, with the name of this, and its remark."""
 
 
 class SourceLine(KnownLine):
-    """A line before a script that loads words of a source. Of each of its numbers, by its number in the line, it has the place in the
-    source."""
+    """A line before a script that loads words of a source. It has the function that returns the place in the source of each of its
+    numbers, by its number in the line."""
 
 
 def counted(lines: Iterable[str]) -> Iterator[Tuple[int, str]]:
@@ -78,7 +80,7 @@ def numbered(lines: Iterable[str]) -> List[str]:
         if isinstance(line, SourceLine):
             found.append(line)
         else:
-            found.append(ReplyLine(line, note[1] + note[2]) if note and line.startswith(REPLY) else ScriptLine(line, number))
+            found.append(ReplyLine(line, note[1] + note[2]) if note and line.startswith(REPLIES) else ScriptLine(line, number))
         note = NOTE_OF_DEVICE.fullmatch(line)
     return found
 
@@ -102,18 +104,21 @@ class Action(NamedTuple):
         return self.times if self.line == STEP else 0
 
     @property
+    def setter(self) -> str:
+        """Who made a setting: SET, DEADSTART, or a device of one's own with the remark of its reply."""
+        return f"DEVICE {self.line.origin}" if isinstance(self.line, ReplyLine) else self.line.upper().split()[0]
+
+    @property
     def is_watch(self) -> bool:
         return WATCH.match(self.line) is not None
 
 
+def is_reply(action: Action) -> bool:
+    """Returns whether an action is the reply of a device of one's own."""
+    return type(action[0]) is ReplyLine
+
+
 turns_of = functools.lru_cache(maxsize=4096)(functools.partial(Action, STEP))
-
-
-def interleaved(first: int, step: int, count: int, more: int = 0) -> Any:
-    """Returns so many numbers from the first one on, and after each the one that is so much more, as a list of sums has them."""
-    found, numbers = array("q", bytes(16 * count)), range(first, first + count * step, step)
-    found[::2], found[1::2] = array("q", numbers), array("q", range(first + more, numbers.stop + more, step))
-    return found
 
 
 class Tape:
@@ -122,7 +127,8 @@ class Tape:
     def __init__(self, actions: Iterable[Action] = ()) -> None:
         self.runs: List[Action] = []
         sums: Any = array("q", [0])  # which has no object for each
-        self.starts: MutableSequence[Position] = sums[:]  # of each run of actions, and of the end; and the turns and units before them
+        # of each run of actions, and of the end; and the turns and units before them
+        self.starts: MutableSequence[Position] = sums[:]
         self.turns_before: MutableSequence[int] = sums[:]
         self.units_before: MutableSequence[int] = sums[:]
         self.dead_starts: List[Position] = []  # the positions after them
@@ -135,33 +141,40 @@ class Tape:
         """Adds an action at the end, so many times."""
         if not times:
             return
-        is_turn, is_reply = line == STEP, type(line) is ReplyLine
+        is_turn, is_of_device = line == STEP, type(line) is ReplyLine
         if is_turn and self.runs and self.runs[-1].line == STEP:
             times += self._pop().times
-        self._add(Action(line, times), times * is_turn, times * (not is_reply))
-        if not (is_turn or is_reply):
+        self._begin(Action(line, times), Position(self.end + times), self.turns + times * is_turn,
+                    self.units_before[-1] + times * (not is_of_device))
+        if not (is_turn or is_of_device):
             self.watches += WATCH.match(line) is not None
             if DEAD_START.match(line):
                 self.dead_starts.append(self.end)
 
     def append_replies(self, turns: Sequence[int], replies: Sequence[Action]) -> None:
-        """Adds replies, and the turns before each of them: it comes after so many in all. A range of them is added at once."""
-        few = 1 if isinstance(turns, range) else len(turns)  # the first turns go on with those before them
-        for at, reply in zip(turns[:few], replies):
+        """Adds replies, and the turns before each of them: it comes after so many in all."""
+        for at in turns[:1]:  # the first turns go on with those before them
             self.append(STEP, at - self.turns)
-            self._add(reply, 0, 0)
-        if isinstance(turns, range) and turns[1:]:
-            gap, more = turns.step, len(turns) - 1
-            self.runs += chain.from_iterable(zip(repeat(turns_of(gap)), replies[1:]))
-            self.starts += interleaved(self.end + gap, gap + 1, more, 1)
-            self.turns_before += interleaved(self.turns + gap, gap, more)
-            self.units_before += interleaved(self.units_before[-1] + gap, gap, more)
+        before, others, ends = self.turns, self.end - self.turns, []
+        for at, reply in zip(turns, replies):
+            if at > before:
+                self.runs.append(turns_of(at - before))
+                ends.append((at + others, at))
+                before = at
+            others += 1
+            self.runs.append(reply)
+            ends.append((at + others, at))
+        more = self.units_before[-1] - self.turns
+        self.starts.extend([Position(end) for end, _ in ends])
+        self.turns_before.extend([turn for _, turn in ends])
+        self.units_before.extend([turn + more for _, turn in ends])
 
-    def _add(self, run: Action, turns: int, units: int) -> None:
+    def _begin(self, run: Action, end: Position, turns: int, units: int) -> None:
+        """Adds a run of actions, after which there are so many actions, turns and units."""
         self.runs.append(run)
-        self.starts.append(self.starts[-1] + run[1])  # type: ignore[arg-type]
-        self.turns_before.append(self.turns_before[-1] + turns)
-        self.units_before.append(self.units_before[-1] + units)
+        self.starts.append(end)
+        self.turns_before.append(turns)
+        self.units_before.append(units)
 
     def _pop(self) -> Action:
         """Removes the last run, and returns it."""
@@ -239,27 +252,27 @@ class Tape:
 
     def latest_turn(self, number: int, position: Position) -> Optional[Position]:
         """Returns the position before the latest turn of a processor before a position; None if there is none."""
-        while position:
-            run = self.run_before(position)
-            first = self.starts[run]
-            if self.runs[run].line == STEP:
-                at = position - 1 - (self.slot(Position(position - 1)) - number) % PROCESSORS
-                if at >= first:
-                    return Position(at)
-            position = first
+        for first, end in self.rows_back(position):
+            at = end - 1 - (self.slot(Position(end - 1)) - number) % PROCESSORS
+            if at >= first:
+                return Position(at)
         return None
 
     def last_tick(self, position: Position) -> Position:
         """Returns the position after the last turn before this one in which the clock changed; 0 if there is none."""
+        for first, end in self.rows_back(position):
+            passed = (self.slot(first) + end - first) % PROCESSORS  # turns since the last turn of the last processor
+            if end - passed > first:
+                return Position(end - passed)
+        return Position(0)
+
+    def rows_back(self, position: Position) -> Iterator[Tuple[Position, Position]]:
+        """Yields the beginning and the end of each row of turns before a position, the last one first."""
         while position:
-            run = self.run_before(position)
-            first = self.starts[run]
+            run, end = self.run_before(position), position
+            position = self.starts[run]
             if self.runs[run].line == STEP:
-                passed = (self.slot(first) + position - first) % PROCESSORS  # turns since the last turn of the last processor
-                if position - passed > first:
-                    return Position(position - passed)
-            position = first
-        return position
+                yield position, end
 
     # ---- what
 
@@ -273,8 +286,8 @@ class Tape:
             first = Position(first + count)
 
     def rows_of_turns(self, first: Position = Position(0), last: Optional[Position] = None) -> Iterator[Tuple[Position, Position]]:
-        """Yields the positions before and after each row of turns, with no other action in it, from a position to a later one, or to the
-        end."""
+        """Yields the positions before and after each row of turns, with no other action in it, from a position to a later one, or
+        to the end."""
         for action in self.actions(first, last):
             first, before = Position(first + action.times), first
             if action.line == STEP:
@@ -289,8 +302,8 @@ class Tape:
                 yield from repeat(line, times)
 
     def stops(self, first: int = 0, processors: Container[int] = range(PROCESSORS)) -> Iterator[Tuple[Position, str]]:
-        """Yields the position before each turn of some processors, with STEP, from turn number `first` on (from 0); and the position
-        after each other action from there on, with its line."""
+        """Yields the position before each turn of some processors, with STEP, from turn number `first` on (from 0); and the
+        position after each other action from there on, with its line."""
         for run, action in enumerate(self.runs):
             begin, end = self.starts[run] + max(first - self.turns_before[run], 0), self.starts[run + 1]
             if action.turns:
@@ -301,7 +314,8 @@ class Tape:
 
 
 class History:
-    """A cursor on a tape, and how far the simulator itself can go from it: by BACK to the oldest position, by FORWARD to the newest."""
+    """A cursor on a tape, and how far the simulator itself can go from it: by BACK to the oldest position, by FORWARD to the
+    newest."""
 
     position = oldest = newest = Position(0)
 

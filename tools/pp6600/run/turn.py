@@ -1,8 +1,8 @@
 """What is read from the instruction table, with which the tests compare it.
 
-`Processor` is a processor before a turn: which instruction it will perform, whether that waits as the channels are, and where its operand
-is. No number is computed here but addresses: each is read from the simulator. What a turn wrote, and from what, the engines say.
-docs/MACHINE.md has the table in words."""
+`Processor` is a processor before a turn: which instruction it will perform, whether that waits as the channels are, and where its
+operand is. No number is computed here but addresses: each is read from the simulator. What a turn wrote, and from what, the engines
+say. docs/MACHINE.md has the table in words."""
 
 from __future__ import annotations
 
@@ -152,8 +152,8 @@ def states_of(channels: Sequence[str]) -> List[str]:
 # ---- what a setting wrote
 
 def places_of_setting(line: str) -> Dict[Place, Optional[int]]:
-    """Returns the places that a SET or a DEADSTART writes, each with the number of its word in the line, or of its word of the panel,
-    from 1, or None. Other actions write none."""
+    """Returns the places that a SET or a DEADSTART writes, each with the number of its word in the line, or of its word of the
+    panel, from 1, or None. Other actions write none."""
     words = line.upper().split()
     return places_of_set(words) if words[0] == "SET" else PLACES_OF_DEAD_START if words[0] == "DEADSTART" else {}
 

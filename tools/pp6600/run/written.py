@@ -16,10 +16,11 @@ ADVANCES = (of.AFTER1, of.AFTER2, of.AFTER5)
 MOVES = (of.MOVED, of.JOINED, of.NO_WORD, of.ZERO, of.ONE, of.TWO, of.THREE)
 # How a number that is computed is made, before what it is made from.
 WORDS = {of.SUM: "SUM OF", of.LOW_SUM: "SUM OF", of.DIFFERENCE: "DIFFERENCE OF", of.LOGICAL_DIFFERENCE: "LOGICAL DIFFERENCE OF",
-         of.LOGICAL_PRODUCT: "LOGICAL PRODUCT OF", of.CLEARED: "SELECTIVE CLEAR OF", of.SHIFTED: "SHIFT OF", of.COMPLEMENT: "COMPLEMENT OF",
-         of.ONE_MORE: "ONE MORE THAN", of.LOW_ONE_MORE: "ONE MORE THAN", of.ONE_LESS: "ONE LESS THAN", of.LOW_ONE_LESS: "ONE LESS THAN",
-         of.RELATIVE: "RELATIVE JUMP BY", of.INDEXED: "INDEXED ADDRESS OF", of.AFTER_INDEXED: "AFTER INDEXED ADDRESS OF",
-         of.AFTER1: "ADDRESS AFTER", of.CENTRAL_AFTER: "ADDRESS AFTER", of.COUNT_DOWN: "ONE LESS THAN"}
+         of.LOGICAL_PRODUCT: "LOGICAL PRODUCT OF", of.CLEARED: "SELECTIVE CLEAR OF", of.SHIFTED: "SHIFT OF",
+         of.COMPLEMENT: "COMPLEMENT OF", of.ONE_MORE: "ONE MORE THAN", of.LOW_ONE_MORE: "ONE MORE THAN",
+         of.ONE_LESS: "ONE LESS THAN", of.LOW_ONE_LESS: "ONE LESS THAN", of.RELATIVE: "RELATIVE JUMP BY",
+         of.INDEXED: "INDEXED ADDRESS OF", of.AFTER_INDEXED: "AFTER INDEXED ADDRESS OF", of.AFTER1: "ADDRESS AFTER",
+         of.CENTRAL_AFTER: "ADDRESS AFTER", of.COUNT_DOWN: "ONE LESS THAN"}
 END_OF_BLOCK = "END OF BLOCK OF"
 
 
@@ -40,7 +41,8 @@ class Write(NamedTuple):
     @property
     def sources(self) -> List[Read]:
         """What it is made from, beside P and the constants of the instruction."""
-        read = [Read(Place.at(number), PARTS.get(field)) for number, field in self.origin.reads if field not in (of.D, of.M, of.WORD)]
+        read = [Read(Place.at(number), PARTS.get(field)) for number, field in self.origin.reads
+                if field not in (of.D, of.M, of.WORD)]
         return [one for one in read if one.place.kind != "P"]
 
     @property
@@ -58,7 +60,8 @@ class Write(NamedTuple):
         digits = {of.D: f"{processor.channel:02o}", of.M: f"{processor.words[1]:04o}"}
         given = "".join(digits.get(field, "") for _, field in self.origin.reads)
         is_zero = "" if self.origin.reads else "ZERO PAST THE LAST WORD" if self.origin.operation == of.NO_WORD else "ZERO"
-        return [text for text in (f"CONSTANT {given}" if given else "", "RETURN ADDRESS" if self.is_return else "", is_zero) if text]
+        return [text for text in (f"CONSTANT {given}" if given else "", "RETURN ADDRESS" if self.is_return else "", is_zero)
+                if text]
 
     @property
     def ends_block(self) -> bool:
@@ -100,13 +103,14 @@ def reasons_of(control: Sequence[int]) -> List[Place]:
 
 
 def writes_of(turn: Origins, p: int) -> List[Write]:
-    """Returns what the processor of a turn wrote, with P after it. That P goes on to the next instruction, or a block to its next cell, is
-    no write."""
+    """Returns what the processor of a turn wrote, with P after it. That P goes on to the next instruction, or a block to its next
+    cell, is no write."""
     return [Write(Place.at(origin.place), origin) for origin in turn.own if not goes_on(turn, origin, p)]
 
 
 def goes_on(turn: Origins, origin: Origin, p: int) -> bool:
-    """Returns whether P goes on. A jump to the instruction after it is as if P had gone on, and a relative one by no cells is a stop."""
+    """Returns whether P goes on. A jump to the instruction after it is as if P had gone on, and a relative one by no cells is a
+    stop."""
     if Place.at(origin.place).kind != "P":
         return False
     code, d = divmod(turn.word, 0o100)

@@ -1,5 +1,5 @@
-"""Archives whose bytes are those of their contents alone. Nothing in them is compressed, for each version of a compressor, and of Python,
-would write other bytes."""
+"""Archives whose bytes are those of their contents alone. Nothing in them is compressed, for each version of a compressor, and of
+Python, would write other bytes."""
 
 import io
 import struct
@@ -21,7 +21,8 @@ def gzipped(data: bytes) -> bytes:
 
 
 def zipped(files: Mapping[str, Tuple[bytes, bool]], time: Sequence[int] = EARLIEST) -> bytes:
-    """Returns a zip archive of files by their names, each with its bytes and whether it is a program, in the order of their names."""
+    """Returns a zip archive of files by their names, each with its bytes and whether it is a program, in the order of their
+    names."""
     written = io.BytesIO()
     with zipfile.ZipFile(written, "w", zipfile.ZIP_STORED) as archive:
         for name, (data, runs) in sorted(files.items()):

@@ -6,5 +6,6 @@ from .options import (
     SCRIPT_WORD, TURN_OPTION, Parser, arguments, cell, channel, count, octal, processor, simulator, words_after)
 from .text_files import bytes_of, read_lines, script_lines
 
-__all__ = ["SCRIPT_WORD", "TURN_OPTION", "Failure", "Parser", "arguments", "bytes_of", "cell", "channel", "complain", "count", "octal", "processor",
-           "read_lines", "run", "script_lines", "simulator", "words_after", "write", "write_bytes", "write_lines"]
+__all__ = ["SCRIPT_WORD", "TURN_OPTION", "Failure", "Parser", "arguments", "bytes_of", "cell", "channel", "complain", "count",
+           "octal", "processor", "read_lines", "run", "script_lines", "simulator", "words_after", "write", "write_bytes",
+           "write_lines"]

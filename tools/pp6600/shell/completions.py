@@ -21,8 +21,8 @@ ROWS = {"bash": ("--{name}) mapfile -t COMPREPLY < <(compgen -W '{values}' -- \"
 
 
 def filled(shell: str, text: str) -> str:
-    """Returns the completion of a shell, of a text with the mark: a row for each option whose value is known to be one of some, or a
-    number."""
+    """Returns the completion of a shell, of a text with the mark: a row for each option whose value is known to be one of some, or
+    a number."""
     with_values, with_number = ROWS[shell]
     rows = [with_values.format(name=name, values=" ".join(values)) for name, values in VALUES.items()] + [
         with_number.format(name=name) for name in NUMBERS]

@@ -1,7 +1,7 @@
 """What an installation of the simulator has, and how it is put below a folder and taken away again; which program a checkout runs.
 
-An installation is a manifest: paths below a prefix, each with a file or a link. That of a checkout is made from its files, that of an
-installation is read from its list. Nothing but Python's standard library is used."""
+An installation is a manifest: paths below a prefix, each with a file or a link. That of a checkout is made from its files, that of
+an installation is read from its list. Nothing but Python's standard library is used."""
 
 from __future__ import annotations
 
@@ -14,7 +14,7 @@ import signal
 import subprocess
 import sys
 import tempfile
-from typing import Dict, Iterator, List, Optional, Tuple
+from typing import Dict, Iterable, Iterator, List, Optional, Tuple
 
 from ..__main__ import MODULES
 from ..engine.choice import HOME, LIBRARIES, MACHINE_HERE, NAMES, first_that_starts, handed_out, of_checkout, verified
@@ -26,7 +26,8 @@ from .libraries import for_c, for_javascript
 from .manifest import Entry, File, Manifest, SymbolicLink, entry_at, files_below, read, with_folders
 from .text_files import bytes_of
 
-TOP = os.path.dirname(os.path.dirname(os.path.dirname(os.path.dirname(os.path.realpath(__file__)))))  # the checkout, or OWN below a prefix
+# the checkout, or OWN below a prefix
+TOP = os.path.dirname(os.path.dirname(os.path.dirname(os.path.dirname(os.path.realpath(__file__)))))
 IS_CHECKOUT = os.path.exists(os.path.join(TOP, "share", "which-build"))
 
 # Below the prefix of an installation:
@@ -34,10 +35,14 @@ OWN = "libexec/pp6600"
 PAGES = "share/pp6600"
 LIST = f"{OWN}/installed"  # the paths, one a line
 FILM = f"{PAGES}/docs/films/dead-start-from-cards.html"  # it shows the solution of an exercise
-LEFT_OUT = b'<!DOCTYPE html><meta charset="utf-8"><title>Left out</title>\n<p>This film shows the answer to an exercise. The lecturer has it.\n'
+LEFT_OUT = (b'<!DOCTYPE html><meta charset="utf-8"><title>Left out</title>\n<p>This film shows the answer to an exercise. The '
+            b'lecturer has it.\n')
 
+LAUNCHER = "launcher"  # to which the installer and each tool are links
 IN_PAGES = ("README.md", "CHANGELOG.md", "CONTRIBUTING.md", "SECURITY.md", "docs", "examples", "exercises", "share/editors")
-IN_OWN = {"pp6600-python": "pp6600-python", "VERSION": "VERSION", "commands": "share/commands", "install": "share/install", "pp6600.cmd": "pp6600.cmd"}
+IN_OWN = {"pp6600-python": "pp6600-python", "VERSION": "VERSION", "commands": "share/commands", "pp6600.cmd": "pp6600.cmd",
+          LAUNCHER: "share/launcher",
+          "scripts/__init__.py": "share/scripts/__init__.py", "scripts/install.py": "share/scripts/install.py"}
 OF_CHECKOUT = re.compile(r"docs/(.*\.(py|txt)|evaluate)$")  # what makes pages, or needs the sources
 ALL = "all"  # for each machine
 PAGE_MODULE = "pp6600.wasm"  # with which a page of any machine runs
@@ -49,7 +54,8 @@ LINKS = {".md": re.compile(r"!?\[(?P<text>[^\[\]]*)\]\((?P<file>[^)#:\s]+)[^)]*\
 
 
 def page_module() -> bytes:
-    """Returns the simulator with which a page runs: that of a checkout or of a class, whose folder has it in dist, or of an installation."""
+    """Returns the simulator with which a page runs: that of a checkout or of a class, whose folder has it in dist, or of an
+    installation."""
     for path in (os.path.join(HOME, "dist", PAGE_MODULE), os.path.join(HOME, PAGE_MODULE)):
         if os.path.exists(path):
             return bytes_of(path)
@@ -66,7 +72,8 @@ def part(path: str) -> Manifest:
 def manual_pages() -> Manifest:
     """Returns the manual pages of a checkout."""
     with tempfile.TemporaryDirectory() as room:
-        done = subprocess.run([sys.executable, os.path.join(TOP, "share", "manual"), room], capture_output=True, text=True, check=False)
+        done = subprocess.run([sys.executable, os.path.join(TOP, "share", "manual"), room], capture_output=True, text=True,
+                              check=False)
         if done.returncode:
             raise Failure(f"the manual pages can't be made: {done.stderr.strip()}")
         return {f"share/man/man1/{name}.gz": packed(os.path.join(room, name)) for name in os.listdir(room)}
@@ -88,8 +95,8 @@ def completions() -> Manifest:
 
 
 def programs_for(machine: str, *options: str) -> Dict[str, str]:
-    """Returns the paths of the proved programs of a checkout, by their names, for a machine such as x86_64; those for any if it is all.
-    The options are those of share/which-build."""
+    """Returns the paths of the proved programs of a checkout, by their names, for a machine such as x86_64; those for any if it is
+    all. The options are those of share/which-build."""
     names = [name for one in NAMES if machine in (one, ALL) for name in (*NAMES[one], *LIBRARIES[one])]
     found: Dict[str, str] = {}
     for path in verified(TOP, [*names, PAGE_MODULE] if names else [], *options):
@@ -98,16 +105,21 @@ def programs_for(machine: str, *options: str) -> Dict[str, str]:
 
 
 def of_this_checkout(programs: Dict[str, str], separate: bool = False) -> Manifest:
-    """Returns what a checkout installs, with these programs by their names. If it is said, a library lies in a folder of its machine."""
+    """Returns what a checkout installs, with these programs by their names. If it is said, a library lies in a folder of its
+    machine."""
     found: Manifest = {f"{OWN}/{name}": read(path)._replace(runs=not name.endswith(LOADED)) for name, path in programs.items()}
     found.update({f"{OWN}/{name}": read(os.path.join(TOP, path)) for name, path in IN_OWN.items()})
     found["bin/pp6600"] = read(os.path.join(TOP, "pp6600"))
     found["bin/pp6600-python"] = SymbolicLink(f"../{OWN}/pp6600-python")
     found.update({f"bin/pp6600-{name}": SymbolicLink(f"../{OWN}/tools/{name}") for name in MODULES})
     found.update({f"{OWN}/{path}": entry for path, entry in part("tools").items()})
-    found.update({f"{PAGES}/{path}": entry for name in IN_PAGES for path, entry in part(name).items() if not OF_CHECKOUT.match(path)})
+    found.update({f"{OWN}/tools/{name}": SymbolicLink(f"../{LAUNCHER}") for name in MODULES},
+                 **{f"{OWN}/install": SymbolicLink(LAUNCHER)})
+    found.update({f"{PAGES}/{path}": entry for name in IN_PAGES for path, entry in part(name).items()
+                  if not OF_CHECKOUT.match(path)})
     found[f"{PAGES}/tools"] = SymbolicLink(f"../../{OWN}/tools")
-    found.update({f"share/doc/pp6600/{name}": SymbolicLink(f"../../pp6600/{name}") for name in ("tools", *(path.split("/")[0] for path in IN_PAGES))})
+    found.update({f"share/doc/pp6600/{name}": SymbolicLink(f"../../pp6600/{name}")
+                  for name in ("tools", *(path.split("/")[0] for path in IN_PAGES))})
     found.update(for_c(TOP, OWN, programs, separate))
     if PAGE_MODULE in programs:
         found.update(for_javascript(TOP, f"{OWN}/{PAGE_MODULE}"))
@@ -158,8 +170,8 @@ def without_lost_links(manifest: Manifest) -> Manifest:
 
 
 def listed(prefix: str) -> List[str]:
-    """Returns the paths that the installation below a prefix has, by its list. Fails if one leads out of the prefix, or is of another
-    package."""
+    """Returns the paths that the installation below a prefix has, by its list. Fails if one leads out of the prefix, or is of
+    another package."""
     whole = os.path.join(prefix, LIST)
     try:
         paths = bytes_of(whole).decode("utf-8").removesuffix("\n").split("\n")
@@ -174,11 +186,13 @@ def listed(prefix: str) -> List[str]:
 def is_own(path: str) -> bool:
     """Returns whether a path can be one of an installation: below its prefix, with the name of this package in it."""
     names = path.split("/")
-    return not {"", os.curdir, os.pardir} & set(names) and "\0" not in path and any(re.match("_*(lib)?pp6600", name) for name in names)
+    return (not {"", os.curdir, os.pardir} & set(names) and "\0" not in path
+            and any(re.match("_*(lib)?pp6600", name) for name in names))
 
 
-def put(manifest: Manifest, folder: str) -> None:
-    """Writes files and links below a folder. All are written beside their places first, so if one can't be, all is as it was."""
+def put(manifest: Manifest, folder: str) -> List[str]:
+    """Writes files and links below a folder. All are written beside their places first, so if one can't be, all is as it was.
+    Returns what it made: first the folders above, last what was beside its place."""
     made: List[str] = []
     try:
         for path, entry in sorted(manifest.items()):
@@ -193,8 +207,9 @@ def put(manifest: Manifest, folder: str) -> None:
             remove(path)
         raise
     with uninterrupted():
-        for path in sorted(manifest, key=lambda path: (path == LIST, path)):
+        for path in sorted(manifest):
             os.replace(os.path.join(folder, path) + FRESH, os.path.join(folder, path))
+    return made
 
 
 def folders_made(folder: str) -> List[str]:
@@ -247,37 +262,71 @@ def uninterrupted() -> Iterator[None]:
         signal.pthread_sigmask(signal.SIG_SETMASK, before)
 
 
+def list_of(paths: Iterable[str]) -> File:
+    """Returns the list of an installation with these paths."""
+    return File("".join(f"{path}\n" for path in sorted(paths)).encode())
+
+
 def install(manifest: Manifest, prefix: str) -> None:
-    """Puts an installation below a prefix, in the place of an older one. That one is as it was if this one can't be put."""
-    older = listed(prefix) if os.path.lexists(os.path.join(prefix, LIST)) else []
-    whole: Manifest = {LIST: File("".join(f"{path}\n" for path in sorted([*manifest, LIST])).encode()), **manifest}
-    folders = {above for path in whole for above in with_folders(os.path.dirname(path))}
-    in_the_way = [os.path.join(prefix, path) for path in older if path in folders and is_removable(os.path.join(prefix, path))]
+    """Puts an installation below a prefix, in the place of an older one. That one is as it was if this one can't be put. Until all
+    is done the list has the paths of both, so that what is left of an installation that was killed can be taken away."""
+    place = os.path.join(prefix, LIST)
+    older, before = (listed(prefix), entry_at(place)) if os.path.lexists(place) else ([], None)
+    folders = {above for path in (*manifest, LIST) for above in with_folders(os.path.dirname(path))}
+    made = put({LIST: list_of({*older, *manifest, LIST})}, prefix)
+    try:
+        replace([path for path in older if path in folders], manifest, prefix)
+    except BaseException:
+        if before is None:
+            os.remove(place)
+        else:
+            put({LIST: before}, prefix)
+        for path in reversed(made):
+            remove(path)
+        raise
+    remove_listed([path for path in older if path != LIST and path not in manifest and path not in folders], prefix)
+    remove_unfinished([*older, *manifest], prefix)
+    put({LIST: list_of([*manifest, LIST])}, prefix)
+
+
+def replace(older: List[str], manifest: Manifest, prefix: str) -> None:
+    """Puts files and links below a prefix, in the place of older ones where folders are to be."""
+    in_the_way = [os.path.join(prefix, path) for path in older if is_removable(os.path.join(prefix, path))]
     for path in in_the_way:
         os.replace(path, path + OLDER)
     try:
-        put(whole, prefix)
+        put(manifest, prefix)
     except BaseException:
         for path in in_the_way:
             os.replace(path + OLDER, path)
         raise
-    for path in in_the_way:
-        os.remove(path + OLDER)
-    remove_listed([path for path in older if path not in whole and path not in folders], prefix)
+
+
+def is_installed(prefix: str) -> bool:
+    """Returns whether there is an installation below a prefix, or what is left of one that was killed."""
+    return any(os.path.exists(os.path.join(prefix, LIST) + ending) for ending in ("", FRESH))
 
 
 def take_away(prefix: str) -> None:
     """Removes what is listed below a prefix, what Python has kept of it, and the folders that are then empty."""
-    remove_listed([*listed(prefix), LIST], prefix)
+    remove_listed([*(listed(prefix) if os.path.exists(os.path.join(prefix, LIST)) else ()), LIST], prefix)
+
+
+def remove_unfinished(paths: Iterable[str], prefix: str) -> None:
+    """Removes what an installation that was killed has left beside files."""
+    for path in paths:
+        for ending in (FRESH, OLDER):
+            if is_removable(os.path.join(prefix, path) + ending):
+                os.remove(os.path.join(prefix, path) + ending)
 
 
 def remove_listed(paths: List[str], prefix: str) -> None:
-    """Removes files and links below a prefix, what Python has kept of them, and the folders that are then empty. A link in the place of a
-    folder stays, and so does a folder in the place of a file."""
+    """Removes files and links below a prefix, what Python has kept of them, and the folders that are then empty. A link in the
+    place of a folder stays, and so does a folder in the place of a file."""
     for path in paths:
-        for ending in ("", FRESH, OLDER):
-            if is_removable(os.path.join(prefix, path) + ending):
-                os.remove(os.path.join(prefix, path) + ending)
+        if is_removable(os.path.join(prefix, path)):
+            os.remove(os.path.join(prefix, path))
+    remove_unfinished(paths, prefix)
     folders = {above for path in paths for above in with_folders(os.path.dirname(path))}
     for folder in sorted(folders, reverse=True):
         whole = os.path.join(prefix, folder)

@@ -27,7 +27,8 @@ def is_terminal() -> bool:
 
 
 def card() -> str:
-    """Returns where the lines of the console are described: in a checkout, a release or a class, in a package of pip, and elsewhere."""
+    """Returns where the lines of the console are described: in a checkout, a release or a class, in a package of pip, and
+    elsewhere."""
     if os.path.exists(os.path.join(ABOVE, "docs", "CARD.md")):
         return "docs/CARD.md"
     page = os.path.join(sys.prefix, "share", "pp6600", "docs", "CARD.md")
@@ -48,7 +49,9 @@ def edit_lines() -> None:
     signal.signal(signal.SIGINT, signal.SIG_IGN)
     if WRAPPED in os.environ:
         return
-    if shutil.which("rlwrap") and os.environ.get("TERM", "dumb") != "dumb":
+    # for which rlwrap ends
+    is_dumb = os.environ.get("TERM", "dumb") == "dumb" or os.get_terminal_size(sys.stdin.fileno()).columns == 0
+    if shutil.which("rlwrap") and not is_dumb:
         os.environ[WRAPPED] = "yes"
         wrap = ["rlwrap", "--case-insensitive", "--command-name", "pp6600", *completions()]
         os.execvp("rlwrap", [*wrap, sys.executable, *sys.argv])

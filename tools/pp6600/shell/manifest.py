@@ -45,6 +45,14 @@ def files_below(folder: str) -> Manifest:
     return found
 
 
+def file_at(manifest: Manifest, path: str) -> File:
+    """Returns the file at a path of a manifest, or to which the link there leads."""
+    entry = manifest[path]
+    if isinstance(entry, File):
+        return entry
+    return file_at(manifest, os.path.normpath(os.path.join(os.path.dirname(path), entry.target)))
+
+
 def with_folders(path: str) -> Iterator[str]:
     """Yields a path, and the folders above it."""
     while path:

@@ -42,7 +42,8 @@ class BadWord(Failure, argparse.ArgumentTypeError):
 class Once(argparse.Action):
     """Takes an option's value, and refuses the same option a second time."""
 
-    def __call__(self, parser: argparse.ArgumentParser, namespace: argparse.Namespace, values: Any, option_string: Optional[str] = None) -> None:
+    def __call__(self, parser: argparse.ArgumentParser, namespace: argparse.Namespace, values: Any,
+                 option_string: Optional[str] = None) -> None:
         given = vars(namespace).setdefault("given_options", set())
         if option_string and self.dest in given:
             raise Failure(f"{option_string} is given twice")
@@ -54,7 +55,8 @@ class Once(argparse.Action):
 class Version(argparse.Action):
     """Writes the version and ends."""
 
-    def __call__(self, parser: argparse.ArgumentParser, namespace: argparse.Namespace, values: Any, option_string: Optional[str] = None) -> None:
+    def __call__(self, parser: argparse.ArgumentParser, namespace: argparse.Namespace, values: Any,
+                 option_string: Optional[str] = None) -> None:
         write(f"{parser.prog} {version()}")
         parser.exit()
 
@@ -70,7 +72,8 @@ class Parser(argparse.ArgumentParser):
         self.add_argument("--version", action=Version, nargs=0, help="show the version and exit")
 
     def add_forms(self, forms: Mapping[str, str], group: Any = None) -> None:
-        """Adds options without values to a group, or as one, of which one may be given: its name is then the form that is asked for."""
+        """Adds options without values to a group, or as one, of which one may be given: its name is then the form that is asked
+        for."""
         group = group or self.add_mutually_exclusive_group()
         for option, text in forms.items():
             group.add_argument(option, dest="form", action="store_const", const=option[len("--"):], help=text)
@@ -142,7 +145,8 @@ def words_after(words: List[str], most: int, what: str) -> List[Any]:
 
 
 def simulator(asked: argparse.Namespace, others: Mapping[str, str] = {}) -> List[str]:
-    """Returns the words of the simulator: the program, and the options that are given, with their values, or with others in their place."""
+    """Returns the words of the simulator: the program, and the options that are given, with their values, or with others in their
+    place."""
     given = [name for name in OPTIONS if getattr(asked, name) is not None]
     return [asked.program, *(word for name in given for word in (f"--{name}", others.get(name, getattr(asked, name))))]
 

@@ -6,7 +6,7 @@ from typing import Iterable, List, Optional, Sequence, Tuple
 
 from ..failure import Failure, naming_line
 from ..run.console import COUNTED, LONGEST_LINE
-from ..run.device import Device, DeviceFailure
+from ..run.device import CompanionDevice, DeviceFailure
 from ..run.forms import MOST_TURNS, refused
 from ..run.reasons import reason
 from ..run.session import Session
@@ -72,16 +72,17 @@ def show_lines(run: Session, lines: Iterable[str], stop: bool = False) -> int:
 
 
 class WithoutTurns(Session):
-    """A simulator that makes no turns: for a script of which nothing counts but which lines are refused and what is in effect at its end."""
+    """A simulator that makes no turns: for a script of which nothing counts but which lines are refused and what is in effect at
+    its end."""
 
     def ask(self, line: str) -> List[str]:
         asked = COUNTED.fullmatch(line) if len(line) <= LONGEST_LINE else None
         return [f"TURNS {asked[2] or '1'}"] if asked and int(asked[2] or "1", 8) <= MOST_TURNS else super().ask(line)
 
 
-def performed(words: Sequence[str], lines: Sequence[str], devices: Sequence[Device] = ()) -> Tuple[Session, Refusals]:
-    """Performs a script in a simulator of its own, with devices if there are any: then what is in effect has their replies. Returns its session,
-    which has ended, and the lines that were refused."""
+def performed(words: Sequence[str], lines: Sequence[str], devices: Sequence[CompanionDevice] = ()) -> Tuple[Session, Refusals]:
+    """Performs a script in a simulator of its own, with devices if there are any: then what is in effect has their replies. Returns
+    its session, which has ended, and the lines that were refused."""
     if devices:
         from ..run.attached import Attached  # few sessions have devices
         run: Session = Attached(words, devices)

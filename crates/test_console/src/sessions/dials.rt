@@ -88,7 +88,7 @@ impl Reversible for Dials {
         Set { dial: set.dial, to }
     }
 
-    fn undo(&mut self, had: Set) {
+    fn undo(&mut self, had: &Set) {
         self.numbers[had.dial] = had.to;
     }
 

@@ -68,8 +68,8 @@ impl Reversible for Gauge {
         old
     }
 
-    fn undo(&mut self, old: u64) {
-        self.number = old;
+    fn undo(&mut self, old: &u64) {
+        self.number = *old;
     }
 
     fn unpack(head: &Bytes) -> (u64, u64) {

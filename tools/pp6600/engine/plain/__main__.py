@@ -8,8 +8,10 @@ if not __package__ and not getattr(sys.flags, "safe_path", False):
 import os  # noqa: E402
 
 if not __package__:
-    at = [path.endswith("-packages") for path in [*sys.path, "-packages"]].index(True)  # behind Python's own modules
-    sys.path.insert(at, os.path.dirname(os.path.dirname(os.path.dirname(os.path.dirname(os.path.realpath(__file__))))))
+    PACKAGE = os.path.dirname(os.path.dirname(os.path.dirname(os.path.realpath(__file__))))
+    with open(os.path.join(PACKAGE, "own.py"), encoding="ascii") as own:
+        exec(own.read())
+    find_first(pp6600=os.path.dirname(PACKAGE))  # type: ignore[name-defined]  # noqa: F821
 
 from pp6600.engine.plain.program import main  # noqa: E402
 

@@ -8,7 +8,8 @@ from __future__ import annotations
 from typing import TYPE_CHECKING, Callable, Dict, List, Optional, Tuple
 
 from .places import (
-    CELLS, CHANNELS, EMPTY, FRAME, FRAME_WORDS, FULL, FUNCTION, INACTIVE, IS_CLOCK, NO_CHANNEL, PHASE, SLOT, STATE, WIDER, A, C, H, M, P, Q)
+    CELLS, CHANNELS, EMPTY, FRAME, FRAME_WORDS, FULL, FUNCTION, INACTIVE, IS_CLOCK, NO_CHANNEL, PHASE, SLOT, STATE, WIDER, A, C, H,
+    M, P, Q)
 
 if TYPE_CHECKING:
     from .machine import Machine

@@ -7,8 +7,8 @@ from typing import Any, Callable, Dict, List, Optional, Sequence, Tuple, Union
 
 from .machine import Machine, Record, dead_start
 from .places import (
-    CARD, CARD_COLUMN, CELLS, CHANNELS, FRAME, FRAME_WORDS, PAPER, PAPER_COLUMN, PAPER_LENGTH, PHASE, PRINTER_MODE, READER_MODE, SLOT,
-    STATE, WATCHES, A, C, H, M, P, Q, place_of)
+    CARD, CARD_COLUMN, CELLS, CHANNELS, FRAME, FRAME_WORDS, PAPER, PAPER_COLUMN, PAPER_LENGTH, PHASE, PRINTER_MODE, READER_MODE,
+    SLOT, STATE, WATCHES, A, C, H, M, P, Q, place_of)
 
 ERRORS = (
     "", "NOT A COMMAND", "WORDS", "NUMBER", "RANGE", "LINE TOO LONG", "NOT ASCII", "TOO FEW KEPT", "NO CHANGE KEPT",

@@ -8,7 +8,8 @@ from typing import Any, Callable, Deque, Dict, List, Optional, Sequence
 from .devices import printer, reader
 from .instructions import PlainProcessor, Step, Writes, processor
 from .places import (
-    ALL, CHANNELS, CLOCK, CLOCK_CHANNEL, EMPTY, FIELD, INACTIVE, IS_CLOCK, NO_CHANNEL, PHASE, PROCESSORS, SLOT, STATE, A, P, Q, place_of)
+    ALL, CHANNELS, CLOCK, CLOCK_CHANNEL, EMPTY, FIELD, INACTIVE, IS_CLOCK, NO_CHANNEL, PHASE, PROCESSORS, SLOT, STATE, A, P, Q,
+    place_of)
 
 Part = Callable[["Machine"], Step]  # reads the machine, and returns what it is and what it writes
 Record = Dict[int, Any]  # the numbers that an action has overwritten, by their places
@@ -37,8 +38,8 @@ class Machine:
 
     Processor = PlainProcessor
 
-    def __init__(self, deck: Sequence[List[int]] = (), panel: Optional[List[int]] = None, central: int = 0o400000, reader: int = 0o12,
-                 printer: int = 0o13, history: int = 10000) -> None:
+    def __init__(self, deck: Sequence[List[int]] = (), panel: Optional[List[int]] = None, central: int = 0o400000,
+                 reader: int = 0o12, printer: int = 0o13, history: int = 10000) -> None:
         self.deck, self.panel, self.central, self.reader, self.printer = deck, panel, central, reader, printer
         self.history: Deque[Record] = collections.deque(maxlen=history)
         self.ahead: List[Record] = []

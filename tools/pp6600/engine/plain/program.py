@@ -90,8 +90,8 @@ def pieces(source: Source, name: str) -> Iterator[bytes]:
 
 
 def read_lines(source: Source, name: str, limit: int, most: int = FILE_BYTES) -> Iterator[bytes]:
-    """Yields the lines that end within the limit of bytes, without LF and CR, each as soon as it is read, and at most so many. Of a line
-    that is too long its beginning is enough."""
+    """Yields the lines that end within the limit of bytes, without LF and CR, each as soon as it is read, and at most so many. Of a
+    line that is too long its beginning is enough."""
     rest = b""
     for piece in pieces(source, name):
         *lines, rest = (rest + piece[:limit]).split(b"\n")
@@ -165,7 +165,8 @@ def console_of(given: Words, machine: Callable[..., Machine] = Machine) -> Plain
     return PlainConsole(machine(deck, panel, **options))
 
 
-def perform(words: Sequence[str], standard_input: Source, write: Callable[[str], Any], make: Callable[[Words], PlainConsole]) -> int:
+def perform(words: Sequence[str], standard_input: Source, write: Callable[[str], Any],
+            make: Callable[[Words], PlainConsole]) -> int:
     """Does what the words ask for; returns the exit status."""
     try:
         given = read_words(words)

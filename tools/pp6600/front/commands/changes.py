@@ -12,47 +12,46 @@ from ...run.conditions import changes, column_of, first_place
 from ...run.forms import Place
 from ...run.names import AllSymbols
 from ...run.recording import Numbers, next_turn
-from ...run.search import Search, TurnFinder, turn_at
+from ...run.search import Progress, Search, TurnFinder, no_progress, turn_at
 from ...run.session import Session
 from ...run.state import differences
 from ...run.tape import STEP, Position, SourceLine
 from ...run.turn import places_of_setting
 from ...shell.command_line import arguments, count, words_after, write_lines
+from ...shell.progress import Progress as ShownProgress
 
 LINE_END = 0o100  # among the symbols of the paper
 DESCRIPTION = """Shows every change of a place (M 0 106, A 0, C 1000, H 12 ..) over the whole run of a script, however
 long: the turn, counted in octal from 1, the processor whose turn it was, its P before the turn, the name of its
 instruction, and the number before and after. H c is the register of a channel, with the state of the channel beside it.
-In that turn the card reader, the printer or the clock may have made the change. A SET or a DEADSTART is shown by its
-name, with the turns before it. What the script took back and did not perform again has no changes. With --turns COUNT, and
-without PLACE, it shows what each of the last COUNT turns changed: the numbers of the processor whose turn it was, the channels
+In that turn the card reader, the printer or the clock may have made the change. A SET, a DEADSTART or a device of one's own is
+shown by its name, with the turns before it. What the script took back and did not perform again has no changes. With --turns COUNT,
+and without PLACE, it shows what each of the last COUNT turns changed: the numbers of the processor whose turn it was, the channels
 and the clock, the frame (XP), reader and printer, and the central words from A to A+17; a turn changes no others. Of a channel
 it shows the state and the register in one; of the paper the number of symbols and the last line."""
 
 
-def place_changes(run: Session, place: Place, symbols: Any = AllSymbols()) -> Iterator[str]:
+def place_changes(run: Session, place: Place, symbols: Any = AllSymbols(), progress: Progress = no_progress) -> Iterator[str]:
     """Yields the line of each change of a place."""
-    column = column_of(place)
-    for word in ("WATCH", "UNWATCH"):
-        run.demand(f"{word} {place.short}")  # which is refused if the machine has no such place
+    column = column_of(run.checked(place))
     finder, tape = TurnFinder([[form] for form in changes(column).forms]), run.tape
-    for start, end, last, action in zip(tape.starts, tape.starts[1:], tape.turns_before[1:], tape.runs):
+    for start, end, action in zip(tape.starts, tape.starts[1:], tape.runs):
         if action.line == STEP:
-            turns = Search(run, [finder]).onward(finder, start, 0, last)
-            yield from (turn_at(run, position, [column]).text(symbols) for position, _ in turns)
+            yield from (turn_at(run, position, [column]).text(symbols)
+                        for position, _ in Search(run, [finder], progress).in_row(finder, start, end))
         elif place in places_of_setting(action.line):
             run.goto(start)
             (_, was), = column.shown(run)
             run.goto(end)
             (_, now), = column.shown(run)
             if was.split()[-1] != now.split()[-1]:
-                yield f"TURN {run.turn:o} {action.line.upper().split()[0]} WAS {was} NOW {now}{source_of(action.line, place)}"
+                yield f"TURN {run.turn:o} {action.setter} WAS {was} NOW {now}{source_of(action.line, place)}"
     run.close()
 
 
 def source_of(line: str, place: Place) -> str:
     """Returns the place in a source from which a setting took the number at a place, after two blanks; nothing without a source."""
-    return f"  {line.origin[places_of_setting(line)[place]]}" if isinstance(line, SourceLine) else ""
+    return f"  {line.origin(places_of_setting(line)[place])}" if isinstance(line, SourceLine) else ""
 
 
 def last_turns(run: Session, count: int, symbols: Any = AllSymbols()) -> Iterator[str]:
@@ -77,8 +76,8 @@ def turn_line(run: Session, symbols: Any) -> str:
 
 
 def shown(was: Dict[int, int], now: Numbers) -> List[Tuple[str, ...]]:
-    """Returns what a turn changed as one reads it: the places, with the numbers before and after; after the printer the last line of its
-    paper."""
+    """Returns what a turn changed as one reads it: the places, with the numbers before and after; after the printer the last line
+    of its paper."""
     before = ChainMap(was, now)
     found: List[Tuple[str, ...]] = [*differences([place for place, number in was.items() if number != now[place]], before, now)]
     if before[PAPER_LENGTH] != now[PAPER_LENGTH]:
@@ -108,5 +107,6 @@ def main() -> int:
     if place is None:
         write_lines(last_turns(run, asked.turns, symbols))
     else:
-        write_lines(place_changes(run, place, symbols), "NO CHANGE")
+        shown = ShownProgress(run.tape.turns)
+        write_lines(shown.passed(place_changes(run, place, symbols, shown.show)), "NO CHANGE")
     return refusals.status()

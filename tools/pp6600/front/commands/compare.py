@@ -13,15 +13,17 @@ from ...run.session import Session
 from ...run.state import Difference, central_differences, central_of, state_of
 from ...run.tape import STEP
 from ...shell.command_line import Failure, arguments, processor, script_lines, simulator, words_after, write
+from ...shell.progress import Progress
 from ...shell.script import performed
 
-DESCRIPTION = """Compares two runs: those of two scripts, or of one script with another deck or panel. Shows the first turn, octal from
-1, after which the machines differ, the places with both numbers, and the processor and the instruction of that turn in each run.
-Numbers that differ before the first turn are shown first, and compared no more. It looks at some turns and then halves the
-distance, so machines that differ for a while and are then the same again may be missed. If the second run has labels of its own, as two
-versions of a program have, the cells of that processor are compared by their labels, and so are addresses in cells and registers. With
---path it compares for each processor the addresses to which its turns led, by their labels too, and shows the turn in which the ways
-part. The exit status is 0 if there is no difference, else 1."""
+DESCRIPTION = """Compares two runs: those of two scripts, or of one script with another deck or panel. Shows the first turn, octal
+from 1, after which the machines differ, the places with both numbers, and the processor and the instruction of that turn in each
+run. Numbers that differ before the first turn are shown first, and compared no more. It looks at some turns and then halves the
+distance, so machines that differ for a while and are then the same again may be missed. If the second run has labels of its own, as
+two versions of a program have, the cells of that processor are compared by their labels, and so are addresses in cells and
+registers; a label that has more cells in one version is shown. With --path it compares for each processor the addresses to which
+its turns led, by their labels too, and shows the turn in which the ways part. The exit status is 0 if there is no difference, else
+1."""
 
 SAMPLES = 0o20  # turns that are looked at first
 MOST_SHOWN = 0o20  # of the places that differ
@@ -49,7 +51,7 @@ class Side:
         address = self.symbols.beside(slot, maker.p)
         return f"TURN {turn:o} PP {slot:02o} P {address} {maker.text}{self.symbols.line_at_p(slot, maker)}"
 
-    def path(self, number: int) -> Iterator[Tuple[int, Union[int, str]]]:
+    def path(self, number: int, progress: Progress) -> Iterator[Tuple[int, Union[int, str]]]:
         """Yields the turns of a processor, each with the address to which it led, by its label if it has labels."""
         run, tape, names = self.run, self.run.tape, self.symbols.of.get(number)
         for start, end, action in zip(tape.starts, tape.starts[1:], tape.runs):
@@ -57,6 +59,7 @@ class Side:
                 continue
             run.goto(start)
             while run.position < end:
+                progress.show(run.turn)
                 first, own = run.turn + 1, (number - run.slot()) % PROCESSORS
                 addresses, _ = run.engine.numbers_after(min(end - run.position, run.room), [P + number])
                 run.performed(len(addresses))
@@ -73,9 +76,11 @@ class Comparison:
         self.versions = [Versions(number, [side.symbols.of[number] for side in sides]) for number in numbers]
         self.turns = min(side.turns for side in sides)
         self.known: Set[str] = set()
+        self.progress = Progress(self.turns)
 
     def after(self, turn: int, has_settings: bool = True) -> List[Difference]:
         """Returns the differences after a turn, but those at known places."""
+        self.progress.show(turn)
         runs = [side.at(turn, has_settings) for side in self.sides]
         states = [state_of(run) for run in runs]
         found = list(states[0].differences(states[1]))
@@ -95,18 +100,18 @@ class Comparison:
         return None
 
 
-def parting(sides: Sequence[Side], number: int) -> Optional[List[int]]:
+def parting(comparison: Comparison, number: int) -> Optional[List[int]]:
     """Returns the turn of each side in which the ways of a processor part; None if they do not, as far as both go."""
-    pairs = zip(*(side.path(number) for side in sides))
+    pairs = zip(*(side.path(number, comparison.progress) for side in comparison.sides))
     return next(([turn for turn, _ in pair] for pair in pairs if len({address for _, address in pair}) > 1), None)
 
 
-def compare_paths(sides: Sequence[Side]) -> Iterator[str]:
+def compare_paths(comparison: Comparison) -> Iterator[str]:
     """Yields for each processor whose ways part the turns in which they do, the first one first."""
-    found = {number: turns for number in range(PROCESSORS) if (turns := parting(sides, number))}
+    found = {number: turns for number in range(PROCESSORS) if (turns := parting(comparison, number))}
     for number, turns in sorted(found.items(), key=lambda one: (one[1], one[0])):
         yield f"THE WAYS OF PP {number:02o} PART"
-        yield from (side.maker(turn) for side, turn in zip(sides, turns))
+        yield from (side.maker(turn) for side, turn in zip(comparison.sides, turns))
 
 
 def lines_of(found: Sequence[Difference]) -> Iterator[str]:
@@ -116,7 +121,7 @@ def lines_of(found: Sequence[Difference]) -> Iterator[str]:
         yield f"AND {len(found) - MOST_SHOWN:o} MORE"
 
 
-def compare(comparison: 'Comparison') -> Iterator[str]:
+def compare(comparison: Comparison) -> Iterator[str]:
     """Yields the lines that say how two runs differ."""
     found = comparison.after(0)
     if found:
@@ -133,6 +138,8 @@ def compare(comparison: 'Comparison') -> Iterator[str]:
             yield "BY THE SETTINGS AFTER THAT TURN"
     if len({side.turns for side in comparison.sides}) > 1:
         yield "THE RUNS HAVE " + " AND ".join(f"{side.turns:o}" for side in comparison.sides) + " TURNS"
+    for program in comparison.versions:
+        yield from program.lengths()
 
 
 def other_words(asked: Namespace) -> List[str]:
@@ -175,7 +182,8 @@ def main() -> int:
     sides = [Side(words, scripts[0], symbols), Side(other_words(asked), scripts[-1], other_symbols(asked))]
     status = 0
     versions = sorted(of_its_own(asked).intersection(symbols.of))
-    for line in compare_paths(sides) if asked.path else compare(Comparison(sides, versions)):
+    comparison = Comparison(sides, versions)
+    for line in comparison.progress.passed((compare_paths if asked.path else compare)(comparison)):
         write(line, at_once=True)
         status = 1
     for side in sides:

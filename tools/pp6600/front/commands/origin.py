@@ -1,7 +1,5 @@
 """tools/origin."""
 
-import sys
-import time
 from typing import Any, List, Optional, Sequence, Tuple
 
 from ...devices.options import DEVICE_OPTIONS, devices_of
@@ -11,8 +9,9 @@ from ...run.conditions import first_place
 from ...run.forms import Place
 from ...run.names import AllSymbols
 from ...run.session import Session
-from ...run.tape import Position, Tape, numbered
+from ...run.tape import Tape, numbered
 from ...shell.command_line import Failure, arguments, count, octal, script_lines, simulator, words_after, write_lines
+from ...shell.progress import Progress
 from ...shell.script import performed
 
 DESCRIPTION = """Shows where the number at a place (M 0 106, A 0, C 1000, H 12 ..; XP 0: a word of the frame; LP 7: a symbol of the
@@ -20,26 +19,6 @@ paper) came from at the end of a script: the last write, in which turn, by which
 each source, back to a word of the script, a column of a card, a word of the panel, a constant of an instruction or the start. A
 number that was stored again counts as written. FROM a place: the number was moved. SUM OF places and the like: it was computed from
 the numbers that these had. What the script took back and did not perform again counts for nothing."""
-
-PATIENCE = 1  # seconds without progress on the screen
-
-
-class Progress:
-    """Shows at a terminal on standard error how far back the search is."""
-
-    def __init__(self, tape: Tape) -> None:
-        self.tape, self.began, self.is_shown = tape, time.monotonic(), False
-
-    def show(self, position: Position) -> None:
-        if sys.stderr is not None and sys.stderr.isatty() and time.monotonic() > self.began + PATIENCE:
-            self.is_shown = True
-            sys.stderr.write(f"\rat turn {self.tape.turn(position):o} of {self.tape.turns:o}\x1b[K")
-            sys.stderr.flush()
-
-    def end(self) -> None:
-        if self.is_shown:
-            sys.stderr.write("\r\x1b[K")
-            sys.stderr.flush()
 
 
 def place_of(words: List[str], symbols: Any) -> Tuple[Place, List[str]]:
@@ -52,13 +31,13 @@ def place_of(words: List[str], symbols: Any) -> Tuple[Place, List[str]]:
 
 def origin_lines(words: Sequence[str], tape: Tape, place: Place, turn: Optional[int] = None, most_steps: Optional[int] = MOST_STEPS,
                  with_addresses: bool = False, symbols: Any = AllSymbols(), with_reasons: bool = False) -> List[str]:
-    """Returns the lines of the origin of the number at a place after so many turns of a tape, or at its end. The words are the program
-    and its options."""
+    """Returns the lines of the origin of the number at a place after so many turns of a tape, or at its end. The words are the
+    program and its options."""
     run = Session(words, tape, is_search=True)
-    if place.kind == "C" and place.numbers[0] >= run.central_size:
-        raise Failure(f"there is no {place.short}: central memory has {run.central_size:o} words (octal)")
-    position, progress = tape.end if turn is None else tape.after_turn(turn), Progress(tape)
-    rows = origin_rows(run, place, position, most_steps, with_addresses, progress.show, symbols=symbols, with_reasons=with_reasons)
+    run.checked(place)
+    position, progress = tape.end if turn is None else tape.after_turn(turn), Progress(tape.turns)
+    rows = origin_rows(run, place, position, most_steps, with_addresses, lambda at: progress.show(tape.turn(at)), symbols=symbols,
+                       with_reasons=with_reasons)
     run.end()
     progress.end()
     return [line for _, line in rows]

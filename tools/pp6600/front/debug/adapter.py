@@ -105,7 +105,8 @@ class Adapter(Requests):
         kinds = inspect.signature(self.method(command)).parameters.values()
         needed = [one.name for one in kinds if one.default is one.empty and one.kind is one.POSITIONAL_OR_KEYWORD]
         missing = [name for name in needed if not isinstance(arguments, dict) or name not in arguments]
-        return f"{command} needs {' and '.join(missing)}" if missing else f"an argument of {command} is not of the kind that it must be"
+        return (f"{command} needs {' and '.join(missing)}" if missing
+                else f"an argument of {command} is not of the kind that it must be")
 
     def do(self, after: Optional[Callable[[], object]]) -> None:
         """Does what a request began. If a simulator ends, so does the session."""
@@ -176,7 +177,8 @@ class Adapter(Requests):
         for number, line in counted(lines):
             answer = self.machine.act(line)
             if answer and answer[0].startswith("ERR "):
-                self.wire.say(f"line {number} (decimal) of the script was refused, {answer[0]}: {shown(line[:MOST_SHOWN])}", "stderr")
+                self.wire.say(f"line {number} (decimal) of the script was refused, {answer[0]}: {shown(line[:MOST_SHOWN])}",
+                              "stderr")
 
     def do_configurationDone(self, **_: Any) -> None:
         self.after = self.enter
@@ -222,12 +224,13 @@ class Adapter(Requests):
         self.is_paused = True
 
     def go(self, thread: int, way: Callable[[Stepper], Optional[Stop]], otherwise: str = "step") -> None:
-        """Goes after the answer, by a function of what steps the processor. A pause that comes from now on ends it. Reports the stop; if
-        there is none, it is a pause, or another reason."""
+        """Goes after the answer, by a function of what steps the processor. A pause that comes from now on ends it. Reports the
+        stop; if there is none, it is a pause, or another reason."""
         self.paused, self.is_paused = self.number(thread), False
 
         def run() -> None:
-            stop = way(Stepper(self.machine, self.own, Runner(self.machine, self.points, self.goes_on, self.write_log), self.paused))
+            stepper = Stepper(self.machine, self.own, Runner(self.machine, self.points, self.goes_on, self.write_log), self.paused)
+            stop = way(stepper)
             if self.is_over:
                 return
             if stop:
@@ -235,7 +238,7 @@ class Adapter(Requests):
             elif self.is_paused:
                 self.stopped("pause", self.paused)
             else:
-                self.stopped(otherwise, self.paused, "" if self.machine.position else BEGINNING)
+                self.stopped(otherwise, self.paused, stepper.remark if self.machine.position else BEGINNING)
 
         self.after = run
 
@@ -285,4 +288,5 @@ def of_kind(kind: Any, arguments: Dict[str, Any], name: str, what: str) -> Any:
 
 def pairs(arguments: Dict[str, Any], name: str) -> List[Tuple[str, str]]:
     """Returns the processors and the files that an argument of a launch names."""
-    return [(str(number), str(path)) for number, path in of_kind(dict, arguments, name, "object with a file for each processor").items()]
+    return [(str(number), str(path))
+            for number, path in of_kind(dict, arguments, name, "object with a file for each processor").items()]

@@ -2,11 +2,11 @@
 
 from __future__ import annotations
 
-import re
 from itertools import chain
 from typing import TYPE_CHECKING, Any, Dict, FrozenSet, List, NamedTuple, Optional, Tuple
 
 from ...failure import Failure
+from ...run.conditions import first_place, number_of
 from ...run.forms import CELLS, PROCESSORS, Place
 from .terms import Terms
 
@@ -51,21 +51,21 @@ def checked(place: Place) -> Place:
     return place
 
 
-def places_of(text: str) -> List[Place]:
-    """Returns the places of a text: one, or a range of cells as M 0 100 103."""
-    place, rest = Place.first_of(text.split())
-    if place.kind != "M" or not rest:
-        return [checked(Place.parse(text))]
-    last = int(rest[0], 8) if len(rest) == 1 and re.fullmatch("[0-7]{1,5}", rest[0]) else -1
-    number, first = checked(place).numbers
+def places_of(text: str, symbols: Any, own: Optional[int] = None) -> List[Place]:
+    """Returns the places of a text: one, or a range of cells as M 0 100 103. The own processor may be left out."""
+    place, rest = first_place(text.split(), symbols, own=own)
+    if not rest:
+        return [checked(place)]
+    number, first = checked(place).numbers if place.kind == "M" else (0, CELLS)
+    last = number_of(rest[0], place, symbols) if len(rest) == 1 else -1
     if not first <= last < CELLS:
         raise Failure(f"{text} is no range of cells")
     return [Place("M", (number, at)) for at in range(first, last + 1)]
 
 
 class Point(NamedTuple):
-    """A breakpoint: cells, or places of a data breakpoint, and its terms. A cell of a source has the numbers of the lines that it must
-    be of."""
+    """A breakpoint: cells, or places of a data breakpoint, and its terms. A cell of a source has the numbers of the lines that it
+    must be of."""
 
     number: int  # its identifier
     reason: str
@@ -78,11 +78,13 @@ class Point(NamedTuple):
     @property
     def key(self) -> Tuple[Any, ...]:
         """What its hits depend on."""
-        return tuple(sorted((cell, lines and tuple(sorted(lines))) for cell, lines in self.cells.items())), self.places, self.terms.text
+        return tuple(sorted((cell, lines and tuple(sorted(lines)))
+                            for cell, lines in self.cells.items())), self.places, self.terms.text
 
 
 class Breakpoints:
-    """All that are set, by a key: the processor of a listing, the path of a source, or the reason of those on addresses and places."""
+    """All that are set, by a key: the processor of a listing, the path of a source, or the reason of those on addresses and
+    places."""
 
     def __init__(self) -> None:
         self.of: Dict[Any, List[Point]] = {}

@@ -16,7 +16,8 @@ each is a listing of its cells, which follows the machine."""
 
 def main() -> None:
     parser = Parser(DESCRIPTION)
-    parser.add_argument("--log", metavar="FILE", help="add each message to this file: > before those of the editor, < before the answers")
+    parser.add_argument("--log", metavar="FILE",
+                        help="add each message to this file: > before those of the editor, < before the answers")
     asked = parser.parse()
     for name in {"SIGTERM", "SIGHUP"} & set(dir(signal)):  # Windows has one of them
         signal.signal(getattr(signal, name), lambda *_: sys.exit(0))  # so that the listings are removed

@@ -1,13 +1,13 @@
 """The machine that is debugged: a session of the simulator, and scouts that search in its run.
 
 The session performs the lines of the user, and turns, and nothing else: it is what the editor is told of. It goes back and
-forward without a limit. A scout is another simulator on the same tape, at a position of its own. It stays between searches, so each goes
-on from where the last one ended."""
+forward without a limit. A scout is another simulator on the same tape, at a position of its own. It stays between searches, so each
+goes on from where the last one ended."""
 
 from typing import TYPE_CHECKING, Any, Callable, Dict, List, Sequence
 
 from ...run.attached import Attached
-from ...run.device import Device
+from ...run.device import CompanionDevice
 from ...run.forms import PROCESSORS
 from ...run.session import REPLAYED, Session, without_history
 from ...run.state import state_of
@@ -28,8 +28,8 @@ def is_turn(tape: Tape, position: int) -> bool:
 
 
 class Debugged(Base):
-    """What a session that is debugged has beside its run: its scouts, the hits of its breakpoints, and its state as it was when it was last
-    looked at."""
+    """What a session that is debugged has beside its run: its scouts, the hits of its breakpoints, and its state as it was when it
+    was last looked at."""
 
     may_search: bool  # whether it may itself search ahead
     add_turns: Callable[[int], None]  # adds turns to the end of the tape, at most so many
@@ -86,7 +86,8 @@ class Debugged(Base):
             at = Position(at + 1)
 
     def part(self, position: int, most: int) -> Position:
-        """Returns the end of the next turns, at most so many, or of another action. After the tape come turns, which are added to it."""
+        """Returns the end of the next turns, at most so many, or of another action. After the tape come turns, which are added to
+        it."""
         if position == self.tape.end:
             self.add_turns(most)
         return min(self.tape.starts[self.tape.run_after(Position(position)) + 1], Position(position + most))
@@ -107,7 +108,7 @@ class MachineWithDevices(Debugged, Attached):
 
     may_search = False
 
-    def __init__(self, words: Any, devices: Sequence[Device]) -> None:
+    def __init__(self, words: Any, devices: Sequence[CompanionDevice]) -> None:
         super().__init__(without_history(words), devices)
 
     def add_turns(self, most: int) -> None:

@@ -36,8 +36,8 @@ def own_part(cell: int, word: int, second: int) -> bytes:
 
 
 class Beside:
-    """What is beside the instructions of a processor: the label of a cell, and the text of the user's own listing or source as long as
-    the word is the one that it lists. All are of one width, in bytes."""
+    """What is beside the instructions of a processor: the label of a cell, and the text of the user's own listing or source as long
+    as the word is the one that it lists. All are of one width, in bytes."""
 
     def __init__(self, symbols: Any = None) -> None:
         """The symbols are those of `pp6600.language.listing`, or a source."""
@@ -96,7 +96,8 @@ class Listings:
         return b"".join(self.line(number, memory, cell) for cell in range(CELLS)).decode()
 
     def follow(self, number: int, memory: Memory) -> None:
-        """Writes what has changed of a processor's cells, in its place. The word before may be the first one of an instruction of two."""
+        """Writes what has changed of a processor's cells, in its place. The word before may be the first one of an instruction of
+        two."""
         old, self.cells[number] = self.cells[number], memory.numbers
         if old is None:
             self.write(number, 0, self.text(number, memory).encode())

@@ -1,4 +1,5 @@
-"""The user's own sources in an editor: which line a processor is at, which cells a line has, and whether a file has been changed."""
+"""The user's own sources in an editor: which line a processor is at, which cells a line has, and whether a file has been
+changed."""
 
 from __future__ import annotations
 
@@ -23,7 +24,7 @@ class SourceLines:
     """The lines of a source: the rows with words before which a stop at a line is, and the addresses at which its words may be."""
 
     def __init__(self, source: Any) -> None:
-        self.source, self.rows = source, rows_of_lines(source.program.rows)
+        self.source, self.rows = source, rows_of_lines(source.program)
         self.addresses: Dict[int, Set[int]] = {}
         for row in source.program.rows:
             cells = ((first + at) % CELLS for at in range(len(row.words)) for first in (row.location, row.origin))
@@ -48,7 +49,8 @@ class SourceFile:
             return None
 
     def cells(self, line: int) -> Dict[ProcessorCell, FrozenSet[int]]:
-        """Returns the cells at which a line begins, each time that it makes words, with the numbers of the lines that they are of."""
+        """Returns the cells at which a line begins, each time that it makes words, with the numbers of the lines that they are
+        of."""
         found: Dict[ProcessorCell, Set[int]] = {}
         for number, lines in self.of.items():
             for row in lines.rows.get(line, ()):
@@ -99,13 +101,14 @@ class OwnSources:
         return None if processor.phase else self.line(number, processor.p, processor.words)
 
 
-def rows_of_lines(rows: Sequence[Any]) -> Dict[int, List[Any]]:
-    """Returns the rows of a listing with words by the lines of the file at which a stop is before them: of each line the first one each
-    time that it is assembled, of a macro's call the first one that the call makes, and of a line of a macro that of each call."""
+def rows_of_lines(program: Any) -> Dict[int, List[Any]]:
+    """Returns the rows of a listing with words by the lines of the file at which a stop is before them: of each line the first one
+    each time that it is assembled, of a macro's call the first one that the call makes, and of a line of a macro that of each
+    call."""
     found: Dict[int, List[Any]] = {}
     due: Set[int] = set()
-    for row in rows:
-        lines = (row.number, *row.macros)
+    for row in program.rows:
+        lines = (row.number, *(program.macros.get(row.first, ()) if row.is_made else ()))
         due = due.intersection(lines) | {lines[-1]}
         if row.words:
             for line in due - {0}:

@@ -27,7 +27,8 @@ class Wire:
         self.is_gone = False  # the client
         if sys.stdin is None:
             raise Failure("standard input is closed or a folder, so no editor can speak")
-        self.input = os.fdopen(os.dup(sys.stdin.fileno()), "rb")  # not sys.stdin: a thread that reads that at the end would abort Python
+        # not sys.stdin: a thread that reads that at the end would abort Python
+        self.input = os.fdopen(os.dup(sys.stdin.fileno()), "rb")
         self.output = os.dup(sys.stdout.fileno())
         sys.stdout = sys.stderr  # nothing else may come between the messages
         threading.Thread(target=self.listen, daemon=True).start()
@@ -64,8 +65,8 @@ class Wire:
             message = json.loads(data)
         except (ValueError, RecursionError) as error:
             raise Failure(f"{NO_MESSAGE} is not JSON") from error
-        if not isinstance(message, dict) or message.get("type", "request") != "request" or not isinstance(message.get("command"), str) \
-                or not isinstance(message.get("seq"), int):
+        if not isinstance(message, dict) or message.get("type", "request") != "request" \
+                or not isinstance(message.get("command"), str) or not isinstance(message.get("seq"), int):
             raise Failure(f"{NO_MESSAGE} is not a request")
         self.note(">", message)
         return message

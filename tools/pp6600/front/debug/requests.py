@@ -70,7 +70,8 @@ class Requests(Setting):
         return {"stackFrames": frames[startFrame:startFrame + levels if levels else None], "totalFrames": len(frames)}
 
     def one_frame(self, frame: int, name: str, cell: ProcessorCell, is_code: bool = True) -> Dict[str, Any]:
-        return {"id": frame, "name": name, "column": self.base, "instructionPointerReference": cell.reference, **self.where(cell, is_code)}
+        return {"id": frame, "name": name, "column": self.base, "instructionPointerReference": cell.reference,
+                **self.where(cell, is_code)}
 
     def where(self, cell: ProcessorCell, is_code: bool = True) -> Dict[str, Any]:
         """Returns where a cell is shown: in the user's own source if it has the instruction of a line, or in the listing."""

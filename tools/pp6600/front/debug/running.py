@@ -1,9 +1,10 @@
-"""Running forward and back, to a breakpoint or to a change of a data breakpoint or of a place that the user watches. A scout searches,
-part by part; between the parts the requests of the client are taken, which may end the run or change the breakpoints.
+"""Running forward and back, to a breakpoint or to a change of a data breakpoint or of a place that the user watches. A scout
+searches, part by part; between the parts the requests of the client are taken, which may end the run or change the breakpoints.
 
 A log point writes as the machine comes to it, forward and back, but not where a run begins."""
 
 import math
+import time
 from contextlib import suppress
 from itertools import chain
 from typing import Any, Callable, Iterable, Iterator, List, Optional, Tuple
@@ -13,7 +14,8 @@ from .breakpoints import DATA, Point
 from .stops import Aim, Stop, StopSearch
 from .terms import Tally
 
-AT_ONCE = 0o1000000  # turns between two requests of a client
+AT_ONCE, AT_FIRST = 0o1000000, 0o10000  # turns between two looks at the requests of a client, at most and at first
+PATIENCE = 0.1  # seconds between these looks, about: where conditions are judged, turns take longer
 NEAR = 200  # actions back that are searched first
 Say = Callable[[Stop, Point], object]
 
@@ -27,8 +29,8 @@ def quiet(stop: Stop, point: Point) -> None:
 
 
 class Runner:
-    """Runs the machine to stops. The function `goes_on` takes the requests that have come, and returns whether to run on; `say` writes
-    the text of a log point. The points are the breakpoints, which may change meanwhile."""
+    """Runs the machine to stops. The function `goes_on` takes the requests that have come, and returns whether to run on; `say`
+    writes the text of a log point. The points are the breakpoints, which may change meanwhile."""
 
     def __init__(self, machine: Any, points: Any, goes_on: Callable[[], bool] = lambda: True, say: Say = quiet) -> None:
         self.machine, self.points, self.goes_on, self.say = machine, points, goes_on, say
@@ -38,9 +40,9 @@ class Runner:
     # ---- forward
 
     def forward(self, shown: Optional[int], aim: Optional[Aim] = None, last: float = math.inf, kind: str = "all") -> Optional[Stop]:
-        """Runs to the next stop at breakpoints of a kind, or at an aim, or else to a position, over what is ahead first. A processor at a
-        breakpoint is reported if it is not the one that is shown. Returns the stop; None at the aim or the position, or if the client
-        ended it."""
+        """Runs to the next stop at breakpoints of a kind, or at an aim, or else to a position, over what is ahead first. A
+        processor at a breakpoint is reported if it is not the one that is shown. Returns the stop; None at the aim or the position,
+        or if the client ended it."""
         machine, stop = self.machine, None
         with suppress(Ended):
             stop = self.next_stop(lambda: self.search(getattr(self.points, kind), aim, True), shown, last)
@@ -78,16 +80,18 @@ class Runner:
 
     def parts(self, first: int, last: float) -> Iterator[Tuple[int, int]]:
         """Yields the ends of parts of the tape, and takes the requests of the client between them."""
+        size = AT_FIRST
         while first < last:
             if not self.goes_on():
                 raise Ended
-            end = self.machine.part(first, min(AT_ONCE, last - first))
+            began, end = time.monotonic(), self.machine.part(first, min(size, AT_ONCE, last - first))
             yield first, end
             first = end
+            size = min(2 * size, AT_ONCE) if time.monotonic() < began + PATIENCE / 2 else max(size // 2, 1)
 
     def first_due(self, stops: Iterable[List[Stop]], say: Say) -> Optional[Stop]:
-        """Returns the first of some stops that ends a run, or None. What log points write up to its position is said. Stops of one position
-        are together."""
+        """Returns the first of some stops that ends a run, or None. What log points write up to its position is said. Stops of one
+        position are together."""
         for some in stops:
             found = [due for stop in some if (due := self.due(stop, say))]
             if found:
@@ -116,8 +120,8 @@ class Runner:
         return None
 
     def last_of(self, search: StopSearch, first: int, last: int, here: int) -> Tuple[Optional[Stop], List[Any]]:
-        """Returns the last stop after a position, up to a later one, or None, and what log points write from there on, or else after the
-        first position. The beginning belongs to the first part."""
+        """Returns the last stop after a position, up to a later one, or None, and what log points write from there on, or else
+        after the first position. The beginning belongs to the first part."""
         stop, logs, least = None, [], first + 1 if first else 0
         for one in chain.from_iterable(self.stops(search, first - 1, last)):
             due = self.due(one, lambda *log: logs.append(log))
@@ -128,7 +132,8 @@ class Runner:
         return stop, [log for log in logs if least <= log[0].position < here]
 
     def stops(self, search: StopSearch, first: int, last: int) -> Iterator[List[Stop]]:
-        """Yields the stops after a position, up to a later one, those of one position together; after -1 that at the beginning too."""
+        """Yields the stops after a position, up to a later one, those of one position together; after -1 that at the beginning
+        too."""
         if first < 0:
             yield search.at(0)
         for begin, end in self.parts(max(first, 0), last):

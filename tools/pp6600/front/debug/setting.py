@@ -4,7 +4,8 @@ from typing import Any, Callable, Dict, Iterable, Iterator, List, Optional, Sequ
 
 from ...failure import Failure
 from ...run.forms import CELLS, MOST_WATCHES, Place
-from .breakpoints import DATA, DATA_ID, INSTRUCTION, INSTRUCTION_ID, LINE, LINE_ID, SOURCE_ID, Breakpoints, Point, ProcessorCell, places_of
+from .breakpoints import (DATA, DATA_ID, INSTRUCTION, INSTRUCTION_ID, LINE, LINE_ID, SOURCE_ID, Breakpoints, Point, ProcessorCell,
+                          places_of)
 from .listings import Listings
 from .own import OwnSources, SourceFile
 from .protocol import Wire
@@ -26,7 +27,7 @@ class Setting:
     numbers: Iterator[int]
     base: int  # the first line, as the editor counts
 
-    def terms(self, asked: Dict[str, Any], numbers: Iterable[int]) -> Terms:
+    def terms(self, asked: Dict[str, Any], numbers: Sequence[int]) -> Terms:
         """Returns the terms that are asked for, of a breakpoint to which some processors may come."""
         terms = Terms.of(asked, numbers, self.own.symbols)
         for place in terms.places():
@@ -37,8 +38,8 @@ class Setting:
         return terms
 
     def set_points(self, key: Any, asked: Iterable[Dict[str, Any]], point_of: PointOf) -> Dict[str, Any]:
-        """Sets what is asked for in place of the breakpoints with this key, and returns the answers. The function `point_of` returns an
-        answer with its breakpoint, or refuses."""
+        """Sets what is asked for in place of the breakpoints with this key, and returns the answers. The function `point_of`
+        returns an answer with its breakpoint, or refuses."""
         answers: List[Dict[str, Any]] = []
         self.points.of[key] = []
         for one in asked:
@@ -92,7 +93,8 @@ class Setting:
         return {"line": line - 1 + self.base, "source": file.source, "instructionReference": min(cells).reference}, point
 
     def set_own_again(self) -> None:
-        """Sets the breakpoints in the user's sources after a restart, which has assembled them again, and says where they are now."""
+        """Sets the breakpoints in the user's sources after a restart, which has assembled them again, and says where they are
+        now."""
         for path in self.own_asked:
             self.points.of.pop(path, None)
         for file in self.own.files:
@@ -102,7 +104,8 @@ class Setting:
     def notice(self, file: SourceFile) -> None:
         """Says once that a file has changed since the launch."""
         if file.has_changed():
-            self.wire.say(f"{file.path} was changed after the launch: its lines here are those of the launch; restart to assemble it again")
+            self.wire.say(f"{file.path} was changed after the launch: its lines here are those of the launch; restart to assemble "
+                          f"it again")
 
     # ---- on addresses and places
 
@@ -120,11 +123,12 @@ class Setting:
     def do_dataBreakpointInfo(self, name: str, variablesReference: Optional[int] = None, **_: Any) -> Dict[str, Any]:
         try:
             number = scope_and_number(variablesReference)[1] if variablesReference else None
-            words = self.own.symbols.place_in_digits(name.upper().split())
-            text = " ".join(words) if words[:1] == ["M"] and len(words) == 4 else place_of(name, number, self.own.symbols).short
-            self.check(places_of(text))
+            is_range = len(name.split()) == 4
+            places = places_of(name, self.own.symbols, number) if is_range else [place_of(name, number, self.own.symbols)]
+            self.check(places)
         except Failure as refused:
             return {"dataId": None, "description": str(refused)}
+        text = places[0].short + (f" {places[-1].numbers[-1]:o}" if places[1:] else "")
         return {"dataId": text, "description": f"a change of {text}", "accessTypes": ["write"], "canPersist": True}
 
     def check(self, places: Iterable[Place]) -> None:
@@ -138,7 +142,7 @@ class Setting:
 
     def data_point(self, one: Dict[str, Any]) -> Tuple[Dict[str, Any], Point]:
         """Returns an answer, and a data breakpoint."""
-        places = places_of(str(one.get("dataId")))
+        places = places_of(str(one.get("dataId")), self.own.symbols)
         if one.get("accessType", "write") != "write":
             raise Failure("only changes are seen")
         if len({*self.machine.state.watched, *self.points.places(), *places}) > MOST_WATCHES:

@@ -1,8 +1,9 @@
 """Steps: by turns, by the lines of the user's own source, and out of block transfers and subroutines.
 
-A step by lines goes over waits, block transfers and subroutines. A subroutine ends where P is the address that its entry has then, so
-one that counts its return address up ends too."""
+A step by lines goes over waits, block transfers and subroutines. A subroutine ends where P is the address that its entry has then,
+so one that counts its return address up ends too."""
 
+import math
 from typing import Any, List, Optional
 
 from ...run.forms import CELLS
@@ -15,6 +16,7 @@ from .running import Runner
 from .stops import Aim, Stop
 
 ALL_CELLS = frozenset(range(CELLS))
+MOST_IN_STEP = 0o10000000  # turns of a step over a subroutine, or out of one, which may never return
 
 
 class Stepper:
@@ -25,6 +27,7 @@ class Stepper:
         self.machine, self.own, self.runner, self.number = machine, own, runner, number
         self.source: Any = own.of.get(number)
         self.scout = machine.scout()
+        self.remark = ""  # on how a step ended
 
     @property
     def processor(self) -> Processor:
@@ -54,7 +57,18 @@ class Stepper:
             aim = self.aim(line, before)
             if not aim:
                 return self.runner.to_turn(self.number)  # so that a breakpoint there is not met again
-            stop, before = self.runner.forward(self.number, aim), None
+            stop, before = self.to_aim(aim), None
+            if self.remark:
+                break
+        return stop
+
+    def to_aim(self, aim: Aim) -> Optional[Stop]:
+        """Runs to where a step goes on to, but only so far if this is the end of a subroutine, whose return address may be lost.
+        Returns the stop on the way, or None."""
+        last = math.inf if aim.entry is None else self.machine.position + MOST_IN_STEP
+        stop = self.runner.forward(self.number, aim, last)
+        if not stop and self.machine.position >= last:
+            self.remark = f"PP {self.number:02o} has not come back to where cell {aim.entry:04o} says, in {MOST_IN_STEP:o} turns"
         return stop
 
     def aim(self, line: OwnLine, before: Optional[Processor]) -> Optional[Aim]:
@@ -79,7 +93,7 @@ class Stepper:
         entry = self.entry_of_call()
         stop = self.turn() if entry is None else None
         if not stop and (entry is not None or self.processor.phase):
-            stop = self.runner.forward(self.number, Aim(self.number, ALL_CELLS if entry is None else frozenset(), entry))
+            stop = self.to_aim(Aim(self.number, ALL_CELLS if entry is None else frozenset(), entry))
         return stop
 
     def entry_of_call(self) -> Optional[int]:
@@ -94,8 +108,8 @@ class Stepper:
     # ---- back
 
     def back(self, is_by_lines: bool) -> None:
-        """Goes back to before the latest turn of the processor; by lines to where it came to the line of that turn, if it is at one now. If
-        it has made no turn, that is the beginning."""
+        """Goes back to before the latest turn of the processor; by lines to where it came to the line of that turn, if it is at one
+        now. If it has made no turn, that is the beginning."""
         at = self.latest_turn(self.machine.position)
         if at is not None and is_by_lines and self.own.line_at_p(self.number, self.processor):
             at = self.before_line(self.before_call(at))
@@ -103,7 +117,8 @@ class Stepper:
             self.machine.goto(Position(at or 0))
 
     def before_line(self, first: int) -> int:
-        """Returns the position at which the processor came to the line of the turn after one; if it was at no line, that position."""
+        """Returns the position at which the processor came to the line of the turn after one; if it was at no line, that
+        position."""
         line, end = None, first + 1
         while (at := self.latest_turn(end)) is not None and self.runner.goes_on():
             processor = self.processor_at(at)
@@ -116,6 +131,7 @@ class Stepper:
     def before_call(self, at: int) -> int:
         """Returns the position before the call of the subroutine that the turn at a position ended; else that position."""
         processor = self.processor_at(at)
-        is_return = not processor.phase and processor.p in self.source.entries() and self.source.is_loaded(processor.p, processor.words[0])
+        is_return = (not processor.phase and processor.p in self.source.entries()
+                     and self.source.is_loaded(processor.p, processor.words[0]))
         calls = self.calls(at) if is_return else []
         return next((call.position - 1 for call in reversed(calls) if call.entry == (processor.p + 1) % CELLS), at)

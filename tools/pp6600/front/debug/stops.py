@@ -3,20 +3,20 @@
 A position is the machine between two actions. At it a processor has come to a breakpoint if its turn is next, its P is there, it
 is in no block transfer, and before its latest turn it was elsewhere. So a processor that waits comes there once. A position after a
 setting, at which the same processor is where it was before that, is not another one. A place changes by a turn or by a setting:
-the stop is after that. A scout makes turns up to the next one in which a processor comes to an address or a place changes; what a setting
-does is seen by a look after it.
+the stop is after that. A scout makes turns up to the next one in which a processor comes to an address or a place changes; what a
+setting does is seen by a look after it.
 
-A condition is judged where the processor has come to the breakpoint, and of a data breakpoint after the change. That a number changes, or
-that a processor waits, is judged after the latest turn."""
+A condition is judged where the processor has come to the breakpoint, and of a data breakpoint after the change. That a number
+changes, or that a processor waits, is judged after the latest turn."""
 
 from itertools import chain, groupby
 from typing import Any, FrozenSet, Iterable, Iterator, List, NamedTuple, Optional, Tuple
 
 from ...engine import interface as flat
 from ...engine.interface import CHANGES, Form
-from ...run.conditions import AnyTest, Test, is_written
+from ...run.conditions import is_written
 from ...run.forms import CELLS, PROCESSORS, Place, ranges_of
-from ...run.search import Forms, TurnFinder, arrivals, holds_in_latest, is_met, waits
+from ...run.search import Forms, TurnFinder, arrivals, holds
 from .breakpoints import Point, ProcessorCell
 from .debugged import is_turn
 from .terms import Terms
@@ -51,8 +51,8 @@ class Stop(NamedTuple):
 
 
 class StopSearch:
-    """A search for the stops at breakpoints, and at the aim of a step. A run forward to changes of places alone goes no farther than to the
-    stop, so the machine itself searches there."""
+    """A search for the stops at breakpoints, and at the aim of a step. A run forward to changes of places alone goes no farther
+    than to the stop, so the machine itself searches there."""
 
     def __init__(self, machine: Any, points: Iterable[Point], aim: Optional[Aim] = None, scout: str = "looks",
                  is_forward: bool = False) -> None:
@@ -71,8 +71,8 @@ class StopSearch:
             self.fixed += arrivals(number, addresses)
 
     def stops(self, first: int, last: int) -> Iterator[List[Stop]]:
-        """Yields the stops after a position, up to a later one, in their order, those of one position together. Turns alone are between,
-        or one other action."""
+        """Yields the stops after a position, up to a later one, in their order, those of one position together. Turns alone are
+        between, or one other action."""
         if self.fixed or self.entries:
             by = self.by_turns if is_turn(self.tape, first) else self.by_setting
             yield from filter(None, map(self.judged, by(first, last)))
@@ -102,7 +102,8 @@ class StopSearch:
         return TurnFinder([*self.fixed, *entries])
 
     def after_turn(self, position: int) -> List[Stop]:
-        """Returns the stops that the turn before a position makes: after the change of a place, and before the processor's next turn."""
+        """Returns the stops that the turn before a position makes: after the change of a place, and before the processor's next
+        turn."""
         number = self.tape.slot(position - 1)
         self.scout.goto(position - 1)
         before, was = list(map(self.number, self.numbers)), self.where(number)
@@ -165,12 +166,13 @@ class StopSearch:
 
     def judged(self, stops: Iterable[Stop]) -> List[Stop]:
         """Returns those of some stops that are for a breakpoint or the aim."""
-        met = [stop._replace(met=tuple(point for point in self.points if self.is_on(point, stop) and self.holds(point, stop.position)))
+        met = [stop._replace(met=tuple(point for point in self.points if self.is_on(point, stop) and self.holds(point, stop)))
                for stop in stops]
         return [stop for stop in met if stop.met]
 
     def is_on(self, point: Any, stop: Stop) -> bool:
-        """Returns whether a stop is at a place or a cell of a breakpoint or aim; of a line of a source the cell must have its word."""
+        """Returns whether a stop is at a place or a cell of a breakpoint or aim; of a line of a source the cell must have its
+        word."""
         if isinstance(point, Aim):
             self.scout.goto(stop.position)
             is_end = stop.address in point.addresses or stop.address in map(self.number, self.entries.values())
@@ -186,14 +188,8 @@ class StopSearch:
         found = file.of[stop.number].source.line_of(stop.address, read(stop.address), read(stop.address + 1))
         return found is not None and found.number in lines
 
-    def holds(self, point: Any, position: int) -> bool:
-        """Returns whether the condition of a breakpoint holds at a position."""
-        condition = point.terms.condition
-        return condition is None or any(all(self.test_holds(test, position) for test in one.tests) for one in condition.alternatives)
-
-    def test_holds(self, test: AnyTest, position: int) -> bool:
-        self.scout.goto(position)
-        if not isinstance(test, Test):  # a breakpoint has none of wrong returns
-            return waits(self.scout, test.number)
-        is_after_turn = position > 0 and is_turn(self.tape, position - 1)
-        return any(is_met(self.scout, [form]) or is_after_turn and holds_in_latest(self.scout, [form]) for form in test.forms)
+    def holds(self, point: Any, stop: Stop) -> bool:
+        """Returns whether the condition of a breakpoint holds at a stop."""
+        condition = point.terms.condition(stop.number)
+        self.scout.goto(stop.position)
+        return condition is None or any(holds(self.scout, one) for one in condition.alternatives)

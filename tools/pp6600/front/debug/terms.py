@@ -1,7 +1,8 @@
 """On what terms a breakpoint ends a run: a condition, a count of hits, or never, because a log point only writes.
 
-A hit is each time that a processor comes to the breakpoint, or that the place of a data breakpoint changes, and the condition holds.
-Hits are counted from the beginning of the run, wherever the search for them began. So a hit has the same number forward and back."""
+A hit is each time that a processor comes to the breakpoint, or that the place of a data breakpoint changes, and the condition
+holds. Hits are counted from the beginning of the run, wherever the search for them began. So a hit has the same number forward and
+back."""
 
 from __future__ import annotations
 
@@ -23,7 +24,6 @@ SIGNS: Dict[str, Callable[[int, int], Any]] = {
     "%": lambda count, number: count % number == 0}
 COUNT = re.compile(r"\s*(==?|>=?|<=?|%)?\s*([0-9]+)\s*")
 EXPRESSION = re.compile(r"\{([^{}]*)\}")
-REGISTERS = ("A", "P", "Q")
 
 
 def hits_of(text: str) -> Callable[[int], bool]:
@@ -54,37 +54,38 @@ class Log:
 
 
 class Terms(NamedTuple):
-    """The terms of a breakpoint."""
+    """The terms of a breakpoint. It has a condition for each processor that may come there, of which this is the own one; of a data
+    breakpoint it is that of none."""
 
-    condition: Optional[Condition] = None
+    conditions: Mapping[Optional[int], Condition] = {}
     hits: Optional[Callable[[int], bool]] = None  # whether one counts, by its number
     log: Optional[Log] = None
     text: str = ""  # of the condition
 
     @classmethod
-    def of(cls, asked: Mapping[str, Any], numbers: Iterable[int], symbols: Any) -> Terms:
+    def of(cls, asked: Mapping[str, Any], numbers: Sequence[int], symbols: Any) -> Terms:
         """Returns the terms that an editor has asked for, of a breakpoint that some processors may come to."""
         condition, hits, log = (str(asked.get(name) or "").strip() for name in ("condition", "hitCondition", "logMessage"))
-        tests = parsed(condition, symbols) if condition else None
-        if tests and tests.remembers:
+        own: Sequence[Optional[int]] = () if not condition else numbers or (None,)
+        conditions = {number: parsed(condition, symbols, number) for number in own}
+        if any(one.remembers for one in conditions.values()):
             raise Failure("returns wrongly is about a whole run, so it is for until, and for no breakpoint")
-        return cls(tests, hits_of(hits) if hits else None, Log(log, numbers, symbols) if log else None, condition)
+        return cls(conditions, hits_of(hits) if hits else None, Log(log, numbers, symbols) if log else None, condition)
+
+    def condition(self, number: int) -> Optional[Condition]:
+        """Returns the condition where a processor has come to the breakpoint; None if there is none."""
+        return self.conditions.get(number) or self.conditions.get(None)
 
     def places(self) -> List[Place]:
         """Returns all places that they are about."""
         logged = self.log.places.values() if self.log else ()
-        return [*(column.place for column in (self.condition.columns if self.condition else ())), *chain.from_iterable(logged)]
-
-
-def of_processor(words: Sequence[str], number: int) -> List[str]:
-    """Returns the words of a place, with the number of a processor that is left out: A is its A, and M 106 its cell."""
-    kind = words[0].upper() if words else ""
-    return [kind, f"{number:o}", *words[1:]] if len(words) == (1 if kind in REGISTERS else 2 if kind == "M" else 0) else [*words]
+        return [*(column.place for one in self.conditions.values() for column in one.columns), *chain.from_iterable(logged)]
 
 
 def place_of(text: str, number: int, symbols: Any) -> Place:
-    """Returns the place that an expression names."""
-    place, rest = first_place(of_processor(text.split(), number), symbols)
+    """Returns the place that an expression names. A processor that is left out is this one, so A is its A, and M 106 or a label its
+    cell."""
+    place, rest = first_place(text.split(), symbols, own=number)
     if rest or not place.exists:
         raise Failure(f"{{{text}}} is no place")
     return place

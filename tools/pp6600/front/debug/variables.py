@@ -4,13 +4,12 @@ import re
 from typing import Any, Dict, Iterable, List, Optional, Tuple
 
 from ...failure import Failure
-from ...run.conditions import Column
+from ...run.conditions import Column, first_place
 from ...run.forms import KINDS, PROCESSORS, REGISTERS, Place
 from ...run.names import AllSymbols
 from ...run.session import Session
 from ...run.turn import Processor
 from .breakpoints import ProcessorCell, checked
-from .terms import of_processor
 
 SCOPES = ("Registers", "Channels and clock", "Devices", "Watches", "History", "Calls")
 REGISTER_SCOPE, CHANNEL_SCOPE, DEVICE_SCOPE, WATCH_SCOPE, HISTORY_SCOPE, CALL_SCOPE = range(1, len(SCOPES) + 1)
@@ -68,12 +67,13 @@ def value_of(machine: Session, place: Place) -> str:
 
 
 def place_of(text: str, number: Optional[int] = None, symbols: Any = AllSymbols()) -> Place:
-    """Returns the place of a text. Of a processor that is given, A is its A, and M 106 its cell; a name may be in the place of an
-    address or a number."""
-    words = text.upper().split() if number is None else of_processor(text.upper().split(), number)
+    """Returns the place of a text. Of a processor that is given, A is its A, and M 106 or a label its cell; a name may be in the
+    place of an address or a number."""
     try:
-        words = symbols.place_in_digits(words)
-        return checked(Place.parse(" ".join(words)))
+        place, rest = first_place(text.split(), symbols, own=number)
+        if rest:
+            raise Failure(f"{text} does not name one place")
+        return checked(place)
     except Failure as failure:
         raise Failure(f"{text} is no place: {failure}") from None
 

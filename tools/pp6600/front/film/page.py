@@ -22,10 +22,10 @@ from ...run.names import AllSymbols
 from ...run.turn import BLOCK_GOES_ON, COMPLETES, WAITS_FOR
 from ...shell.options import simulator
 from ..keys import for_page
-from .joining import joined
+from .joining import joined_with_shared
 
 WEB = os.path.join(os.path.dirname(os.path.abspath(__file__)), "web")
-FIRST = {"engine": ("engine", "worker.js"), "view": ("page", "main.js")}  # modules of the worker and of the page
+FIRST = {"engine": ("engine", "worker.js"), "view": ("main.js",)}  # modules of the worker and of the page
 
 
 class Files(NamedTuple):
@@ -37,13 +37,15 @@ class Files(NamedTuple):
 
 
 def page(title: str, module: bytes, about: Dict[str, Any]) -> str:
-    """Returns the page; `module` is the simulator, and `about` what the page has to know, as JSON takes it. What the browser keeps of it
-    is kept under the checksum of `about`."""
+    """Returns the page; `module` is the simulator, and `about` what the page has to know, as JSON takes it. What the browser keeps
+    of it is kept under the checksum of `about`."""
     data = json.dumps({**about, "title": title}, separators=(",", ":")).encode("ascii")
-    scripts = {name: joined(os.path.join(WEB, *place)) for name, place in FIRST.items()}
+    scripts = dict(zip(("shared", *FIRST), joined_with_shared(*(os.path.join(WEB, *place) for place in FIRST.values()))))
     first = f"\n{web('first.js')}\n"
-    parts = {"title": html.escape(title), "sum": hashlib.sha256(data).hexdigest()[:16], "style": web("page.css"), "first": first,
-             "checksums": " ".join(f"'sha256-{checksum(script)}'" for script in (first, scripts["view"])), "film": packed(data),
+    style = packed(web("page.css").encode("utf-8"))
+    parts = {"title": html.escape(title), "sum": hashlib.sha256(data).hexdigest()[:16], "first": first, "style": style,
+             "checksums": " ".join(f"'sha256-{checksum(script)}'" for script in (first, scripts["shared"] + scripts["view"])),
+             "film": packed(data, True),
              "simulator": packed(module), **{name: packed(script.encode("utf-8")) for name, script in scripts.items()}}
     return re.sub(r"<!--(\w+)-->|/\*--(\w+)--\*/", lambda mark: parts[mark[1] or mark[2]], web("page.html")) + "\n"
 
@@ -58,8 +60,11 @@ def web(name: str) -> str:
         return file.read().rstrip()
 
 
-def packed(data: bytes) -> str:
-    text = base64.b64encode(zlib.compress(data, 9)).decode("ascii")
+def packed(data: bytes, is_film: bool = False) -> str:
+    """Returns bytes as first.js unpacks them: deflated, the film in base 64 as a saved page writes it, all else in the shorter base
+    85, without the < that could end it."""
+    deflated = zlib.compress(data, 9)
+    text = (base64.b64encode(deflated) if is_film else base64.a85encode(deflated).replace(b"<", b"v")).decode("ascii")
     return "\n".join(text[at:at + 120] for at in range(0, len(text), 120))
 
 
@@ -78,8 +83,8 @@ def tables() -> Dict[str, Any]:
 
 
 def meanings() -> Dict[str, str]:
-    """Returns what each instruction and directive does, by its name, in the words of the pages; and by 3x, 4x and 5x what x is in the
-    codes that begin with this digit."""
+    """Returns what each instruction and directive does, by its name, in the words of the pages; and by 3x, 4x and 5x what x is in
+    the codes that begin with this digit."""
     found: Dict[str, str] = {}
     for names, text in (line.split(" | ", 1) for line in web("meanings.txt").splitlines()):
         found.update({name: "\n".join(filter(None, (found.get(name), text))) for name in names.split()})
@@ -89,8 +94,8 @@ def meanings() -> Dict[str, str]:
 def options(asked: Any, devices: Mapping[int, str] = {}) -> Dict[str, Any]:
     """Returns the options of the machine, with the names of the devices on its channels."""
     reader, printer = int(asked.reader or "12", 8), int(asked.printer or "13", 8)
-    return {"history": int(asked.history or "10000"), "central": 1024 * int(asked.central or "128"), "reader": reader, "printer": printer,
-            "devices": {reader: "card reader", printer: "printer", **devices}}
+    return {"history": int(asked.history or "10000"), "central": 1024 * int(asked.central or "128"), "reader": reader,
+            "printer": printer, "devices": {reader: "card reader", printer: "printer", **devices}}
 
 
 def run(asked: Any, files: Files) -> Dict[str, Any]:
@@ -109,7 +114,7 @@ def run(asked: Any, files: Files) -> Dict[str, Any]:
 def of_symbols(symbols: AllSymbols) -> Dict[str, Any]:
     """Returns the labels of each processor that has some, and the lines and words of the sources."""
     labels = {number: {**table, "entries": list(symbols.of[number].entries()),
-                       "addresses": {name: address for address, name in symbols.of[number].names.firsts().items()}}
+                       "addresses": symbols.of[number].names.numbers()}
               for number, table in symbols.tables().items()}
     sources = {number: source_of(source) for number, source in symbols.sources()}
     return {"labels": labels, **({"sources": sources} if sources else {})}

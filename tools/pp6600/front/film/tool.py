@@ -3,6 +3,7 @@
 from ...devices.options import DEVICE_OPTIONS, devices_of, script_with
 from ...language.symbol_options import SYMBOL_OPTIONS, symbols_of
 from ...run.attached import names_of
+from ...run.past import name_of
 from ...run.tape import NOTE_OF_DEVICE
 from ...shell.command_line import SCRIPT_WORD, Failure, arguments, bytes_of, octal, simulator
 from ...shell.installation import page_module
@@ -11,9 +12,9 @@ from ...shell.text_files import lines_of, write_whole
 from .device_pictures import pictures_of
 from .page import Files, heading, of_symbols, options, page, run, tables
 
-DESCRIPTION = """Makes a film of a run: one web page with the proved simulator in it, which needs no network and no server. Opening it
-performs the script, with its steps back; each turn, and each other line that does something, is a moment of the film. What is typed in the
-page goes on from there."""
+DESCRIPTION = """Makes a film of a run: one web page with the proved simulator in it, which needs no network and no server. Opening
+it performs the script, with its steps back; each turn, and each other line that does something, is a moment of the film. What is
+typed in the page goes on from there."""
 
 
 def main() -> int:
@@ -28,7 +29,7 @@ def main() -> int:
     loading = "".join(f"{line}\n" for line in symbols.loading(()))
     script = loading.encode() + bytes_of(asked.script)
     saved = {note[1] for note in map(NOTE_OF_DEVICE.fullmatch, lines_of(script.decode("latin-1"))) if note}  # names of devices
-    silent = [device for device in devices if names_of([device])[device.channel] not in saved]  # no reply of theirs is in the script
+    silent = [device for device in devices if name_of(device) not in saved]  # no reply of theirs is in the script
     if silent:
         script, refusals = script_with(words, silent, script)
     lines = lines_of(script.decode("latin-1"))

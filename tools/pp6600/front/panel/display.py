@@ -89,7 +89,8 @@ class Display:
         self.page = TextPage("The keys of the panel", list(map(MarkedLine, help_lines())))
 
     def show_origin(self) -> None:
-        """Opens the page of where the number at the cursor came from. Enter goes to before the action that wrote the number of a step."""
+        """Opens the page of where the number at the cursor came from. Enter goes to before the action that wrote the number of a
+        step."""
         simulator, place = self.session.simulator, self.view.cursor
 
         def searched(reached: Position) -> None:

@@ -34,7 +34,8 @@ def on(run: Session, turns: int) -> List[str]:
 
 
 def to_turn(run: Session, turn: int) -> List[str]:
-    """Returns the lines that go to before the turn that comes after so many: back, or over what is ahead and then over new turns."""
+    """Returns the lines that go to before the turn that comes after so many: back, or over what is ahead and then over new
+    turns."""
     if turn < run.turn:
         return back_over(run, run.turn - turn)
     ahead = run.forward_over(turn + 1 - run.turn) - 1 if turn < run.tape.turns else run.to_redo

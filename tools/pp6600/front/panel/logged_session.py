@@ -1,4 +1,5 @@
-"""The session of the panel: lines sent to the simulator, a log of these and of their answers, and the machine's state after them."""
+"""The session of the panel: lines sent to the simulator, a log of these and of their answers, and the machine's state after
+them."""
 
 import os
 from typing import Any, Callable, List, NamedTuple, Sequence, Tuple
@@ -7,7 +8,7 @@ from ...devices.options import timeline
 from ...failure import Failure
 from ...run.attached import Attached
 from ...run.console import Console, has_no_answer
-from ...run.device import Device
+from ...run.device import CompanionDevice
 from ...run.forms import hit_of, refused
 from ...run.searches import MOST_NEW
 from ...run.state import State, state_of
@@ -34,7 +35,7 @@ def kind_of(answer: Sequence[str]) -> str:
 class LoggedSession:
     """A simulator, all lines that it was sent, and its state. The lines that ask for the state are not among them."""
 
-    def __init__(self, words: Sequence[str], devices: Sequence[Device] = ()) -> None:
+    def __init__(self, words: Sequence[str], devices: Sequence[CompanionDevice] = ()) -> None:
         self.simulator = timeline(words, devices)
         self.most_new = 0 if devices else MOST_NEW  # a search has no devices
         self.size = self.simulator.central_size
@@ -107,8 +108,8 @@ class LoggedSession:
         self.state, self.before = self.read(), self.state
 
     def to_turn(self, turn: int) -> None:
-        """Goes to where so many turns are in effect. What the last of them changed is marked. New turns do not end where a watched number
-        changes."""
+        """Goes to where so many turns are in effect. What the last of them changed is marked. New turns do not end where a watched
+        number changes."""
         for goal in range(max(turn - 1, 0), turn + 1):
             for line in self.simulator.lines_to(goal):
                 self.send(line)
@@ -116,8 +117,8 @@ class LoggedSession:
         self.before = self.before if turn else self.state
 
     def perform_script(self, lines: Sequence[str], stops: Callable[[int, int], bool] = lambda done, total: False) -> bool:
-        """Performs a script, whatever is refused; `stops` is asked before each line. What the last action changed is marked. Returns
-        whether all was performed."""
+        """Performs a script, whatever is refused; `stops` is asked before each line. What the last action changed is marked.
+        Returns whether all was performed."""
         acting = (number for number, line in enumerate(lines) if not has_no_answer(line) and line.upper().split()[:1] != ["DUMP"])
         last = max(acting, default=None)
         for number, line in enumerate(lines):
@@ -135,8 +136,8 @@ class LoggedSession:
     # ---- the file of what was sent
 
     def save(self, path: str, over: bool = False) -> None:
-        """Writes all that was sent into a file, a script that gives the same session again. It begins with the options, if a note can say
-        them."""
+        """Writes all that was sent into a file, a script that gives the same session again. It begins with the options, if a note
+        can say them."""
         if over and os.path.exists(path) and not os.path.isfile(path):  # a FIFO would wait for a reader
             raise Failure(f"can't write {path}: it is not a file")
         options = self.simulator.words[1:]

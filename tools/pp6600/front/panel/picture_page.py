@@ -3,7 +3,7 @@
 from typing import Any, Iterator, List, Tuple
 
 from ...devices.pictures import Picture, braille
-from ...run.device import Device, DeviceFailure, drawn
+from ...run.device import CompanionDevice, DeviceFailure, drawn
 from ..keys import PANEL
 from .key_lines import LINES
 from .logged_session import LoggedSession
@@ -12,10 +12,10 @@ from .text import MarkedLine
 from .text_page import TextPage
 
 
-def devices_that(session: LoggedSession, method: str) -> List[Tuple[int, Device]]:
+def devices_that(session: LoggedSession, method: str) -> List[Tuple[int, CompanionDevice]]:
     """Returns the numbers of the devices of a session whose class has a method of its own, and the devices."""
     devices = enumerate(getattr(session.simulator, "devices", ()))
-    return [(number, device) for number, device in devices if getattr(type(device), method) is not getattr(Device, method)]
+    return [(number, device) for number, device in devices if getattr(type(device), method) is not getattr(CompanionDevice, method)]
 
 
 def line_of(text: str) -> MarkedLine:
@@ -40,7 +40,7 @@ class PicturePage(TextPage):
             return braille(picture, min(columns, (2 * (rows - 3) + 1) * len(picture.screens) - 1))
 
         for number, device in self.devices:
-            yield f"{type(device).__name__} on channel {device.channel:02o}"
+            yield f"{type(device).__name__} {'of central memory' if device.channel is None else f'on channel {device.channel:02o}'}"
             try:
                 yield from drawn(device, self.panel.session.simulator.state(number), draw) or ()
             except DeviceFailure as failure:

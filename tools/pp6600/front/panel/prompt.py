@@ -12,7 +12,8 @@ class Prompt:
 
     def __init__(self, kind: str, asked: str, history: List[str]) -> None:
         self.kind, self.asked, self.history = kind, asked, history
-        self.lines, self.at = [*history, ""], len(history)  # those before and the new one, each as it was edited; and which is shown
+        # those before and the new one, each as it was edited; and which is shown
+        self.lines, self.at = [*history, ""], len(history)
         self.place = 0  # of the cursor
 
     @property

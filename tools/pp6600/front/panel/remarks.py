@@ -14,7 +14,8 @@ from ...run.tape import STEP
 from .logged_session import LoggedSession, Outcome, kind_of
 
 # What a key does about a refusal.
-ADVICE = {"ERR 07": "< goes back to the beginning", "ERR 10": "[ goes to older changes", "ERR 15": "t watches the number at the cursor",
+ADVICE = {"ERR 07": "< goes back to the beginning", "ERR 10": "[ goes to older changes",
+          "ERR 15": "t watches the number at the cursor",
           "ERR 16": "> goes to the newest state"}
 
 
@@ -40,8 +41,8 @@ def advice(line: str, answer: str, size: int) -> str:
 
 
 def next_change(session: LoggedSession, places: Sequence[Place], symbols: AllSymbols) -> List[str]:
-    """Returns in words the next action, which makes the change before which a BACK W has stopped, with the first of the places that it
-    changes; and the line of a source that its instruction is of, in a block transfer that of the instruction which began it."""
+    """Returns in words the next action, which makes the change before which a BACK W has stopped, with the first of the places that
+    it changes; and the line of a source that its instruction is of, in a block transfer that of the instruction which began it."""
     simulator, slot = session.simulator, session.state.slot
     line = next(simulator.tape.actions(simulator.position)).line
     if line != STEP:
@@ -52,7 +53,8 @@ def next_change(session: LoggedSession, places: Sequence[Place], symbols: AllSym
     change = next((f"changes {place.short} from {was[place.number]:0{place.digits}o}" for place in places if place.number in was),
                   "makes the change")
     instruction = f"{'in' if processor.phase else 'with'} {processor.text}{'' if address is None else f' at {address:04o}'}"
-    return [f"the next turn, PP {slot:02o} {instruction}, {change}", *line_of(session.state.memories[slot], address, symbols.of.get(slot))]
+    return [f"the next turn, PP {slot:02o} {instruction}, {change}",
+            *line_of(session.state.memories[slot], address, symbols.of.get(slot))]
 
 
 def line_of(memory: Memory, address: Optional[int], source: Any) -> List[str]:

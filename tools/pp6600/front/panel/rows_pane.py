@@ -1,5 +1,6 @@
-"""The memory of the chosen processor by rows: an instruction each, or as the source. Then a row has the line that it is of, or was, and
-before it are the lines without words, as notes. `Source.line_of` says whose line a cell is. A cell of no line has its own row."""
+"""The memory of the chosen processor by rows: an instruction each, or as the source. Then a row has the line that it is of, or was,
+and before it are the lines without words, as notes. `Source.line_of` says whose line a cell is. A cell of no line has its own
+row."""
 
 from __future__ import annotations
 
@@ -22,11 +23,12 @@ if TYPE_CHECKING:
 
 TEXT_FROM, LABEL_FROM = 17, 33  # the columns of an instruction and of its label
 DISPLAY_WIDTH = 5
-WIDTH = 52  # beside central memory
+WIDTH = 52  # beside central memory, on the least screen
 
 
 class Entry(NamedTuple):
-    """What a line of the pane shows: a row of cells, with the source line that it is of, or was; or a line without words before it."""
+    """What a line of the pane shows: a row of cells, with the source line that it is of, or was; or a line without words before
+    it."""
 
     row: Row
     line: Optional[CellLine] = None
@@ -37,8 +39,8 @@ class Entry(NamedTuple):
 
 
 class Notes:
-    """The lines of a source without words, by what comes after them: a row of words, or the address of cells that a line leaves out, as
-    BSS does. Those that a macro made are none."""
+    """The lines of a source without words, by what comes after them: a row of words, or the address of cells that a line leaves
+    out, as BSS does. Those that a macro made are none."""
 
     def __init__(self, rows: Sequence[ListingRow]) -> None:
         """The rows are those of the listing."""
@@ -97,10 +99,11 @@ class Cells:
             found += [*(Entry(row, note=note) for note in notes), Entry(row, line)]
         return found
 
-    def window(self, top: Tuple[int, int], address: int, count: int, is_centred: bool = False) -> Tuple[List[Entry], Tuple[int, int]]:
-        """Returns so many entries with a cell among them: from the top on if it is there with rows above it, else with some before it. The
-        top is the address of a row, and how many of its entries are above the window. Returns the top too. The cell may have to be in the
-        middle."""
+    def window(self, top: Tuple[int, int], address: int, count: int,
+               is_centred: bool = False) -> Tuple[List[Entry], Tuple[int, int]]:
+        """Returns so many entries with a cell among them: from the top on if it is there with rows above it, else with some before
+        it. The top is the address of a row, and how many of its entries are above the window. Returns the top too. The cell may
+        have to be in the middle."""
         first, above = top
         found = self.entries(rows_from(self.word, first, count + above, self))[above:above + count]
         before = rows_above(next((at for at, entry in enumerate(found) if entry.has(address)), None), count, first, is_centred)
@@ -115,8 +118,8 @@ class Cells:
 # ---- the lines of the pane
 
 def cells_line(shown: ScreenContent, row: Row) -> MarkedLine:
-    """Returns the beginning of the line of a row: > for the cell at P, r where a block transfer goes on, or w for a watched cell; the
-    address, and the words."""
+    """Returns the beginning of the line of a row: > for the cell at P, r where a block transfer goes on, or w for a watched cell;
+    the address, and the words."""
     number, cells = shown.view.processor, shown.view.rows
     is_watched = any(map(row.has, shown.state.watched_cells(number)))
     sign = ">" if row.address == cells.processor.p else "r" if row.address == cells.back else "w" if is_watched else " "
@@ -126,18 +129,20 @@ def cells_line(shown: ScreenContent, row: Row) -> MarkedLine:
     return line.fit(TEXT_FROM)
 
 
-def instruction_line(shown: ScreenContent, entry: Entry) -> MarkedLine:
-    """Returns the line of a row as an instruction, and beside it the source line that it was of, or a text, or else its label."""
+def instruction_line(shown: ScreenContent, entry: Entry, width: int) -> MarkedLine:
+    """Returns the line of a row as an instruction, and beside it the source line that it was of, or a text, or else its label. A
+    text without room has one blank between its columns."""
     row, symbols, number, address = entry.row, shown.symbols, shown.view.processor, entry.row.address
     was = f"was {os.path.basename(shown.view.source.path)}:{entry.line.number}" if entry.line and shown.view.source else ""
     line = cells_line(shown, row).add(text_of(row.words).ljust(DISPLAY_WIDTH) if shown.view.has_display_code else "").add(row.text)
-    named = was or symbols.text(number, address, row.words[0]) or symbols.name(number, address)
-    return line.fit(max(LABEL_FROM, len(line.text) + 1)).add(named, OVERWRITTEN if was else None) if named else line
+    text, column = symbols.text(number, address, row.words[0]), max(LABEL_FROM, len(line.text) + 1)
+    named = was or (text if len(text) <= width - column else " ".join(text.split())) or symbols.name(number, address)
+    return line.fit(column).add(named, OVERWRITTEN if was else None) if named else line
 
 
 def source_line(shown: ScreenContent, entry: Entry, width: int) -> MarkedLine:
-    """Returns the line of an entry as its source line. The present one has > before its number; a + after it says that a macro made the
-    text."""
+    """Returns the line of an entry as its source line. The present one has > before its number; a + after it says that a macro made
+    the text."""
     cells, cell, source = shown.view.rows, entry.line, entry.note or entry.line and entry.line.row
     assert source
     mark = HERE if not entry.note and entry.row.address == cells.here else None
@@ -161,7 +166,8 @@ def head_line(shown: ScreenContent) -> MarkedLine:
 def rows_pane(shown: ScreenContent, count: int, width: int) -> List[MarkedLine]:
     """Returns so many lines of the memory by rows, around P or the cursor, below a head."""
     entries, _ = shown.view.rows.window(shown.view.top_of_rows, shown.view.cell, count, shown.view.following)
-    lines = (source_line(shown, entry, width) if entry.note or entry.line and entry.line.is_there else instruction_line(shown, entry)
+    lines = (source_line(shown, entry, width) if entry.note or entry.line and entry.line.is_there
+             else instruction_line(shown, entry, width)
              for entry in entries)
     return [line.fit(width) for line in (head_line(shown), *lines)]
 

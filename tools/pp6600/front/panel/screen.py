@@ -17,7 +17,8 @@ LEFT = 80  # columns of the machine
 CHANNELS_FROM, CENTRAL_FROM = 54, 53  # the columns
 COLUMN_FROM = 15  # the column of the device's column
 MACHINE_ROWS = 12  # the ten processors, their head and that of the memory
-MOST_LEFT, LEAST_RIGHT = 100, 40  # of the machine with a source, and of what is beside it
+MOST_LEFT = 100  # of the machine with memory by rows
+LEAST_RIGHT, RIGHT_OF_CENTRAL = 40, 52  # beside a source, and beside central memory
 HINTS = "s step  b back  G turn  g cursor  W who changed it  i program  ? help  q quit"
 HINTS_OF_SOURCE = "N next line  P line before  s step  b back  m cells  C central  ? help  q quit"
 
@@ -65,8 +66,8 @@ class Layout(NamedTuple):
 
 
 def layout(columns: int, rows: int, is_by_rows: bool = False, folded: int = 0) -> Layout:
-    """Returns how a screen is divided. If memory is shown as instructions or a source, a line is below it. So many processors are one line,
-    whose rows the memory has."""
+    """Returns how a screen is divided. If memory is shown as instructions or a source, a line is below it. So many processors are
+    one line, whose rows the memory has."""
     spare, line = rows - LEAST_ROWS, int(is_by_rows)
     if columns >= WIDE:
         return Layout(True, rows - 2 - MACHINE_ROWS - line, 0, 4 + spare // 3, 0)
@@ -84,7 +85,8 @@ def is_idle(now: State, was: State, number: int) -> bool:
     if (last.p - first.p - turns) % CELLS or first.phase or first[1:4] != last[1:4]:
         return False
     begin, count = (first.p, turns + 1) if turns <= CELLS // 2 else (last.p, CELLS - turns + 1)  # on, or back
-    return not any(any([*state.memories[number].numbers, *state.memories[number].numbers][begin:begin + count]) for state in (was, now))
+    return not any(any([*state.memories[number].numbers, *state.memories[number].numbers][begin:begin + count])
+                   for state in (was, now))
 
 
 def folded_processors(columns: int, state: State, before: State, view: View) -> List[int]:
@@ -173,8 +175,8 @@ def central_line(shown: ScreenContent, address: int) -> MarkedLine:
 
 
 def machine_lines(shown: ScreenContent, rows: int, width: int, folded: Sequence[int] = ()) -> List[MarkedLine]:
-    """Returns processors, channels, devices, and so many rows of memory: that of the chosen processor with central memory beside it, or a
-    source in the whole width, which begins beside the channels if some processors are one line."""
+    """Returns processors, channels, devices, and so many rows of memory: that of the chosen processor with central memory beside
+    it, or a source in the whole width, which begins beside the channels if some processors are one line."""
     view = shown.view
     processors = [processor_line(shown, number) for number in range(PROCESSORS) if number not in folded]
     left = [MarkedLine(" PP P    AT P          A      Q    PHASE  WAITS FOR", HEAD), *processors]
@@ -184,10 +186,11 @@ def machine_lines(shown: ScreenContent, rows: int, width: int, folded: Sequence[
     if not view.shows_central:
         memory = rows_pane(shown, rows, width)
     else:
-        cells = rows_pane(shown, rows, WIDTH) if view.is_by_rows else memory_lines(shown, rows)
+        more = min(width, MOST_LEFT) - LEFT if view.is_by_rows else 0
+        cells = rows_pane(shown, rows, WIDTH + more) if view.is_by_rows else memory_lines(shown, rows)
         top = central_top(view.central_top, view.word, rows, shown.size)
         central = [MarkedLine("CENTRAL MEMORY", HEAD), *(central_line(shown, top + row) for row in range(rows))]
-        memory = beside(cells, central, CENTRAL_FROM)
+        memory = beside(cells, central, CENTRAL_FROM + more)
     return beside(left, channel_lines(shown), CHANNELS_FROM) + memory + last
 
 
@@ -273,12 +276,14 @@ def narrow_lines(shown: ScreenContent, columns: int, parts: Layout) -> List[Mark
     watches = watch_rows(shown, columns, parts.watches)
     log = log_rows(shown.log, parts.log + parts.watches - len(watches))
     paper = beside([paper_head(shown)], paper_lines(shown, parts.paper), 14)
-    return machine_lines(shown, parts.memory, columns, folded_processors(columns, shown.state, shown.before, shown.view)) + watches + paper + log
+    return machine_lines(shown, parts.memory, columns,
+                         folded_processors(columns, shown.state, shown.before, shown.view)) + watches + paper + log
 
 
 def wide_lines(shown: ScreenContent, columns: int, parts: Layout) -> List[MarkedLine]:
     """Returns the lines between top and bottom, with watches, paper and the lines typed at the right."""
-    left = LEFT if shown.view.shows_central else max(LEFT, min(MOST_LEFT, columns - LEAST_RIGHT))
+    room = columns - (RIGHT_OF_CENTRAL if shown.view.shows_central else LEAST_RIGHT)
+    left = max(LEFT, min(MOST_LEFT, room)) if shown.view.is_by_rows else LEFT
     right = [MarkedLine("WATCHES", HEAD), *(watch_parts(shown) or [MarkedLine("none")]), MarkedLine(), paper_head(shown),
              *paper_lines(shown, parts.paper), MarkedLine("LINES", HEAD)]
     height = parts.memory + MACHINE_ROWS + int(shown.view.is_by_rows) - len(right)

@@ -35,10 +35,12 @@ SIGNALS: Dict[int, str] = {signal.SIGWINCH: RESIZE, signal.SIGCONT: RESIZE, sign
 ENDS = (signal.SIGTERM, signal.SIGHUP)
 # How each mark looks, and with colours its colour and how it looks beside.
 LOOKS = {TITLE: curses.A_REVERSE, HEAD: curses.A_BOLD, SLOT: curses.A_BOLD, CHOSEN: curses.A_REVERSE, CURSOR: curses.A_REVERSE,
-         CHANGED: curses.A_BOLD, WATCHED: curses.A_UNDERLINE, HERE: curses.A_BOLD, REFUSED: curses.A_BOLD, OVERWRITTEN: curses.A_BOLD}
+         CHANGED: curses.A_BOLD, WATCHED: curses.A_UNDERLINE, HERE: curses.A_BOLD, REFUSED: curses.A_BOLD,
+         OVERWRITTEN: curses.A_BOLD}
 COLOURS: Dict[str, Tuple[int, int]] = {
-    SLOT: (curses.COLOR_GREEN, curses.A_BOLD), HERE: (curses.COLOR_GREEN, curses.A_BOLD), CHANGED: (curses.COLOR_RED, curses.A_BOLD),
-    REFUSED: (curses.COLOR_RED, curses.A_BOLD), HEAD: (curses.COLOR_CYAN, curses.A_BOLD), OVERWRITTEN: (curses.COLOR_YELLOW, curses.A_NORMAL)}
+    SLOT: (curses.COLOR_GREEN, curses.A_BOLD), HERE: (curses.COLOR_GREEN, curses.A_BOLD),
+    CHANGED: (curses.COLOR_RED, curses.A_BOLD), REFUSED: (curses.COLOR_RED, curses.A_BOLD),
+    HEAD: (curses.COLOR_CYAN, curses.A_BOLD), OVERWRITTEN: (curses.COLOR_YELLOW, curses.A_NORMAL)}
 
 
 def check() -> None:

@@ -5,7 +5,7 @@ use Rattle.pp_lines.specs.Terminal.{sink_of, source_of}
 use Rattle.pp_console.specs.Serving.{origin_of}
 use Rattle.pp_lines.proofs.Reading.{Consumes-nothing, Consumes-again, Consumes-keeps}
 use Rattle.pp_console.proofs.{Reading.HasRead-new, Reading.Performed-within, Ending.Stops-interrupted}
-use Rattle.pp_console.proofs.Ordered.{HasRead-on_time, no-reads, one-more-read, same-reads}
+use Rattle.pp_console.proofs.Ordered.{HasRead-on_time, more-bytes, no-bytes, one-more-read, same-reads}
 use Rattle.pp_console.proofs.serving.serve_terminal.Goals as goal
 
 pub pieces-init : goal.pieces-init
@@ -16,7 +16,7 @@ pieces-init g c = record {
     sym (append-nil (g.R.Source.given (source_of c.args.terminal.now))),
     λ start at. HasRead-new _ _ _ start at c.new-progress.ensures.line
         c.new-progress.ensures.bytes c.new-progress.ensures.lines c.new-progress.ensures.refused,
-    λ start at. no-reads,
+    λ start at. no-bytes,
   );
   reads = refl;
   writes = refl;
@@ -73,7 +73,7 @@ pieces-preserved g c = let (taken, consumed, given, has_read, on_time) = c.piece
     c.in-Ok.ensures.given ∙ ap (λ front. front ++ take c.in-Ok.count c.take.new.into) given ∙ append_assoc _ taken _,
     λ start at. c.in_ok-feed-in-Ok.ensures.has_read (origin_of start (g.W.Sink.text (sink_of c.args.terminal.now))) taken
         (rw c.in-Ok.ensures.sink (has_read start at)),
-    λ start at. one-more-read _ _ c.in-Ok.ensures.at_reads c.in-Ok.ensures.called (search rules)
+    λ start at. more-bytes _ _ c.in-Ok.ensures.at_reads c.in-Ok.ensures.called (search rules) (search rules)
         (HasRead-on_time _ given (has_read start at)) (on_time start at),
   );
   reads = search rules;

@@ -29,10 +29,7 @@ loop-left-preserved g c =
       acted = rw (set_last left heads c.perform.new.head (omega (arith, c.loop-left-test.true))
           (omega (arith, before.within, before.same_length)))
           (c.loop-left.machine, c.loop-left.tails, before.acted, acted);
-      some = λ stops. omega (arith, before.within, c.loop-left-test.true);
-      before = λ k less. before.all c.if-not-may_stop.true k (omega (arith, less));
-      all = λ unmarked k less. unmarked_more T g.T.Marked.marks_of c.args.marks.now now next acted
-          (omega (arith, c.requires.room, was.1))
-          (c.may_be_marked-may_stop.ensures unmarked) (before.all c.if-not-may_stop.true) k
+      unmarked = λ k less. unmarked_more T g.T.Marked.marks_of c.args.marks.now now next acted
+          (omega (arith, c.requires.room, was.1)) (c.may_be_marked.ensures cc) before.unmarked k
           (omega (arith, less, before.within, c.loop-left-test.true));
     }

@@ -1,4 +1,4 @@
-use Rattle.pp_history.proofs.Names.{◌≡◌, ◌-◌, ◌<◌, ◌≤◌, AreActed, AreUnmarked, drop, false, length, take, true}
+use Rattle.pp_history.proofs.Names.{◌≡◌, ◌-◌, ◌≤◌, AreActed, AreUnmarked, drop, length, take}
 use Rattle.pp_history.proofs.repeatable.repeat_to_mark.Given as goal
 
 abbrev pub invariant-loop-left : goal.invariant-loop-left
@@ -7,9 +7,7 @@ invariant-loop-left g l = let T = g.T.Reversible in let action = g.T.Repeatable.
   same_length : length l.heads ≡ length heads;
   left_alone : take l.left l.heads ≡ take l.left heads;
   acted : AreActed T action (drop l.left l.heads) l.initial.machine l.machine l.initial.tails l.tails;
-  some : l.may_stop ≡ true → l.left < length heads;
-  before : AreUnmarked T g.T.Marked.marks_of l.marks action (length heads - l.left - 1) l.initial.machine;
-  all : l.may_stop ≡ false → AreUnmarked T g.T.Marked.marks_of l.marks action (length heads - l.left) l.initial.machine;
+  unmarked : AreUnmarked T g.T.Marked.marks_of l.marks action (length heads - l.left) l.initial.machine;
 }
 
 abbrev pub decreases-loop-left : goal.decreases-loop-left

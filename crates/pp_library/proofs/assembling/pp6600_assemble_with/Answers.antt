@@ -12,6 +12,7 @@ returns c = inl (
       start = c.in-Ok.ensures.start;
       meaning = c.in-Ok.ensures.meaning;
       said = c.in-Ok.ensures.said;
+      source_lines = c.in-Ok.ensures.source_lines;
       messages = c.in-Ok.ensures.messages;
       warnings = c.in-Ok.ensures.warnings;
       decks = c.in-Ok.ensures.decks;

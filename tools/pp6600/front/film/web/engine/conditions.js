@@ -1,19 +1,13 @@
-// ---- conditions on the machine, as P 0 = 105 and PP 3 waits: their texts, and how the library finds the turns in which they come
-// to hold
+// ---- conditions on the machine, as P 0 = 105 and PP 3 waits: how the library finds the turns in which they come to hold
 
-import { CELLS, CLOCK, KINDS, PROCESSORS, layout, octal, placeIn, register } from "../machine/places.js";
+import { CELLS, PROCESSORS, octal, register } from "../machine/places.js";
+import { testsIn } from "./condition_texts.js";
 import { FORM } from "./library.mjs";
 
-const { INSIDE, OUTSIDE, CHANGES, WRITES, PERFORMS, WAITS, OR } = FORM;
-const MOST_TESTS = 0o10, MOST_ALTERNATIVES = 0o100, GREATEST = 2n ** 64n - 1n;
+const { CHANGES, WRITES, WAITS, OR } = FORM;
+const MOST_ALTERNATIVES = 0o100;
 const FAR = 64; // actions among which is the latest turn of each processor
 const RJM = 2, IN_BLOCK = 3; // an instruction, and the kind of a turn
-// Of each comparison the kind of its form, and the range, of the number or the two numbers that it has.
-const COMPARISONS = {
-  "=": (a) => [INSIDE, a, a], "!=": (a) => [OUTSIDE, a, a], "<=": (a) => [INSIDE, 0n, a], ">=": (a) => [INSIDE, a, GREATEST],
-  "<": (a) => [OUTSIDE, a, GREATEST], ">": (a) => [OUTSIDE, 0n, a], inside: (a, b) => [INSIDE, a, b],
-  outside: (a, b) => [OUTSIDE, a, b],
-};
 
 // ---- what the library does not judge
 
@@ -89,72 +83,6 @@ export class Condition {
 // The condition that one of some places changes.
 export const changes = (places) => new Condition(places.map((place) => [{ kind: CHANGES, place, first: 1 }]));
 
-// ---- their texts; labels has of each processor the addresses by their names, and its subroutines
-
-const PLACE = "(M \\S+ \\S+|[APQCH] \\S+)", DO = "(changes|is written)";
-const kindOf = (word) => (/^c/i.test(word) ? CHANGES : WRITES);
-// Each with the test that it makes of the place with the first name, and of the other words.
-const FORMS = [
-  ["(PP \\S+) waits", ({ n }) => ({ kind: WAITS, place: n })], ["(PP \\S+) returns wrongly", returnTest],
-  ["(PP \\S+) performs (\\S+)", ({ n, number }, word) => ({ kind: PERFORMS, place: n, first: number(word) })],
-  ["(PP \\S+) (not )?in a block", ({ n }, not) => ({ kind: not ? INSIDE : OUTSIDE, place: register(n, 3) })],
-  [`${PLACE} (=|!=|<|>|<=|>=) (\\S+)`, compareTest], [`${PLACE} (outside|inside) (\\S+) (\\S+)`, compareTest],
-  [`(M \\S+ \\S+) (\\S+) ${DO}`, cellsTest], [`${PLACE} ${DO}`, ({ at }, word) => ({ kind: kindOf(word), place: at, first: 1 })],
-  ["(H \\S+) changes state", ({ n }) => ({ kind: CHANGES, place: stateOf(n), first: 1 })], ["(H \\S+) is (\\S+)", stateTest],
-].map(([form, make]) => [new RegExp(`^${form}$`, "i"), make]);
-
-// Conditions of which one must hold are joined by or. `forms` is the sentence about what a condition is.
-export function parseCondition(text, labels, forms) {
-  return new Condition(text.trim().split(/\s+or\s+/i).map((list) => {
-    const tests = list.split(/\s+and\s+/i).map((part) => parseTest(part.replace(/\s+/g, " "), labels, forms));
-    if (tests.length > MOST_TESTS) throw new Error(`at most ${octal(MOST_TESTS)} tests are joined by and`);
-    return tests;
-  }));
-}
-
-function parseTest(text, labels, forms) {
-  const [form, make] = FORMS.find(([one]) => one.test(text)) || [];
-  if (!form) throw new Error(forms);
-  const [, name, ...words] = form.exec(text), place = placeIn(name.replace(/^PP/i, "P"), labels);
-  if (!place) throw new Error(`there is no ${name}`);
-  const { kind, numbers, places } = place, own = "MAPQ".includes(kind) ? labels[numbers[0]] : null;
-  return make({ name, own, n: numbers[0], at: places.at(-1), number: (word) => numberFor(kind, word, own, name) }, ...words);
-}
-
-// A number that may be at a place, or a label of its processor.
-function numberFor(kind, word, own, name) {
-  const label = own && Object.hasOwn(own.addresses, word) ? own.addresses[word] : null;
-  if (label === null && !/^[0-7]+$/.test(word)) throw new Error(`${word} is no octal number${own ? " and no label" : ""}`);
-  const number = label === null ? BigInt(`0o${word}`) : BigInt(label);
-  if (number >= 1n << BigInt(3 * KINDS[kind].digits)) throw new Error(`${word} is more than ${name} can be`);
-  return number;
-}
-
-function compareTest({ at, number }, sign, ...words) {
-  const [kind, first, last] = COMPARISONS[sign.toLowerCase()](...words.map(number));
-  if (first > last) throw new Error(`${octal(first)} is over ${octal(last)}`);
-  return { kind, place: at, first, last };
-}
-
-function cellsTest({ at, name, number }, word, how) {
-  const count = Number(number(word)) - (at % CELLS) + 1;
-  if (count < 1) throw new Error(`${word} is before the first cell of ${name.toUpperCase()}`);
-  return { kind: kindOf(how), place: at, first: count };
-}
-
-function stateOf(channel) {
-  if (channel === CLOCK) throw new Error("the clock has no state");
-  return layout.states + channel;
-}
-
-function stateTest({ n }, letter) {
-  const state = ["I", "E", "F", "X"].indexOf(letter.toUpperCase());
-  if (state < 0) throw new Error("a channel is I, E, F or X");
-  return { kind: INSIDE, place: stateOf(n), first: state, last: state };
-}
-
-// Labels have the jumps back of subroutines.
-function returnTest({ n, name, own }) {
-  if (own && own.entries.length) return { n, entries: own.entries };
-  throw new Error(`${name} returns wrongly needs labels of a subroutine: NAMEX, and NAME at the cell after it`);
-}
+// Conditions of which one must hold are joined by or. Labels has of each processor the numbers by their names, and its subroutines; the
+// sentence says what a condition is.
+export const parseCondition = (text, labels, sentence) => new Condition(testsIn(text, labels, sentence));

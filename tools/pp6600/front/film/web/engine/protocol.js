@@ -2,14 +2,14 @@
 
 const MESSAGES = {
   // From the page. A session with the files of a run takes the place of the one there is; `wanted` are positions to be recorded
-  // too.
-  open: ["module", "about", "given", "wanted", "isTrusted"],
+  // too. Moments that are known are not delivered.
+  open: ["module", "about", "given", "wanted", "isTrusted", "isKnown"],
   act: ["lines"], // performs lines at the newest moment
-  look: ["given", "parts", "text"], // the answer to lines elsewhere; the session stays as it is
+  look: ["given", "parts", "text"], // the answers to lines elsewhere, each for itself; the session stays as it is
   find: ["given", "parts", "from", "text", "isBack", "labels"], // after how many actions a condition comes to hold in some parts
   // Replies to these, and to a request that failed. A reply carries what has come to the film since, so that one action is one
   // drawing.
-  "open reply": ["said", "isWrong"], "act reply": ["said", "isWrong"], "look reply": ["answer", "acts"],
+  "open reply": ["said", "isWrong", "count"], "act reply": ["said", "isWrong"], "look reply": ["answers", "acts"],
   "find reply": ["found", "end"],
   "fault reply": ["said", "isWrong", "isFault"],
   moments: ["rows", "lines"], working: [], // from the worker beside replies: what has come to the film, and that a search goes on

@@ -1,11 +1,12 @@
 // ---- a session with its numbers: what the page gets of each action is a moment with the places that it changed, and of a turn the
 // links by which its numbers come from others
 
-import { CELLS, HALF, REGISTERS, isWord, layout, setLayout, upperOf } from "../machine/places.js";
+import { CELLS, HALF, REGISTERS, WATCHES, isWord, layout, setLayout, upperOf } from "../machine/places.js";
 import { BLOCK, BUSY, IDLE, LINE, ROWS, WAITING } from "../machine/moments.js";
 import { FORM } from "../machine/turns.js";
 import { AFTER, packed } from "../machine/written.js";
 import { STATUS } from "./library.mjs";
+import { stepped } from "./stepping.js";
 
 const MOST_RECORDED = 4096, MOST_OF_LINE = 76; // turns; places that a line overwrites
 const LINKS = 4, OWN = 5, OLDS = 6, MADE = 8, LINK = 6; // which number of a turn is which; how many a turn and a link have
@@ -21,6 +22,7 @@ export class Recorder {
   position = 0;
   turn = 0;
   latest = 0;
+  isSilent = false; // while moments are performed that the page has: they are only counted
 
   constructor(session, { central, instructions }) {
     Object.assign(this, { session, instructions, numbers: new Int32Array(setLayout(central)) });
@@ -50,8 +52,27 @@ export class Recorder {
     this.count++;
   }
 
+  beginSilence() {
+    this.isSilent = true;
+    this.beginDelivery();
+  }
+
+  endSilence() {
+    this.read(0, layout.high);
+    this.isSilent = false;
+  }
+
+  // Counts a moment, and reads the slot and what is watched, which are in a row.
+  passOver(actions, turns) {
+    this.position += actions;
+    this.turn += turns;
+    this.read(layout.slot, 1 + WATCHES);
+    this.count += Math.max(turns, 1);
+  }
+
   // Makes turns, at most `most`. Returns how many, and whether a watch ended them.
   turns(most) {
+    if (this.isSilent) return this.passTurns(most);
     const { status, made, links, olds } = this.session.recorded(Math.min(most, MOST_RECORDED), MOST_RECORDED);
     const old = new Uint32Array(olds.buffer), now = this.newNumbers(made, old);
     for (let at = 0, pair = 0, link = 0; at < made.length; at += MADE) {
@@ -60,6 +81,12 @@ export class Recorder {
       this.endTurn(made.subarray(at, at + MADE), links.subarray(link, link += LINK * made[at + LINKS]), before);
     }
     return { count: made.length / MADE, isWatched: status === STATUS.WATCHED };
+  }
+
+  passTurns(most) {
+    const made = stepped(this.session, most);
+    this.passOver(made.count, made.count);
+    return made;
   }
 
   registers(n) { return REGISTERS.map((first) => this.numbers[first + n]); }
@@ -116,18 +143,20 @@ export class Recorder {
 
   // A line that was performed and is an action. It is performed again, so that the library says what it overwrote.
   addLine() {
+    if (this.isSilent) return this.passOver(1, 0);
     this.session.back(1);
     const { olds } = this.session.turns(1, 1, MOST_OF_LINE, "again");
     for (let at = 0; at < olds.length; at += 2) this.read(Number(olds[at]), 1);
     this.position++;
-    this.endMoment(LINE);
+    return this.endMoment(LINE);
   }
 
   // Notes a BACK or FORWARD, or turns that were not recorded, by all numbers, and how many actions and turns are then in effect.
   leap(kind, position, turn) {
     Object.assign(this, { position, turn });
+    if (this.isSilent) return this.passOver(0, 0);
     this.read(0, layout.high);
-    this.endMoment(kind);
+    return this.endMoment(kind);
   }
 
   // Those at places in a row, each as two words.
@@ -148,6 +177,7 @@ export class Recorder {
     const { numbers, rows } = this, was = numbers[place];
     if (was === number) return;
     numbers[place] = number;
+    if (this.isSilent) return;
     rows.places.push(place);
     rows.was.push(was);
     rows.now.push(number);

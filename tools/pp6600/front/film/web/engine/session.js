@@ -5,27 +5,19 @@ import { layout, octal, two, watchesIn } from "../machine/places.js";
 import { JUMP, SKIP } from "../machine/moments.js";
 import { LONGEST_ANSWER, MOST_TURNS, actionsIn, linesIn, moveBy, partsBetween, turnsIn, wordsIn } from "../machine/lines.js";
 import { changes } from "./conditions.js";
-import { LibrarySession } from "./library.mjs";
 import { Recorder } from "./recorder.js";
+import { MOST_AT_ONCE, ask, sessionOf, stepped } from "./stepping.js";
 
-const MOST_AT_ONCE = 1 << 18, MOST_KEPT = 9999; // turns of one call; actions over which one looks back
+const MOST_KEPT = 9999; // actions over which one looks back
 const MOST_MOMENTS = 1 << 20, FULL = 5 << 18, AFTER_LONG = 0o10000;
 const MOVES = { BACK: -1, FORWARD: 1 };
-
-const ask = (session, text) => linesIn(session.answer(`${text}\n`).text);
-
-// Makes turns by one line, at most so many. Returns how many, and whether a watch ended them.
-function stepped(session, most) {
-  const [made, ...hits] = ask(session, `STEP ${octal(Math.min(most, MOST_AT_ONCE))}`);
-  return { count: parseInt(made.split(" ")[1], 8), isWatched: hits.length > 0 };
-}
 
 // What searches the parts of a run: those in effect, and behind them those that were taken back. `control` has pause(), which lets
 // messages come, and isStopped().
 export class Searcher {
   constructor(calls, about, control, parts = []) { Object.assign(this, { calls, about, control, parts }); }
 
-  opened(more) { return new LibrarySession(this.calls, { ...this.about, ...more }); }
+  opened(more) { return sessionOf(this.calls, { ...this.about, ...more }); }
 
   // Makes turns, a batch after the other, and lets messages come between them.
   async *batches(count, make, news = null) {
@@ -96,11 +88,12 @@ export class Searcher {
 export class Session extends Searcher {
   lines = []; // those that have come since the last delivery, with their answers and moments
 
-  // `wanted` are first and last positions that a long STEP records too.
-  constructor(calls, about, control, wanted = []) {
+  // `wanted` are first and last positions that a long STEP records too. If the page has the moments, they are not recorded.
+  constructor(calls, about, control, wanted = [], isSilent = false) {
     super(calls, about, control);
     this.wanted = wanted;
     this.recorder = new Recorder(this.opened(), about);
+    if (isSilent) this.recorder.beginSilence();
   }
 
   get simulator() { return this.recorder.session; }
@@ -121,7 +114,7 @@ export class Session extends Searcher {
     const answer = turns ? await this.step(turns) : await this.performOther(text, words), left = answer.length - LONGEST_ANSWER;
     const kept = left <= 1 ? answer : [...answer.slice(0, LONGEST_ANSWER), `.. ${left} lines more`];
     const moment = this.recorder.count - 1, acts = moment >= first;
-    this.lines.push({ text, answer: kept, acts, first: acts ? first : moment, moment });
+    if (!this.recorder.isSilent) this.lines.push({ text, answer: kept, acts, first: acts ? first : moment, moment });
     return answer;
   }
 

@@ -2,9 +2,10 @@
 
 import { LONGEST_ANSWER, bytesOfText, linesIn, scriptOf } from "../machine/lines.js";
 import { STOP, message, wordsOf } from "./protocol.js";
-import { LibrarySession, openLibrary } from "./library.mjs";
+import { openLibrary } from "./library.mjs";
 import { parseCondition } from "./conditions.js";
 import { Searcher, Session } from "./session.js";
+import { sessionOf } from "./stepping.js";
 
 const AT_ONCE = 50; // milliseconds between two deliveries, and after which messages are looked for
 const MOST_SECONDS = 20, MOST_SEARCHED = 10; // seconds of a script that is opened, and of a search
@@ -34,18 +35,20 @@ const withFiles = ({ deck = "", panel = "", options = {} }) =>
   ({ ...at.about, ...options, deck: bytesOfText(deck), panel: bytesOfText(panel) });
 
 const SERVICES = {
-  // A script that the page does not know yet may take so many seconds. It says what is left of it.
-  async open({ module, about = at.about, given, wanted = [], isTrusted = false }) {
+  // A script that the page does not know yet may take so many seconds. It says what is left of it, and how many moments there are.
+  // If the page has these, they are not delivered.
+  async open({ module, about = at.about, given, wanted = [], isTrusted = false, isKnown = false }) {
     if (module) at.calls = await openLibrary(module);
     at.about = about;
-    const session = new Session(at.calls, withFiles(given), control, wanted), lines = linesIn(given.script);
+    const session = new Session(at.calls, withFiles(given), control, wanted, isKnown), lines = linesIn(given.script);
     if (at.session) at.session.close();
     at.session = session;
     if (!isTrusted) at.until = performance.now() + 1000 * MOST_SECONDS;
     let done = 0;
     for (; done < lines.length && !control.isStopped() && !session.isFull; done++) await session.perform(lines[done]);
-    const left = lines.length - done;
-    return left || control.isStopped() ? { said: `stopped: ${left} lines of the script are left`, isWrong: true } : {};
+    const left = lines.length - done, { count } = session.recorder;
+    if (isKnown) session.recorder.endSilence();
+    return left || control.isStopped() ? { said: `stopped: ${left} lines of the script are left`, isWrong: true } : { count };
   },
 
   // A refused line, a watch or a hand ends them.
@@ -62,11 +65,11 @@ const SERVICES = {
 
   // In a session of its own.
   async look({ given, parts, text }) {
-    const session = new LibrarySession(at.calls, withFiles(given));
+    const session = sessionOf(at.calls, withFiles(given));
     session.answer(scriptOf(parts));
-    const answer = linesIn(session.answer(text).text);
+    const answers = linesIn(text).map((line) => linesIn(session.answer(`${line}\n`).text));
     session.close();
-    return { answer, acts: answer.some((line) => ACTED.test(line)) };
+    return { answers, acts: answers.flat().some((line) => ACTED.test(line)) };
   },
 
   // The first time after so many actions at which a condition comes to hold in some parts, or the last time before.

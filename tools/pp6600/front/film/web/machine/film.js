@@ -1,8 +1,8 @@
 // ---- a film: the numbers of the machine are one row, and each moment has the places that it changed with their numbers before and
 // after. Going to and fro computes no turn. Moments come from the worker, at the end.
 
-import { CELLS, CHANNELS, CLOCK, KINDS, PROCESSORS, isCentral, isFrame, layout, nameOf, octal, placeAt, placeIn, placeOf, range,
-  setLayout, watchesIn } from "./places.js";
+import { CELLS, CHANNELS, CLOCK, KINDS, PROCESSORS, isCentral, isFrame, isUpper, layout, nameOf, octal, placeAt, placeIn,
+  placeOf, range, setLayout, watchesIn, wordOfUpper } from "./places.js";
 import { BLOCK, BUSY, IDLE, JUMP, LINE, ROWS, SKIP, WAITING, firstNot } from "./moments.js";
 import { growSources, sourcesOf } from "./sources.js";
 import { Turn } from "./turns.js";
@@ -21,18 +21,19 @@ export class Film {
   jumps = new Map(); // where BACK and FORWARD lead
   breaks = []; // the moments of these, and of turns that were not recorded
   settings = []; // the moments of lines that set a number of a processor
+  hits = new Set(); // the last moments of lines that a watch has ended
   phases = range(PROCESSORS).map(() => []); // of each processor the moments that changed its phase
   processorLanes = range(PROCESSORS).map(() => new Lane());
   channelLanes = range(CHANNELS).map(() => new Lane());
-  used = new Map(); // of the parts of the machine that not every run uses the place that this one changed first
+  used = { central: new Set(), frame: new Set() }; // the words that have not always been zero
+  rows = Object.fromEntries(Object.entries(ROWS).map(([name, Kind]) => [name, new Kind(isStarts(name) ? 1 : 0)])); // fields too
   highestTurn = 0;
   firstTurn = -1;
 
   // `about` has the options of the machine, its instructions, the labels of processors, and what is known of their sources.
   constructor(about) {
-    for (const [name, Kind] of Object.entries(ROWS)) this[name] = new Kind(isStarts(name) ? 1 : 0);
     this.numbers = new Int32Array(setLayout(about.central));
-    Object.assign(this, { about, labels: about.labels || {}, sources: sourcesOf(about) });
+    Object.assign(this, this.rows, { about, labels: about.labels || {}, sources: sourcesOf(about) });
   }
 
   get last() { return this.count - 1; }
@@ -43,9 +44,11 @@ export class Film {
   grow({ rows, lines }) {
     const first = this.count;
     this.lines.push(...lines);
+    for (const { answer, moment } of lines) if (answer.some((line) => line.startsWith("HIT "))) this.hits.add(moment);
     if (!rows.kinds.length) return;
     if (first) this.goTo(this.last);
-    for (const [name, more] of Object.entries(rows)) this.append(name, more);
+    for (const [name, more] of Object.entries(rows)) this.rows[name] = appended(this.rows[name], more, isStarts(name));
+    Object.assign(this, this.rows);
     this.count += rows.kinds.length;
     for (let moment = first; moment < this.count; moment++) this.note(moment, this.kinds[moment]);
     if (this.firstTurn < 0) this.firstTurn = this.kinds.findIndex((kind) => kind < LINE);
@@ -53,11 +56,13 @@ export class Film {
     growSources(this, first);
   }
 
-  // The worker counts starts from the beginning of its delivery.
-  append(name, more) {
-    const before = this[name].length, base = isStarts(name) ? this[name][before - 1] : 0;
-    this[name] = longer(this[name], before + more.length);
-    this[name].set(base ? more.map((one) => one + base) : more, before);
+  // The delivery of so many moments and lines from the beginning on, for another film.
+  beginning(count, lines) {
+    const ends = { places: this.starts[count], links: this.linkStarts[count] };
+    const endOf = (name) => ends[name] ?? ends[{ was: "places", now: "places" }[name]] ?? count;
+    const rowOf = (name) => (isStarts(name) ? this.rows[name].slice(1, count + 1) : this.rows[name].slice(0, endOf(name)));
+    const rows = Object.keys(ROWS).map((name) => [name, rowOf(name)]);
+    return { rows: Object.fromEntries(rows), lines: this.lines.slice(0, lines) };
   }
 
   // Notes what a moment is.
@@ -77,8 +82,9 @@ export class Film {
     const c = place - layout.states, n = place - layout.phase;
     if (c >= 0 && c < CHANNELS) this.channelLanes[c].goOn(moment, now);
     if (n < PROCESSORS && this.kinds[moment] !== JUMP) this.phases[n].push(moment);
-    const part = isFrame(place) ? "frame" : isCentral(place) ? "central" : "";
-    if (moment && part && !this.used.has(part)) this.used.set(part, place);
+    const at = isUpper(place) ? wordOfUpper(place) : place;
+    if (now && isFrame(at)) this.used.frame.add(at - layout.frame);
+    if (now && isCentral(at)) this.used.central.add(at - layout.central);
   }
 
   // The processor whose cell or register a line has set, or -1.
@@ -131,14 +137,15 @@ export class Film {
 
   // ---- what is in effect at a moment
 
-  // The parts that lead to what is in effect at a moment, without what was taken back: lines, and counts of turns.
+  // The parts that lead to what is in effect at a moment, without what was taken back: lines, and counts of turns. Turns that a
+  // watch has ended are a part of their own: it ends them again.
   partsInEffect(moment = this.at) {
-    const { kinds, position } = this, parts = [];
+    const { kinds, position, hits } = this, parts = [];
     for (let at = moment, left = position[moment]; left > 0; at--) {
       const turns = left - position[at - 1];
       if (kinds[at] === JUMP || turns <= 0) continue;
       if (kinds[at] === LINE) parts.push(this.lineOf(at).text);
-      else parts.push(turns + (typeof parts.at(-1) === "number" ? parts.pop() : 0));
+      else parts.push(turns + (typeof parts.at(-1) === "number" && !hits.has(at) ? parts.pop() : 0));
       left -= turns;
     }
     return parts.reverse();
@@ -281,6 +288,13 @@ class Lane {
 
 // A processor is quiet if it only passes or only waits.
 export const isQuiet = ({ seen }) => !seen.has(BUSY) && !seen.has(BLOCK) && !(seen.has(WAITING) && seen.has(IDLE));
+
+// A row with more behind it. The worker counts starts from the beginning of its delivery.
+function appended(row, more, areStarts) {
+  const base = areStarts ? row.at(-1) : 0, whole = longer(row, row.length + more.length);
+  whole.set(base ? more.map((one) => one + base) : more, row.length);
+  return whole;
+}
 
 // Makes a row longer. Its room doubles, so that a film may grow a little at a time.
 function longer(row, size) {

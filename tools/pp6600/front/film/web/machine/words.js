@@ -26,6 +26,9 @@ export function instructionText({ about: { instructions } }, address, [word, ...
   return [name, two(d), ...more.map(four), ...(form === FORM.TARGET ? [`to ${four(target(address, d))}`] : [])].join(" ");
 }
 
+// The operation of a line of a source, which is behind the label in column 1 or 2.
+export const operationIn = (line) => (/^ ?[^*\s]?\S*\s+(\S+)/.exec(line) || [])[1];
+
 // What an instruction or a directive does, by its name; "" of another name.
 export function meaningOf({ instructions, meanings }, name) {
   const code = instructions.findIndex((one) => one.name === name), x = code < 0 ? "" : meanings[`${code >> 3}x`];

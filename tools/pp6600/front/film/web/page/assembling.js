@@ -71,16 +71,27 @@ export class Assembling {
       listing: this.written(text, WRITTEN.LISTING).lines.join("\n") };
   }
 
+  // The words of one line of a source at an address, with the numbers that its names have. An error says what is wrong with it.
+  wordsAt(address, line, names = {}) {
+    const numberOf = (word, at) => (at && Object.hasOwn(names, word) ? octal(names[word]) : word); // the operation is no name
+    const inNumbers = line.replace(/[^\s,+*/-]+/g, numberOf);
+    const lines = ["BASE OCTAL", `ORG ${octal(address)}`, inNumbers, "END"].map((one) => one.padStart(one.length + 10));
+    const { messages, rows } = this.assembled(lines.join("\n"));
+    const wrong = messages.find(({ isFault }) => isFault)?.text ?? (rows.length ? null : `${line} makes no words`);
+    if (wrong) throw new Error(wrong);
+    return rows.flatMap(({ words }) => words);
+  }
+
   loadLines(text, n) { return setLines(this.written(text, WRITTEN.UNITS).lines, n); }
-  labelsOf(text, rows) { return labelsOf(linesOf(text), rows, this.written(text, WRITTEN.NAMES).lines); }
+  labelsOf(text, rows) { return tablesOf(linesOf(text), rows, this.written(text, WRITTEN.NAMES).lines); }
 }
 
 // A source as a film knows it, from its text and its rows.
 export const sourceOf = (name, text, rows) => ({ name, lines: linesOf(text).map(untabbed),
   rows: rows.map(({ number, location, origin, words }) => [number, location, origin, ...words]) });
 
-// The names of addresses, the addresses of labels, the texts of lines by their addresses, and the jumps back of subroutines.
-function labelsOf(lines, rows, names) {
+// The names of addresses, the numbers of names, the texts of lines by their addresses, and the jumps back of subroutines.
+function tablesOf(lines, rows, names) {
   const found = (text) => /^(?!Z\.[0-7]{4})(\S+)( =)? ([0-7]+)$/.exec(text); // not those of LOCAL, which are a macro's own
   const all = names.map(found).filter(Boolean)
     .map(([, name, equals, digits]) => ({ name, isLabel: !equals, number: parseInt(digits, 8) }));
@@ -96,7 +107,7 @@ function labelsOf(lines, rows, names) {
   const others = byNumber(all.filter(({ isLabel }) => !isLabel)), filled = new Set(words.map(({ location, at }) => location + at));
   return {
     names: namesOf(byNumber(labels), others, filled),
-    addresses: Object.fromEntries([...byNumber(labels)].map(([number, name]) => [name, number])),
+    addresses: Object.fromEntries(all.map(({ name, number }) => [name, number])),
     texts: Object.fromEntries([...begun(words, "origin"), ...begun([...words].reverse(), "location")]),
     entries: [...new Set([...exits, ...jumps])],
   };

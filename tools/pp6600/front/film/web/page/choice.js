@@ -1,11 +1,10 @@
 // ---- what is chosen and what is seen of it: a number, the windows of memory and of the run. Each function returns a change of the
 // state
 
-import { CELLS, KINDS, layout, placeWith } from "../machine/places.js";
+import { CELLS, KINDS, placeWith } from "../machine/places.js";
 import { isQuiet } from "../machine/film.js";
 import { headsOf, topWith } from "../machine/program.js";
 
-const CENTRAL_ROWS = 8;
 export const rowsOf = ({ room }) => room.memoryRows || 16;
 
 // How memory is shown: as it was chosen, else as numbers, but for a class that sees no source as instructions.
@@ -22,10 +21,11 @@ function followed({ film }, before) {
   return latest > 0 ? n : film.count > 1 ? before : 0;
 }
 
-// The window moved, if it does not have an address, so that a third of its rows come before it.
+// The window moved, if it does not have an address: to the first cells, if these have it, else so that a third of its rows come
+// before it.
 function windowWith(state, n, address) {
   const { memory } = state, rows = rowsOf(state), isIn = n === memory.n && (address - memory.first + CELLS) % CELLS < 8 * rows;
-  return isIn ? memory.first : (address - 8 * Math.min(4, Math.floor(rows / 3)) + CELLS) & 0o7770;
+  return isIn ? memory.first : address < 8 * rows ? 0 : (address - 8 * Math.min(4, Math.floor(rows / 3)) + CELLS) & 0o7770;
 }
 
 // The address that memory shows: the cell that changed, else where the processor is; or the chosen cell.
@@ -40,7 +40,7 @@ function addressSeen(state, n) {
 // The windows of memory and of the run, moved as little as needed to have what is to be seen.
 export function viewAt(state) {
   const { film, memory } = state, n = memory.follows ? followed(state, memory.n) : memory.n, address = addressSeen(state, n);
-  if (memory.isHeld) return { span: spanAt(state) };
+  if (memory.isHeld || memory.heldAt === film.at) return { span: spanAt(state) };
   const isNumbers = formOf(state) === "numbers", heads = isNumbers ? [] : headsOf(film, n);
   const next = { ...memory, n, first: windowWith(state, n, address) };
   if (!isNumbers) next.top = topWith(film, n, memory.top, memory.follows ? heads[1] ?? address : address, rowsOf(state), heads);
@@ -50,7 +50,8 @@ export function viewAt(state) {
 // What is chosen, or how memory is shown, with the windows that go with it.
 function seen(state, change, memory) {
   const sourceOf = state.film.sources.has(memory.n) ? memory.n : state.sourceOf;
-  return { ...change, sourceOf, ...viewAt({ ...state, ...change, memory: { ...state.memory, isHeld: false, ...memory } }) };
+  const next = { ...state.memory, isHeld: false, heldAt: null, ...memory };
+  return { ...change, sourceOf, ...viewAt({ ...state, ...change, memory: next }) };
 }
 
 // The part of the run that is shown. The whole run has room at its end, so that its scale stays a while.
@@ -69,12 +70,12 @@ export function choose(state, place) {
   const changes = place ? state.film.momentsThatChanged(place.places) : [];
   const chosen = { chosen: place, changes, origin: null, setting: null, wrong: {} }, [first] = place ? place.numbers : [];
   const isCell = place && place.kind === "M";
-  if (isCell) return seen(state, chosen, { n: first, follows: false, first: windowWith(state, ...place.numbers) });
-  if (!place || place.kind !== "C") return chosen;
-  const isIn = first >= state.central.first && first < state.central.first + CENTRAL_ROWS;
-  return { ...chosen, central: isIn ? state.central : { first: Math.max(0, Math.min(first, layout.size - CENTRAL_ROWS)) } };
+  return isCell ? seen(state, chosen, { n: first, follows: false, first: windowWith(state, ...place.numbers) }) : chosen;
 }
 
+// The first cells, as long as the film stays at its moment.
+export const firstCells = ({ film, memory }) =>
+  ({ memory: { ...memory, n: 0, follows: true, isHeld: false, heldAt: film.at, first: 0, top: 0 } });
 export const follow = (state, change = {}) => seen(state, change, { follows: true });
 export const chooseNone = (state) => follow(state, { chosen: null, changes: [], origin: null, setting: null });
 export const chooseProcessor = (state, n) => seen({ ...state, chosen: null }, {}, { n, follows: false });

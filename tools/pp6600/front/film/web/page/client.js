@@ -7,10 +7,10 @@ const SILENT = "the simulator does not answer: wait, or open this page in anothe
 
 export class Client {
   // `hears` has grown(moments) of what came with a reply, moments(words) and working() of news, busy(is), fault(text), and the
-  // state, which says whether a pointer is down: as long as it is, the film stays as it is. `engine` is the worker's script.
+  // state, which says whether a pointer is down: as long as it is, the film stays as it is. `engine` has the parts of the worker's script.
   constructor(hears, engine) {
     Object.assign(this, { hears, waiting: new Map(), latest: 0, chain: Promise.resolve() });
-    this.worker = new Worker(URL.createObjectURL(new Blob([engine], { type: "text/javascript" })));
+    this.worker = new Worker(URL.createObjectURL(new Blob(engine, { type: "text/javascript" })));
     this.worker.onmessage = ({ data }) => this.received(data);
     this.worker.onerror = ({ message }) => this.failed(`the simulator has stopped: ${message || "this browser does not start it"}`);
   }

@@ -2,11 +2,14 @@
 // unpacks
 
 import { CELLS, octal, octalIn } from "../machine/places.js";
-import { bytesOfText } from "../machine/lines.js";
+import { bytesOfText, linesIn, ofLines, untabbed } from "../machine/lines.js";
+import { meaningOf, operationIn } from "../machine/words.js";
 import { keptForFile } from "./kept.js";
 import { Part } from "./store.js";
 
 const KINDS = ["script", "deck", "panel"];
+const COMMAND = /^\s*(SET|STEP|BACK|FORWARD|DUMP|WATCH|UNWATCH|DEADSTART|UNTIL)\b/i;
+const LISTED = /^[ A-Z]{0,3} *[0-7]{4}[Bb]? +(?:[0-7]{4}[Bb]? +){1,5}(?=\S)/; // perhaps with an error flag
 const LONGEST_LINK = 8000, MOST_ODD = 0.02; // letters; the part of the bytes of a text that may be no text
 const textOfBytes = (bytes) => new TextDecoder("latin1").decode(bytes);
 
@@ -34,14 +37,24 @@ function saveBytes(bytes, download) {
 export const octalRows = (text) => (text || "").split("\n").map((line) => line.trim()).filter((line) => line && line[0] !== "*")
   .map((line) => line.split(/\s+/).map((word) => octalIn(word) ?? NaN));
 
-// What a dropped file is, by its text: rows of octal numbers are a panel if they are twelve, else a deck; and lines of text are a
-// script.
-function kindOfFile(text) {
-  const rows = octalRows(text), words = rows.flat();
+// What a dropped file is, by its text: rows of octal numbers are a panel if they are twelve, else a deck; lines that begin with an
+// address and words are a listing, and those with more operations than commands a source; else it is a script.
+function kindOfFile(text, about) {
+  const rows = octalRows(text), words = rows.flat(), lines = linesIn(text);
   const odd = [...text].filter((letter) => /[^\t\n\r\f -~\xa0-\xff]/.test(letter)).length;
   if (odd > MOST_ODD * text.length) return null;
-  if (!rows.length || words.some(Number.isNaN)) return "script";
-  return words.length === 12 ? "panel" : "deck";
+  if (rows.length && !words.some(Number.isNaN)) return words.length === 12 ? "panel" : "deck";
+  const count = (holds) => lines.filter(holds).length, commands = count((line) => COMMAND.test(line));
+  if (count((line) => LISTED.test(line)) > commands) return "listing";
+  return count((line) => meaningOf(about, operationIn(line))) > commands ? "source" : "script";
+}
+
+// The source that a listing has, from the first column on in which one of its lines begins.
+function sourceListed(text) {
+  const lines = linesIn(text).map(untabbed), heads = lines.map((line) => LISTED.exec(line)?.[0].length);
+  const stars = lines.filter((line) => /^\s*\*/.test(line)).map((line) => line.indexOf("*"));
+  const column = Math.min(...heads.filter(Boolean), ...stars);
+  return ofLines(lines.map((line) => line.slice(column).trimEnd()));
 }
 
 // The twelve words of a panel, or null.
@@ -57,7 +70,8 @@ export const filesOf = ({ files }) =>
 // ---- links
 
 // What a moment and the chosen place are in an address.
-export const shownOf = ({ film, chosen }) => `moment=${octal(film.at)}${chosen ? `&place=${chosen.name.replace(/ /g, "+")}` : ""}`;
+export const shownOf = ({ film, chosen }, at = film.at) =>
+  `moment=${octal(at)}${chosen ? `&place=${chosen.name.replace(/ /g, "+")}` : ""}`;
 
 // A link to files of a run, and to what is shown: its letters, or null if these are too many.
 export async function linkTo(files, shown) {
@@ -73,7 +87,8 @@ export async function filesOfAddress() {
   const words = new URLSearchParams(location.hash.slice(1)), files = {};
   for (const kind of KINDS.filter((one) => words.has(one))) {
     try {
-      files[kind] = textOfBytes(await firstScript.inflated(words.get(kind).replace(/-/g, "+").replace(/_/g, "/"), "deflate-raw"));
+      const bytes = firstScript.bytesOf(words.get(kind).replace(/-/g, "+").replace(/_/g, "/"));
+      files[kind] = textOfBytes(await firstScript.inflated(bytes, "deflate-raw"));
     } catch {
       throw new Error(`the link is cut short: its ${kind} can't be read`);
     }
@@ -112,9 +127,10 @@ export class Sharing extends Part {
   }
 
   async copyLink() {
-    const own = filesOf(this.session.about), others = Object.entries(this.filesNow()).filter(([kind, text]) => kind === "script"
-      || text !== own[kind]);
-    const link = await linkTo(Object.fromEntries(others), shownOf(this.state));
+    const { film, exercise } = this.state, own = this.exercises.named(exercise)?.files ?? filesOf(this.session.about);
+    const others = Object.entries(this.filesNow()).filter(([kind, text]) => kind === "script" || text !== own[kind]);
+    const at = exercise && film.at < film.last ? film.position[film.at] : film.at; // its script ends there
+    const link = await linkTo(Object.fromEntries(others), shownOf(this.state, at));
     if (!link) return this.say("the session is too long for a link: save this file, and pass that on", true);
     try {
       await navigator.clipboard.writeText(link);
@@ -125,18 +141,20 @@ export class Sharing extends Part {
     }
   }
 
-  // Files that are dropped take the place of those of the run, in a session beside this. On the editor they are texts for the
-  // assembler.
+  // Files that are dropped take the place of those of the run, in a session beside this; a source or a listing comes into the
+  // editor. On the editor they are texts for the assembler.
   async takeFiles(files, isForEditor) {
-    const given = { ...this.session.now(), script: this.session.scriptToSave() }, names = files.map(({ name }) => name);
+    const given = {}, names = [], { exercises, session } = this, { editor } = exercises;
     for (const file of files) {
-      const text = textOfBytes(new Uint8Array(await file.arrayBuffer())), kind = kindOfFile(text);
-      if (!kind) return this.say(`${file.name} is no script, deck or panel: these are texts`, true);
-      if (isForEditor) this.exercises.editor.setText(file.name, text);
+      const text = textOfBytes(new Uint8Array(await file.arrayBuffer())), kind = kindOfFile(text, session.about);
+      if (!kind) return this.say(`${file.name} is no script, deck, panel or source: these are texts`, true);
+      if (isForEditor) editor.setText(file.name, text);
+      else if (kind === "source" || kind === "listing") editor.take(file.name, kind === "source" ? text : sourceListed(text));
       else given[kind] = text;
+      if (kind in given) names.push(file.name);
     }
-    if (isForEditor || !files.length) return null;
-    const isDone = await this.exercises.show(names.join(" "), given);
+    if (!names.length) return null;
+    const isDone = await exercises.show(names.join(" "), given);
     if (isDone) this.say(`begun anew with ${names.join(" and ")}; the session before is among the branches`);
     return isDone;
   }

@@ -2,16 +2,17 @@
 
 import { CELLS, placeWith } from "../machine/places.js";
 import { UNTIL, linesIn } from "../machine/lines.js";
-import { momentAt } from "../views/timeline.js";
-import { choose, chooseNone, chooseProcessor, scrolled, showAs, toggled, viewAt } from "./choice.js";
+import { lineOfNext } from "../machine/sources.js";
+import { choose, chooseNone, chooseProcessor, scrolled, showAs, sourceSeen, toggled, viewAt } from "./choice.js";
 import { keep } from "./kept.js";
 import { Moves } from "./moves.js";
+import { momentAt } from "./room.js";
 import { canSet, settingLine } from "./setting.js";
 import { Part } from "./store.js";
 
-const GROUPS = ".tools, .looks, .files, .tabs, .list"; // in each of them one button is a Tab stop, and arrows lead to the others
+// In each of them one button is a Tab stop, and arrows lead to the others.
+const GROUPS = ".tools, .looks, .files, .tabs, .list, .tutorial ol";
 const ARROWS = { ArrowLeft: -1, ArrowRight: 1, ArrowUp: -1, ArrowDown: 1 };
-const EVENTS = ["click", "input", "change", "submit", "pointerdown", "pointermove", "paste", "dblclick", "focusout", "wheel"];
 const byId = (id) => document.getElementById(id);
 
 export class Hands extends Part {
@@ -22,7 +23,7 @@ export class Hands extends Part {
   constructor(store, parts, root) {
     super(store, parts);
     this.moves = new Moves(store, { session: this.session, hands: this }); // which says what has the focus
-    for (const kind of EVENTS) root.addEventListener(kind, (event) => this[kind](event), { passive: kind === "wheel" });
+    for (const [kind, act] of Object.entries(this.events)) root.addEventListener(kind, act, { passive: kind === "wheel" });
     for (const kind of ["pointerdown", "pointermove", "pointerup", "pointercancel"]) {
       window.addEventListener(kind, ({ buttons }) => { this.state.isDown = buttons > 0; });
     }
@@ -30,6 +31,15 @@ export class Hands extends Part {
     document.addEventListener("dragover", (event) => event.preventDefault());
     document.addEventListener("drop", (event) => this.drop(event));
   }
+
+  // What each kind of event does.
+  events = {
+    click: (event) => this.click(event), input: (event) => this.input(event), change: (event) => this.change(event),
+    submit: (event) => this.submit(event), paste: (event) => this.paste(event), dblclick: (event) => this.dblclick(event),
+    pointerdown: (event) => this.pointerdown(event), pointermove: (event) => this.pointermove(event),
+    focusout: (event) => this.focusout(event), wheel: (event) => this.wheel(event),
+  };
+  forms = { console: () => this.console(), set: () => this.set() };
 
   // ---- buttons and clicks
 
@@ -40,32 +50,30 @@ export class Hands extends Part {
   }
 
   // What buttons do that have no key.
-  get buttons() {
-    const { session, state, editor, sharing, exercises } = this;
-    return {
-      check: () => exercises.check(), "begin-again": () => exercises.again(), load: () => editor.load(),
-      "load-and-run": () => editor.loadAndRun(), edit: () => this.openEditor(), save: () => sharing.savePage(),
-      "save-script": () => sharing.saveScript(), "copy-link": () => sharing.copyLink(), stop: () => session.stop(),
-      restore: () => session.restore(state.offer.record), undo: () => session.leaveBranch(),
-      "time-before": () => this.moves.toTimeOf(state.line, -1), "next-time": () => this.moves.toTimeOf(state.line, 1),
-      "all-lanes": () => this.update({ allLanes: !state.allLanes }),
-    };
-  }
+  buttons = {
+    check: () => this.exercises.check(), "begin-again": () => this.exercises.again(), load: () => this.editor.load(),
+    "load-and-run": () => this.editor.loadAndRun(), edit: () => this.editor.reveal(this.state.memory.n),
+    save: () => this.sharing.savePage(), "save-script": () => this.sharing.saveScript(), "copy-link": () => this.sharing.copyLink(),
+    stop: () => this.session.stop(), restore: () => this.session.restore(this.state.offer.record),
+    undo: () => this.session.leaveBranch(), "time-before": () => this.moves.toTimeOf(this.state.line, -1),
+    "next-time": () => this.moves.toTimeOf(this.state.line, 1), "all-lanes": () => this.update({ allLanes: !this.state.allLanes }),
+  };
 
   // What is under a click, by the names of its attributes.
-  get clicks() {
-    const { session, moves, state } = this, see = (place) => this.update(choose(state, place));
-    return {
-      action: (action) => this.do(action), fold: (name) => this.fold(name), file: (at) => this.sharing.saveFile(Number(at)),
-      point: (one) => this.update({ breakpoints: toggled(state.breakpoints, one) }),
-      cell: (at) => see(placeWith("M", Math.floor(at / CELLS), at % CELLS)), place: (name) => see(state.film.placeNamed(name)),
-      "line-at": (at) => this.toLine(...at.split(" ").map(Number)), moment: (moment) => moves.moveTo(Number(moment)),
-      processor: (n) => this.update(chooseProcessor(state, Number(n))), branch: (id) => session.goToBranch(Number(id)),
-      look: (look) => this.look(look), tab: (tab) => this.update({ tab }), exercise: (name) => this.exercises.goTo(name),
-      line: (number, { shiftKey }) => moves.toTimeOf(Number(number), shiftKey ? -1 : 1),
-      meaning: (meaning) => this.update({ meaning }), text: (name) => this.editor.setText(name),
-    };
-  }
+  clicks = {
+    action: (action) => this.do(action), fold: (name) => this.fold(name), file: (at) => this.sharing.saveFile(Number(at)),
+    point: (one) => this.update({ breakpoints: toggled(this.state.breakpoints, one) }),
+    cell: (at) => this.see(placeWith("M", Math.floor(at / CELLS), at % CELLS)),
+    place: (name) => this.see(this.film.placeNamed(name)),
+    "line-at": (at) => this.editor.toLine(...at.split(" ").map(Number)), moment: (moment) => this.moves.moveTo(Number(moment)),
+    processor: (n) => this.update(chooseProcessor(this.state, Number(n))), branch: (id) => this.session.goToBranch(Number(id)),
+    look: (look) => this.look(look), tab: (tab) => this.update({ tab }), exercise: (name) => this.exercises.goTo(name),
+    tutorial: (at) => this.exercises.seeTutorial(Number(at)), perform: (at) => this.exercises.perform(...at.split(" ").map(Number)),
+    line: (number, { shiftKey }) => this.moves.toTimeOf(Number(number), shiftKey ? -1 : 1),
+    meaning: (meaning) => this.update({ meaning }), text: (name) => this.editor.setText(name),
+  };
+
+  see(place) { this.update(choose(this.state, place)); }
 
   click(event) {
     for (const [name, act] of Object.entries(this.clicks)) {
@@ -88,22 +96,6 @@ export class Hands extends Part {
     this.update({ look, lookBefore: this.state.look });
     this.update(viewAt(this.state));
     return look === "class" && !exercise && exercises.length ? this.exercises.goTo(exercises[0].name) : null;
-  }
-
-  // Opens the source that is seen in the editor.
-  openEditor() {
-    const { memory, folded, look } = this.state;
-    this.update({ folded: new Set([...folded].filter((name) => name !== `${look} editor`)), tab: "editor" });
-    this.editor.open(memory.n);
-    return setTimeout(() => byId("source-text")?.focus());
-  }
-
-  // In the source text, to where a message is.
-  toLine(line, column) {
-    const field = byId("source-text");
-    const at = field.value.split("\n").slice(0, line - 1).join("\n").length + Math.min(1, line - 1) + column - 1;
-    field.focus();
-    field.setSelectionRange(at, at + 1);
   }
 
   drop(event) {
@@ -132,7 +124,7 @@ export class Hands extends Part {
 
   submit(event) {
     event.preventDefault();
-    return this[event.target.dataset.form]();
+    return this.forms[event.target.dataset.form]();
   }
 
   async console() {
@@ -160,17 +152,15 @@ export class Hands extends Part {
 
   change({ target }) { return this.fields[target.id]?.(target.value.trim(), target); }
 
-  get fields() {
-    const { state, moves } = this;
-    return {
-      "memory-of": (n) => this.update(chooseProcessor(state, Number(n))), "memory-as": (as) => this.update(showAs(state, as)),
-      "edit-for": (n) => this.editor.open(Number(n)), rate: (rate) => moves.setRate(Number(rate)),
-      zoom: (zoom) => this.update({ zoom: Number(zoom), ...viewAt({ ...state, zoom: Number(zoom) }) }),
-      letters: (_, { checked }) => this.update({ letters: checked }),
-      place: (text) => this.placeNamed(text) && byId("place").blur(),
-      turn: async (text, field) => { if (!(await moves.toTypedTurn(text))) field.blur(); },
-    };
-  }
+  fields = {
+    "memory-of": (n) => this.update(chooseProcessor(this.state, Number(n))),
+    "memory-as": (as) => this.update(showAs(this.state, as)),
+    "edit-for": (n) => this.editor.open(Number(n)), rate: (rate) => this.moves.setRate(Number(rate)),
+    zoom: (zoom) => this.update({ zoom: Number(zoom), ...viewAt({ ...this.state, zoom: Number(zoom) }) }),
+    letters: (_, { checked }) => this.update({ letters: checked }),
+    place: (text) => this.placeNamed(text) && byId("place").blur(),
+    turn: async (text, field) => { if (!(await this.moves.toTypedTurn(text))) field.blur(); },
+  };
 
   // Chooses the place with a name, or none. Returns whether it could.
   placeNamed(text) {
@@ -182,7 +172,7 @@ export class Hands extends Part {
 
   input({ target: { id, value } }) {
     if (id === "source-text") this.editor.edit(value);
-    if (id === "panel-text") this.update({ panelText: value });
+    if (id === "panel-text") this.exercises.typePanel(value);
   }
 
   select(id) { byId(id)?.select(); }
@@ -227,7 +217,8 @@ export class Hands extends Part {
   async set() {
     const { film, chosen } = this.state;
     try {
-      if (await this.session.act([settingLine(film, chosen, byId("set-to").value.trim())])) this.update({ setting: null });
+      const line = settingLine(this.editor.assembling, film, chosen, byId("set-to").value.trim());
+      if (await this.session.act([line])) this.update({ setting: null });
     } catch (error) {
       this.say(error.message, true);
     }
@@ -242,6 +233,8 @@ export class Hands extends Part {
     if (isControl || event.altKey) return null;
     if (target.matches("input:not([type=checkbox]), textarea, select")) return this.keyInField(event);
     if (target.closest(GROUPS) && ARROWS[key]) return this.rove(event);
+    if (target.id === "lines" && /^(ArrowUp|ArrowDown|Enter)$/.test(key)) return this.keyInSource(event);
+    if (target.id === "ring" && ARROWS[key]) return this.keyInBarrel(event);
     if (target.matches("button, summary, input") && /^( |Enter)$/.test(key)) return null;
     if (target.closest("[data-box]") && /^(Arrow(Up|Down)|Page(Up|Down))$/.test(key) && target.id !== "cells") return null;
     return this.keyOfTable(event);
@@ -268,9 +261,30 @@ export class Hands extends Part {
   keyInField(event) {
     const { key, target } = event;
     if (target.id === "typed" && /^Arrow(Up|Down)$/.test(key)) return this.recall(event);
+    if (target.id === "source-text" && this.editor.key(event)) return null;
     if (key === "Enter" && target.closest(".goto")) return this.change(event);
     if (key === "Escape") target.blur();
     return null;
+  }
+
+  // In the source arrows choose a line, and its cell; Enter goes to a time at which it was performed.
+  keyInSource(event) {
+    const source = sourceSeen(this.state), { line } = this.state, { key, shiftKey } = event;
+    event.preventDefault();
+    if (key === "Enter") return line ? this.moves.toTimeOf(line, shiftKey ? -1 : 1) : null;
+    const next = Math.max(1, Math.min(source.lines.length, (line ?? lineOfNext(this.film, source).number) + ARROWS[key]));
+    const { address } = source.lines[next - 1];
+    this.update({ line: next });
+    return address === undefined ? null : this.update(choose(this.state, placeWith("M", source.n, address)));
+  }
+
+  // In the barrel arrows choose the processor beside, or the channel above or below.
+  keyInBarrel(event) {
+    const { key, target } = event, names = [...target.querySelectorAll(".pill")].map((one) => one.dataset.place);
+    event.preventDefault();
+    if (/Left|Right/.test(key)) return this.do(key === "ArrowLeft" ? "processor-before" : "next-processor");
+    const at = names.indexOf(this.state.chosen?.name) + ARROWS[key];
+    return names.length ? this.update(choose(this.state, this.film.placeNamed(names[(at + names.length) % names.length]))) : null;
   }
 
   // In a toolbar arrows lead from button to button; Tab leaves it.

@@ -1,11 +1,12 @@
-// ---- what this browser keeps of a film, by its checksum: sessions, drafts of sources, texts for the assembler, what is solved,
-// folded panes and the look
+// ---- what this browser keeps of a film, by its checksum: sessions, drafts of sources and panels, texts for the assembler, answers
+// that were checked, the exercise in work, folded panes and the look
 
 const PREFIX = `pp6600 ${document.documentElement.dataset.sum || ""} `, MOST_SESSIONS = 20; // of the run, or of an exercise
 const TAB = Math.random().toString(36).slice(2, 10); // among those that have the film open
-const IN_FILE = /^(draft|texts|solved)\b/; // what a saved page has too
+const IN_FILE = /^(draft|texts|answer)\b/; // what a saved page has too
 const lockOf = (tab) => `${PREFIX}tab ${tab}`;
 const own = new Map(), ownSessions = new Map(); // what this tab has kept: it is there also if the browser keeps nothing
+const inFile = { kept: {}, sessions: {} }; // what a saved page had when it was opened
 
 // Returns what an action with the browser's storage returns; null if it keeps nothing.
 function withStorage(action) {
@@ -23,7 +24,8 @@ function stored(begin) {
   return withStorage(read) || [];
 }
 
-export const kept = (name) => own.get(name) ?? withStorage((storage) => JSON.parse(storage.getItem(PREFIX + name)));
+export const kept = (name) =>
+  own.get(name) ?? withStorage((storage) => JSON.parse(storage.getItem(PREFIX + name))) ?? inFile.kept[name];
 
 // Keeps something. Returns whether the browser had room.
 export function keep(name, value) {
@@ -31,16 +33,17 @@ export function keep(name, value) {
   return withStorage((storage) => storage.setItem(PREFIX + name, JSON.stringify(value))) === undefined;
 }
 
-// What a saved page has of this; and the same from a page that was saved.
+// What a saved page has of this: of each exercise the latest session.
 export function keptForFile() {
-  const drafts = stored("draft ").map(([name, text]) => [`draft ${name}`, text]), entries = [...drafts, ...own];
-  return { sessions: Object.fromEntries(ownSessions), kept: Object.fromEntries(entries.filter(([name]) => IN_FILE.test(name))) };
+  const names = stored("session ").map(([name]) => name.split(" ")[0]).filter((exercise) => exercise !== "run");
+  const latest = Object.fromEntries(names.map((exercise) => [exercise, sessionsOf(exercise)[0][1]]));
+  const entries = [...stored(""), ...own].filter(([name]) => IN_FILE.test(name));
+  return { sessions: { ...inFile.sessions, ...latest, ...Object.fromEntries(ownSessions) },
+    kept: { ...inFile.kept, ...Object.fromEntries(entries) } };
 }
 
-export function addKept(more) {
-  for (const [name, value] of Object.entries(more.kept)) own.set(name, value);
-  for (const [name, session] of Object.entries(more.sessions)) ownSessions.set(name, session);
-}
+// The same from a page that was saved.
+export const addKept = (more) => { Object.assign(inFile, more); };
 
 // ---- sessions: each under the exercise that it is of, or "run", and its tab, so that two tabs never overwrite each other
 
@@ -66,5 +69,6 @@ export async function latestOfClosed(exercise) {
   return found ? found[1] : null;
 }
 
-// The session of an exercise to go on with: this tab's own, or that one.
-export const sessionToGoOn = async (exercise) => ownSessions.get(exercise) || latestOfClosed(exercise);
+// The session of an exercise to go on with: this tab's own, or that one, or that of the file.
+export const sessionToGoOn = async (exercise) =>
+  ownSessions.get(exercise) || (await latestOfClosed(exercise)) || inFile.sessions[exercise];

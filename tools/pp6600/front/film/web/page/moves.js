@@ -6,7 +6,7 @@ import { SKIP } from "../machine/moments.js";
 import { hasOrigin, originLines } from "../machine/origins.js";
 import { lineOfNext } from "../machine/sources.js";
 import { changesAround, choose, chooseNone, chooseProcessor, follow, formOf, placeBeside, showAs, sourceSeen,
-  viewAt } from "./choice.js";
+  toggled, viewAt } from "./choice.js";
 import { canSet } from "./setting.js";
 import { Part } from "./store.js";
 
@@ -14,6 +14,8 @@ export const RATES = [1, 8, 64, 512, 4096]; // turns a second
 
 export class Moves extends Part {
   condition = null; // that was looked for last
+
+  get n() { return this.state.memory.n; }
 
   // Goes to a moment, as a hand asked for it.
   moveTo(moment) {
@@ -111,6 +113,12 @@ export class Moves extends Part {
     return this.session.act([`${this.film.watched().includes(chosen.name) ? "UNWATCH" : "WATCH"} ${chosen.name}`]);
   }
 
+  breakpoint() {
+    const { chosen, breakpoints } = this.state;
+    if (chosen?.kind !== "M") return this.say("choose a cell first, for a breakpoint", true);
+    return this.update({ breakpoints: toggled(breakpoints, chosen.numbers.join(" ")) });
+  }
+
   // On to a breakpoint or to the chosen cell, or back: in the film, else by turns that are made.
   async runTo(isBack) {
     const { chosen, breakpoints } = this.state, { film, session } = this;
@@ -199,32 +207,33 @@ export class Moves extends Part {
 
   // ---- the table of actions, by the names of the table of keys
 
-  get actions() {
-    const { film, state, hands } = this, { n } = state.memory;
-    return {
-      on: (count) => this.step(count, () => film.at + 1, (left) => left), back: (count) => this.back(count, () => this.film.at - 1),
-      "round-on": (count) => this.step(PROCESSORS * count, () => this.nearestTurn(1), (left) => left),
-      "round-back": (count) => this.back(PROCESSORS * count, () => this.beforeTurn()),
-      "next-turn": (count) => this.step(count, () => this.nearestTurn(1, n), (left) => this.turnsTo(n, left)),
-      "turn-before": (count) => this.back(count, () => this.nearestTurn(-1, n)),
-      beginning: () => this.moveTo(0), newest: () => this.moveTo(film.last),
-      "back-to-change": () => this.backToChange(), watch: () => this.watch(),
-      turn: (count, digits) => (digits ? this.toTypedTurn(digits) : hands.select("turn")),
-      until: () => hands.typeLine("until "), "back-until": () => hands.typeLine("back until "),
-      again: () => this.again(false), "back-again": () => this.again(true),
-      "next-change": () => this.toChange(1), "change-before": () => this.toChange(-1),
-      "next-line": () => this.toLine(1), "line-before": () => this.toLine(-1),
-      Left: () => this.beside(-1, 0), Right: () => this.beside(1, 0), Up: () => this.beside(0, -1), Down: () => this.beside(0, 1),
-      "processor-before": (count) => this.processorBeside(-count), "next-processor": (count) => this.processorBeside(count),
-      "processor-in-slot": () => this.update(chooseProcessor(state, film.number("SLOT"))), follow: () => this.update(follow(state)),
-      instructions: () => this.as("numbers", "instructions"), "display-code": () => this.as("text", "instructions"),
-      place: () => hands.select("place"), origin: () => this.origin(), line: () => hands.typeLine(""), forget: () => this.forget(),
-      help: () => this.update({ help: !state.help }),
-      play: () => this.play(!state.playing), faster: () => this.faster(1), slower: () => this.faster(-1),
-      "script-line-before": () => this.toScriptLine(-1), "next-script-line": () => this.toScriptLine(1),
-      "run-to": () => this.runTo(false), "run-back": () => this.runTo(true), set: () => canSet(state.chosen) && hands.openField(),
-      barrel: () => hands.fold(`${state.look} barrel`),
-      projector: () => hands.look(state.look === "projector" ? state.lookBefore || "debug" : "projector", false),
-    };
-  }
+  actions = {
+    on: (count) => this.step(count, () => this.film.at + 1, (left) => left),
+    back: (count) => this.back(count, () => this.film.at - 1),
+    "round-on": (count) => this.step(PROCESSORS * count, () => this.nearestTurn(1), (left) => left),
+    "round-back": (count) => this.back(PROCESSORS * count, () => this.beforeTurn()),
+    "next-turn": (count) => this.step(count, () => this.nearestTurn(1, this.n), (left) => this.turnsTo(this.n, left)),
+    "turn-before": (count) => this.back(count, () => this.nearestTurn(-1, this.n)),
+    beginning: () => this.moveTo(0), newest: () => this.moveTo(this.film.last),
+    "back-to-change": () => this.backToChange(), watch: () => this.watch(),
+    turn: (count, digits) => (digits ? this.toTypedTurn(digits) : this.hands.select("turn")),
+    until: () => this.hands.typeLine("until "), "back-until": () => this.hands.typeLine("back until "),
+    again: () => this.again(false), "back-again": () => this.again(true),
+    "next-change": () => this.toChange(1), "change-before": () => this.toChange(-1),
+    "next-line": () => this.toLine(1), "line-before": () => this.toLine(-1),
+    Left: () => this.beside(-1, 0), Right: () => this.beside(1, 0), Up: () => this.beside(0, -1), Down: () => this.beside(0, 1),
+    "processor-before": (count) => this.processorBeside(-count), "next-processor": (count) => this.processorBeside(count),
+    "processor-in-slot": () => this.update(chooseProcessor(this.state, this.film.number("SLOT"))),
+    follow: () => this.update(follow(this.state)),
+    instructions: () => this.as("numbers", "instructions"), "display-code": () => this.as("text", "instructions"),
+    place: () => this.hands.select("place"), origin: () => this.origin(), line: () => this.hands.typeLine(""),
+    forget: () => this.forget(),
+    help: () => this.update({ help: !this.state.help }),
+    play: () => this.play(!this.state.playing), faster: () => this.faster(1), slower: () => this.faster(-1),
+    "script-line-before": () => this.toScriptLine(-1), "next-script-line": () => this.toScriptLine(1),
+    "run-to": () => this.runTo(false), "run-back": () => this.runTo(true),
+    set: () => canSet(this.state.chosen) && this.hands.openField(),
+    breakpoint: () => this.breakpoint(), barrel: () => this.hands.fold(`${this.state.look} barrel`),
+    projector: () => this.hands.look(this.state.look === "projector" ? this.state.lookBefore || "debug" : "projector", false),
+  };
 }

@@ -1,6 +1,7 @@
-// ---- how much room the window has: columns, rows of memory, and what is drawn by measure
+// ---- how much room the window has: columns, rows of memory, and what is drawn by measure, as the moments of the run
 
 const PHONE = 700, THREE = 1180, FOUR = 1680, LOW = 740, LEAST_ROWS = 3, MOST_ROWS = 64; // pixels; rows of memory
+const LABEL = 62, LEAST_WIDE = 80; // of the run the width of names, in letters of 14 pixels, and of lanes
 
 export function windowNow() {
   const width = innerWidth;
@@ -20,3 +21,15 @@ export function roomNow() {
 }
 
 export const isSame = (one, other) => Object.keys(one).every((name) => one[name] === other[name]);
+
+// The moments of the run and pixels.
+export function scaleOf({ room, span: { from, to } }) {
+  const unit = room.unit || 1, left = Math.round(LABEL * unit), width = Math.max(LEAST_WIDE, (room.timeline || 1200) - left - 8);
+  const pixel = (moment) => left + ((moment - from) / (to - from)) * width, has = (moment) => moment >= from && moment < to;
+  return { unit, left, width, from, to, pixel, has };
+}
+
+export function momentAt(state, x) {
+  const { left, from, to, width } = scaleOf(state);
+  return from + Math.floor(((x - left) / width) * (to - from));
+}

@@ -5,6 +5,7 @@ import { octal } from "../machine/places.js";
 import { JUMP, LINE } from "../machine/moments.js";
 import { Film, NOT_RECORDED } from "../machine/film.js";
 import { changeFound, foundBy, latestChange, nextText } from "../machine/words.js";
+import { NOTE, answerShown } from "./answer.js";
 import { choose, viewAt } from "./choice.js";
 import { Client } from "./client.js";
 import { octalRows } from "./files.js";
@@ -14,12 +15,12 @@ import { branchNow, joinedTrees, withBranch, withSession } from "./tree.js";
 
 const AFTER = 300; // milliseconds until the page says that the worker is busy
 const MOST_WANTED = 0o2000, MOST_BRANCHES = 64; // turns that are recorded where some were skipped; branches that a script begins
-export const NOTE = /^\* (EXERCISE|PANEL) /; // with which a session of an exercise begins
+const MOST_IN_FILMS = 3 << 20; // moments of other branches that are kept as films
 
 export class Session extends Part {
-  // `engine` is the worker's script, and `module` the simulator.
+  // `engine` has the parts of the worker's script, and `module` is the simulator.
   constructor(store, engine, about, module) {
-    super(store, { about, given: null, opening: null, isChanged: false, first: { module, about } });
+    super(store, { about, given: null, opening: null, isChanged: false, films: new Map(), first: { module, about } });
     this.client = new Client(this, engine);
   }
 
@@ -49,15 +50,41 @@ export class Session extends Part {
   }
 
   // A film without moments takes the place of the one that is shown, with its tree, when the first moments of another session have
-  // come.
-  beginFilm() {
-    const { opening: tree, about } = this, given = branchNow(tree).session, own = given.exercise ? {} : about;
-    const known = { sources: { ...own.sources, ...given.sources }, labels: { ...own.labels, ...given.labels } };
-    const film = new Film({ ...about, ...given.options, ...known });
-    Object.assign(film, { deck: octalRows(given.deck), panel: octalRows(given.panel).flat() });
+  // come; or one that was shown before, with its transcript.
+  beginFilm(tree = this.opening, film = this.newFilm(branchNow(tree).session), transcript = []) {
+    const given = branchNow(tree).session;
     Object.assign(this, { given, opening: null });
     const none = { checked: null, sentLast: null, origin: null, setting: null, line: null };
-    Object.assign(this.state, { film, tree, exercise: given.exercise || null, transcript: [], ...none });
+    Object.assign(this.state, { film, tree, exercise: given.exercise || null, transcript, ...none });
+  }
+
+  newFilm(given) {
+    const { about } = this, own = given.exercise ? {} : about;
+    const known = { sources: { ...own.sources, ...given.sources }, labels: { ...own.labels, ...given.labels } };
+    const film = new Film({ ...about, ...given.options, ...known });
+    return Object.assign(film, { deck: octalRows(given.deck), panel: octalRows(given.panel).flat() });
+  }
+
+  // ---- films of other branches, which are there as long as not too many moments are
+
+  // Keeps a film for a branch, or the beginning of one that goes on in another branch.
+  keepFilm(id, film, transcript, count = film.count, lines = film.lines.length) {
+    const { films } = this;
+    films.delete(id);
+    films.set(id, { film, transcript, count, lines });
+    const all = () => [...films.values()].reduce((sum, one) => sum + one.count, 0);
+    for (const [oldest] of films) if (all() > MOST_IN_FILMS) films.delete(oldest);
+  }
+
+  // The film of the present branch of a tree, with its transcript; or null.
+  filmOf(tree) {
+    const found = this.films.get(tree.now), { session } = branchNow(tree);
+    if (!found) return null;
+    const { film, transcript, count, lines } = found;
+    if (count === film.count && lines === film.lines.length) return { film, transcript };
+    const begun = this.newFilm(session), delivery = film.beginning(count, lines);
+    begun.grow(delivery);
+    return { film: begun, transcript: delivery.lines.map((line, at) => ({ ...line, line: at })) };
   }
 
   // An action after a BACK begins a branch, in the session: what was taken back stays in the branch before it, with the lines up to
@@ -68,16 +95,23 @@ export class Session extends Part {
     while (film.kinds[end] === JUMP) end--;
     if (!acts || film.kinds[first] === JUMP || film.resolve(first - 1) === end || tree.all.length >= MOST_BRANCHES) return;
     const lines = film.lineAt(end) + 1, before = { ...this.given, script: ofLines(this.typedLines().slice(0, lines)), moment: end };
+    this.keepFilm(tree.now, film, null, end + 1, lines);
     this.state.tree = withBranch(withSession(tree, before, lines), text, null, film.turn[first - 1]);
   }
 
   // Performs the script of the present session of a tree from the beginning, and shows its moment or its end. One that is new may
-  // take a while, and begins branches where it goes back.
-  async open(tree, { isNew = false, isTrusted = !isNew } = {}) {
-    const { script, deck = "", panel = "", options = {}, wanted = [], moment } = branchNow(tree).session;
-    Object.assign(this, { opening: tree, notesBranches: isNew });
-    const reply = await this.client.ask("open", { given: { script, deck, panel, options }, wanted, isTrusted, ...this.first });
+  // take a while, and begins branches where it goes back. Of another branch of the same tree the film may be there.
+  async open(tree, { isNew = false, isTrusted = !isNew, isSameTree = false } = {}) {
+    const { script, deck = "", panel = "", options = {}, wanted = [], moment } = branchNow(tree).session, { state } = this;
+    if (!isSameTree) this.films.clear();
+    else this.keepFilm(state.tree.now, state.film, state.transcript);
+    const known = isNew ? null : this.filmOf(tree), given = { script, deck, panel, options };
+    Object.assign(this, { opening: known ? null : tree, notesBranches: isNew });
+    const reply = await this.client.ask("open", { given, wanted, isTrusted, isKnown: Boolean(known), ...this.first });
+    const isOther = known && reply.count !== known.film.count; // it was stopped, or failed
+    if (known && !isOther) this.beginFilm(tree, known.film, known.transcript);
     Object.assign(this, { opening: null, notesBranches: true, first: {} });
+    if (isOther) return this.open(tree);
     this.say(reply.said || "", Boolean(reply.isWrong));
     if (!reply.isFault) this.show(moment);
     return reply;
@@ -122,10 +156,10 @@ export class Session extends Part {
     if (isAtEnd) return condition === undefined ? this.performHere(line) : this.search(condition, Boolean(back));
     if (await this.movesInFilm(line)) return true;
     if (/^\s*STEP\b/i.test(line)) return this.performHere(line);
-    const { answer, acts, said } = await this.look(`${line}\n`);
+    const { answers, acts, said } = await this.look(line);
     if (acts) return this.performHere(line);
-    this.addLook(line, answer ? answer.slice(0, LONGEST_ANSWER) : [said]);
-    return Boolean(answer) && !/^ERR /.test(answer[0] || "");
+    this.addLook(line, answers ? answers[0].slice(0, LONGEST_ANSWER) : [said]);
+    return Boolean(answers) && !/^ERR /.test(answers[0][0] || "");
   }
 
   // Performs lines where the page is. Anywhere but at the newest moment they begin a branch, so that nothing is lost.
@@ -192,8 +226,9 @@ export class Session extends Part {
     return { at: null };
   }
 
-  // What lines answer at the moment that is shown, in a session of their own; some of the parts of the script may be enough.
-  look(text, parts = this.film.partsInEffect()) { return this.client.ask("look", { given: this.files(), parts, text }); }
+  // What lines answer, each for itself, in a session of their own: at the moment that is shown, or after other parts, with other
+  // files.
+  look(text, parts = this.film.partsInEffect(), given = this.files()) { return this.client.ask("look", { given, parts, text }); }
 
   // A search in the past looks among the moments that the film has, and only moves what is shown.
   async findsInFilm(line, condition, isBack) {
@@ -256,13 +291,14 @@ export class Session extends Part {
     return this.film.lines.map(({ text, answer }) => (answer[1] === "stopped" ? `STEP ${answer[0].split(" ")[1]}` : text));
   }
 
-  // Those that give the session in the program, which goes back less.
+  // Those that give the session in the program, which goes back less. That of an exercise ends at the moment that is shown.
   scriptToSave() {
     const lines = this.typedLines(), { film } = this, at = film.lines.findLastIndex(({ answer }) => answer[1] === "replayed");
-    return at < 0 ? ofLines(lines) : scriptOf(film.partsInEffect(film.lines[at].moment)) + ofLines(lines.slice(at + 1));
+    const whole = at < 0 ? ofLines(lines) : scriptOf(film.partsInEffect(film.lines[at].moment)) + ofLines(lines.slice(at + 1));
+    return answerShown(this.state, film.at === film.last ? whole : undefined) ?? whole;
   }
 
-  now() { return { ...this.given, script: ofLines(this.typedLines()), moment: this.film.at }; }
+  now() { return { ...this.given, script: ofLines(this.typedLines()), moment: this.film.at, answer: answerShown(this.state) }; }
 
   tree() { return withSession(this.state.tree, this.now(), this.film.lines.length); }
 
@@ -277,14 +313,15 @@ export class Session extends Part {
   beginBeside(name, given) { return this.inTurn(() => this.begin(withBranch(this.tree(), name, { ...given, wanted: [] }))); }
 
   async begin(tree, isTrusted = false) {
-    const reply = await this.open(withSession(tree, { ...branchNow(tree).session, moment: undefined }), { isNew: true, isTrusted });
+    const session = { ...branchNow(tree).session, moment: undefined };
+    const reply = await this.open(withSession(tree, session), { isNew: true, isTrusted, isSameTree: true });
     this.keepSoon();
     return !reply.isFault && !reply.isWrong;
   }
 
   goToBranch(id) {
     return this.inTurn(async () => {
-      if (id !== this.state.tree.now) await this.open({ ...this.tree(), now: id });
+      if (id !== this.state.tree.now) await this.open({ ...this.tree(), now: id }, { isSameTree: true });
       this.keepSoon();
     });
   }

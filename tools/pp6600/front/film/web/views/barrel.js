@@ -80,8 +80,10 @@ function unitOf({ room, look }) {
 }
 
 export function barrelPane(state, marks) {
-  const { film, room, look } = state, unit = unitOf(state), isLarge = look === "projector", width = (room.barrel || 430) / unit;
-  const high = Math.max(LEAST_HIGH, Math.min(((isLarge && room.barrelHigh) || HIGH) / unit, MOST_HIGH)), { actor } = marks;
+  const { film, room, look, columns } = state, unit = unitOf(state), isLarge = look === "projector";
+  const width = (room.barrel || 430) / unit;
+  const usual = look === "class" && columns < 3 ? LEAST_HIGH : HIGH, { actor } = marks;
+  const high = Math.max(LEAST_HIGH, Math.min(((isLarge && room.barrelHigh) || usual) / unit, MOST_HIGH));
   const waits = marks.processors.map(({ n, waits: text }) => ({ n, c: parseInt(text, 8) })).filter(({ c }) => c <= CLOCK);
   const moved = film.wordMoved(film.at), used = channelsShown(film, moved, waits, high), s = sizes(width, high, used.length);
   const isSeen = moved && used.includes(moved.channel), cell = marks.changes.find(({ place }) => place.kind === "M");
@@ -90,8 +92,8 @@ export function barrelPane(state, marks) {
   const track = `M${left} 28H${right}q22 0 22 22V${high - 50}q0 22 -22 22H${left}q-14 0 -14 -22V50q0 -22 14 -22z`;
   const wayTo = (n, c, level) => way(n, used.indexOf(c), s, level);
   return pane(state, "barrel", "Barrel", "", h("div", { class: isLarge ? "box" : "box natural", "data-room": "barrel" },
-    h("svg", { viewBox: `0 0 ${width} ${high}`, style: `height:${high * unit}px`, role: "img",
-      "aria-label": `the barrel, PP ${two(marks.slot)} is next` },
+    h("svg", { viewBox: `0 0 ${width} ${high}`, style: `height:${high * unit}px`, id: "ring", role: "img", tabindex: 0,
+      "aria-label": `the barrel, PP ${two(marks.slot)} is next: arrows choose a processor or a channel` },
     h("path.track", { d: track }),
     waits.filter(({ c }) => used.includes(c))
       .map(({ n, c }, at) => h("path.waits", { d: wayTo(n, c, 12 + 4 * at), "data-waits": `${n} ${c}` })),

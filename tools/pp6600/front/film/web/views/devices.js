@@ -45,7 +45,7 @@ export function picturesPane(state) {
   const why = hasPictures ? end : "it is known for the script of the file alone";
   const figure = ({ name, channel, shown }) => {
     const [, seen] = (hasPictures && shown.findLast(([from]) => from <= moment)) || [0, []];
-    return h("figure", h("figcaption", `${name} on channel ${two(channel)}`),
+    return h("figure", h("figcaption", `${name} ${channel === null ? "of central memory" : `on channel ${two(channel)}`}`),
       why ? h("p.soft", `this page has no ${name}: ${why}`) : null,
       h("div.picture", { html: seen.map((line) => pictures.lines[line]).join("") }));
   };

@@ -1,14 +1,15 @@
 // ---- the exercises: the task, what is solved, and Check
 
-import { h, classes } from "../page/dom.js";
+import { h, classes, keeper } from "../page/dom.js";
 import { octal } from "../machine/places.js";
 import { PLAIN, boxPane, icon } from "./parts.js";
 
-const MOST_WRONG = 4; // lines that are shown
+const MOST_WRONG = 4, kept = keeper(); // lines that are shown
 const NO_EXERCISE = "Choose an exercise: your sessions and sources are kept for each.";
 const NONE = "This file has no exercises: `exercises/hand-out class.html` makes one that has.";
 const titleOf = ({ name }) => name.replace(/-/g, " ").replace(/^./, (letter) => letter.toUpperCase());
 const presentOf = ({ exercises, exercise }) => exercises.find(({ name }) => name === exercise);
+const isSolved = ({ answers }, { name }) => Boolean(answers[name]?.isRight);
 
 // A task as text, with names and lines of the console between backticks.
 const taskText = (task) => task.split("`").map((part, at) => (at % 2 ? h("code", part) : part));
@@ -18,20 +19,27 @@ export function projectedTask(state) {
   return one ? h("p.projected.task", h("b", `${titleOf(one)}. `), taskText(one.task)) : null;
 }
 
-function listOf({ exercises, exercise, solved }) {
+function listOf(state) {
+  const { exercises, exercise } = state;
   const item = (one, at) => {
-    const { name } = one, title = `${titleOf(one)}${solved[name] ? ": solved" : ""}`, isHere = name === exercise;
-    return h("li", { class: classes({ here: isHere, solved: solved[name] }) },
+    const { name } = one, solved = isSolved(state, one), isHere = name === exercise;
+    const title = `${titleOf(one)}${solved ? ": solved" : ""}`;
+    return h("li", { class: classes({ here: isHere, solved }) },
       h("button", { "data-exercise": name, title, "aria-label": `${at + 1}, ${title}`, "aria-current": isHere ? "true" : null,
-        tabindex: name === (exercise || exercises[0].name) ? 0 : -1 }, solved[name] ? icon("check") : String(at + 1)));
+        tabindex: name === (exercise || exercises[0].name) ? 0 : -1 }, String(at + 1), solved ? icon("check") : null));
   };
-  return h("ol.list", { "aria-label": "exercises" }, exercises.map(item));
+  return h("ol.list", { "aria-label": "exercises and tutorials" }, exercises.map(item), tutorialButtons(state));
 }
 
-function checkedBox({ wrong, turn }) {
-  const lines = wrong.slice(0, MOST_WRONG).map(({ wanted, found }) => h("pre", `expected  ${wanted}\nwritten   ${found}`));
-  return h("div", { id: "checked", class: wrong.length ? "checked wrong" : "checked good", role: "status" },
-    h("b", wrong.length ? "Not solved yet" : "Solved"), ` at turn ${octal(turn)}.`, lines);
+// The verdict; and of one that is not right why, or the first lines that differ.
+function checkedBox({ wrong, turn, later }) {
+  const line = (name, text) => (text === undefined ? "" : `${name}${text}\n`), isRight = !wrong.length;
+  const pair = ({ wanted, found }) => h("pre", line("expected  ", wanted) + line("written   ", found));
+  const why = later ? [` It was right before the last ${octal(later)} turns: go back over the turns made since, and check again.`]
+    : isRight ? []
+      : [" The first answer that differs is that to ", h("code", wrong[0].line), ":", wrong.slice(0, MOST_WRONG).map(pair)];
+  return h("div", { id: "checked", class: `checked ${isRight ? "good" : "wrong"}`, role: "status" },
+    h("b", isRight ? "Solved" : "Not solved yet"), ` at turn ${octal(turn)}.`, why);
 }
 
 // An exercise with its task, the panel if it has one, and Check.
@@ -46,9 +54,29 @@ function taskOf({ exercises, film, panelText, checked }, one) {
     checked ? checkedBox(checked) : null];
 }
 
+// ---- the tutorials, of whose sessions each line is performed by a click
+
+const SHOWN = {
+  heading: ({ text }) => h("h3", text),
+  paragraph: ({ items, isList }) => items.map((item) => h("p.task", isList ? "– " : "", taskText(item))),
+  table: ({ rows }) => h("table", h("tbody", rows.map((row) => h("tr", row.map((cell) => h("td", taskText(cell))))))),
+  text: ({ text }) => h("pre", text),
+  session: ({ lines }, place) => h("ol", lines.map(([line, answer], at) => {
+    const button = { "data-perform": `${place} ${at}`, title: "perform this line", tabindex: at ? -1 : 0 };
+    return h("li", h("button", button, `> ${line}`), answer ? h("pre", answer) : null);
+  })),
+};
+
+const tutorialText = ({ tutorials, tutorial: at }) => kept(tutorials[at], "", () => h("div.tutorial", h("h3", tutorials[at].title),
+  h("p.task", h("b", "A click performs a line here; the first line of a session begins it in a new machine.")),
+  tutorials[at].parts.map((part, index) => SHOWN[part.kind](part, `${at} ${index}`))));
+
+const tutorialButtons = ({ tutorials, tutorial }) => tutorials.map(({ title }, at) => h("li",
+  h("button", { "data-tutorial": at, "aria-pressed": String(at === tutorial), title, tabindex: -1 }, `Tutorial ${at + 1}`)));
+
 export function exercisePane(state) {
-  const { exercises, solved } = state, one = presentOf(state), isClass = exercises.length > 0;
-  const count = `${exercises.filter(({ name }) => solved[name]).length} of ${exercises.length} solved`;
+  const { exercises, tutorial } = state, one = presentOf(state), isClass = exercises.length > 0;
+  const count = `${exercises.filter((other) => isSolved(state, other)).length} of ${exercises.length} solved`;
   return boxPane(state, "exercise", "Exercises", isClass ? count : "", isClass ? listOf(state) : null,
-    one ? taskOf(state, one) : h("p.task", taskText(isClass ? NO_EXERCISE : NONE)));
+    tutorial !== null ? tutorialText(state) : one ? taskOf(state, one) : h("p.task", taskText(isClass ? NO_EXERCISE : NONE)));
 }

@@ -1,13 +1,13 @@
 // ---- the processors, the channels, central memory and the exchange package
 
 import { h, classes } from "../page/dom.js";
-import { CHANNELS, CLOCK, FRAME_WORDS, layout, octal, range, two } from "../machine/places.js";
+import { CHANNELS, CLOCK, octal, range, two } from "../machine/places.js";
 import { WAITING } from "../machine/moments.js";
 import { deviceOf, meaningOf } from "../machine/words.js";
 import { isQuiet } from "../machine/film.js";
 import { boxPane, namesOf, number } from "./parts.js";
 
-const CENTRAL_ROWS = 8, MOST_PROJECTED = 3;
+const MOST_WORDS = 16, MOST_PROJECTED = 3;
 const heading = (text) => h("th", { scope: "row" }, text);
 const table = (...rows) => h("table", h("tbody", rows));
 
@@ -20,12 +20,12 @@ function processor({ film }, marks, n) {
     of("A"), of("Q"), h("td.wait", waits ? `H ${waits}` : ""));
 }
 
-// In a narrow or low window the processors that only pass or wait are one line, and beside the picture of a device.
+// In a narrow or low window the processors that only pass or wait are one line, and beside the picture of a device or an exercise.
 function processorsShown({ film, columns, memory, look, isPhone, isLow, tab }) {
   const isLoud = (n) => n === memory.n || !isQuiet(film.processorLanes[n]);
   const others = range(10).filter((n) => n !== memory.n && isLoud(n));
   if (look === "projector") return [memory.n, ...others].slice(0, MOST_PROJECTED).sort((one, other) => one - other);
-  const hasRoom = isPhone ? tab === "processors" : columns > (film.about.pictures ? 3 : 2) && !isLow;
+  const hasRoom = isPhone ? tab === "processors" : columns > (film.about.pictures || look === "class" ? 3 : 2) && !isLow;
   return range(10).filter((n) => hasRoom || isLoud(n));
 }
 
@@ -51,15 +51,22 @@ export function channelsPane(state, marks) {
     table(all.filter(isUsed).map(row), h("tr.idle", h("td", { colspan: 5 }, rest))));
 }
 
+// The words that have not always been zero, and the chosen one: of very many those around the latest that changed, or around the
+// chosen one.
+function wordsShown({ film, chosen }, { changes }, kind, part) {
+  const isOf = ({ place }) => place.kind === kind, own = chosen?.kind === kind ? chosen : changes.findLast(isOf)?.place;
+  const all = [...new Set([...film.used[part], ...(own ? own.numbers : [])])].sort((one, other) => one - other);
+  const at = Math.max(0, all.indexOf(own?.numbers[0]) - (MOST_WORDS >> 1));
+  return { shown: all.slice(Math.min(at, Math.max(0, all.length - MOST_WORDS)), at + MOST_WORDS), isAll: all.length <= MOST_WORDS };
+}
+
 export function centralPane(state, marks) {
-  const { film, chosen, central } = state, isShown = (part, kind) => film.used.has(part) || (chosen && chosen.kind === kind);
-  const hasWords = isShown("central", "C"), hasFrame = isShown("frame", "XP"), half = FRAME_WORDS / 2;
-  if (!hasWords && !hasFrame) return null;
-  const least = ((film.used.get("central") ?? layout.central) - layout.central) & ~7;
-  const first = central.first < 0 ? Math.min(least, layout.size - CENTRAL_ROWS) : central.first;
+  const { film } = state, words = wordsShown(state, marks, "C", "central"), frame = wordsShown(state, marks, "XP", "frame");
   const word = (kind, at, digits) => [heading(octal(at, digits)), h("td", number(film, marks, kind, at))];
-  return boxPane(state, "central", "Central memory", "",
-    hasWords ? table(range(CENTRAL_ROWS).map((at) => h("tr", word("C", first + at, 6)))) : null,
-    hasFrame ? h("h3", "Exchange package") : null,
-    hasFrame ? table(range(half).map((at) => h("tr", word("XP", at, 2), word("XP", at + half, 2)))) : null);
+  const rows = (kind, { shown }, digits) => table(range(shown.length + 1 >> 1).map((row) =>
+    h("tr", shown.slice(2 * row, 2 * row + 2).map((at) => word(kind, at, digits)))));
+  if (!words.shown.length && !frame.shown.length) return null;
+  return boxPane(state, "central", "Central memory", words.isAll ? "the other words are zero" : "words that were used",
+    words.shown.length ? rows("C", words, 6) : null, frame.shown.length ? h("h3", "Exchange package") : null,
+    frame.shown.length ? rows("XP", frame, 2) : null);
 }

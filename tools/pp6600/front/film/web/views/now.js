@@ -33,6 +33,10 @@ function changesOf(film, changes) {
     changes.length || lost ? null : h("span.soft", "no number changed"));
 }
 
+// What a screen reader says of a moment.
+const spoken = (film, { who, what, says, isBlock }) =>
+  `Turn ${octal(film.turn[film.at])}. ${who} ${what}${isBlock ? ", block" : ""}: ${says}.`;
+
 export function now(state, marks) {
   const { film, said, isBusy, playing } = state, { who, what, says, isBlock, waits } = deedOf(film, film.at);
   const line = film.lineAt(film.at);
@@ -40,7 +44,9 @@ export function now(state, marks) {
   return h("div", { class: classes({ now: true, waits }) },
     h("div.turn", h("b", octal(film.turn[film.at])), h("span", `turn of ${octal(film.highestTurn)}`),
       h("span.line", line >= 0 ? `line ${line + 1} · ${text}` : film.at ? ".." : "the beginning")),
-    h("div.deed", { "aria-live": playing ? "off" : "polite" },
+    h("p.spoken", { role: "status", "aria-live": playing ? "off" : "polite", "aria-atomic": "true" },
+      spoken(film, { who, what, says, isBlock })),
+    h("div.deed",
       h("p.what", who ? h("span.who", who) : null, h("strong", what, isBlock ? h("small", " block") : null), h("span.says", says),
         where(film)),
       changesOf(film, marks.changes)),

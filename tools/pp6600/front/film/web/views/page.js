@@ -32,8 +32,8 @@ const COLUMNS = {
   },
   class: {
     4: ["exercise editor", "source memory origin central", "pictures barrel processors channels devices", "console branches run"],
-    3: ["exercise editor run", "memory origin console branches", "pictures barrel processors channels central devices"],
-    2: ["exercise editor", "processors memory origin console devices branches run"],
+    3: ["exercise editor run", "memory origin console devices branches", "pictures barrel processors central channels"],
+    2: ["exercise editor console run", "pictures barrel memory origin central channels processors devices branches"],
   },
 };
 const PROJECTED = { source: ["pictures barrel processors", "source memory"], none: ["pictures barrel processors", "memory"] };

@@ -4,7 +4,7 @@ import { h, classes, keeper } from "../page/dom.js";
 import { four, octal, placeWith, two } from "../machine/places.js";
 import { countUpTo } from "../machine/film.js";
 import { isLoaded, lineOfMoment, lineOfNext, markOf } from "../machine/sources.js";
-import { meaningOf } from "../machine/words.js";
+import { meaningOf, operationIn } from "../machine/words.js";
 import { sourceSeen } from "../page/choice.js";
 import { gutter, numberAt, pane } from "./parts.js";
 
@@ -12,10 +12,8 @@ const FIELDS = /^(.{0,9}\S*\s*)(\S*\s*)(\S*\s*)(.*)$/; // location, operation, v
 const NO_MARK = { text: "", address: null }, NOT_YET = { text: "not yet", address: null };
 const kept = keeper();
 
-// The operation of a line, which is behind the label in column 1 or 2.
-const operationIn = (line) => (/^ ?[^*\s]?\S*\s+(\S+)/.exec(line) || [])[1];
-
-// A line in its fields; their words alone are struck through, so that columns stay legible.
+// A line in its fields; their words alone are struck through, so that columns stay legible. A comment that has no room beside them is
+// in the next row.
 function textOfLine(text) {
   if (/^\s*\*/.test(text)) return h("em", text);
   const [, label, operation, operand, comment] = FIELDS.exec(text.padEnd(1));
@@ -33,20 +31,22 @@ function row(state, source, line, mark, { next, done, marks }) {
   const { number, address, times } = line, isHere = number === next.number, isDone = number === done;
   const describe = () => rowOf(state, source, line, { mark, isHere, isDone, note: isHere ? next.note : "", marks });
   if (mark.address !== null || isHere) return describe();
-  return kept(line, [mark.text, isDone, state.breakpoints.has(`${source.n} ${address}`), times.length > 0].join(), describe);
+  const isPoint = state.breakpoints.has(`${source.n} ${address}`);
+  return kept(line, [mark.text, isDone, number === state.line, isPoint, times.length > 0].join(), describe);
 }
 
 function rowOf(state, { n }, { number, text, address, words, times }, { mark, isHere, isDone, note, marks }) {
   const { film } = state, hasAddress = address !== undefined, wrong = mark.address !== null && placeWith("M", n, mark.address);
-  const title = [meaningOf(film.about, operationIn(text)),
+  const said = wrong ? [mark.text, " ", numberAt(film, marks, wrong)] : mark.text || note;
+  const title = [text.trim().replace(/\s+/g, " "), meaningOf(film.about, operationIn(text)),
     times.length ? "click: to its next time; with Shift to the one before" : ""];
-  const is = { here: isHere, done: isDone, lost: mark.text === "now", unloaded: mark.text === "not yet" };
-  return h("tr", { class: classes(is), seen: isHere ? `${film.at} ${n}` : undefined },
+  const isMine = number === state.line, seen = isHere ? `${film.at} ${n}` : isMine ? `${number}` : undefined;
+  const is = { here: isHere, done: isDone, lost: mark.text === "now", unloaded: mark.text === "not yet", mine: isMine };
+  return h("tr", { id: `line-${number}`, role: "option", class: classes(is), seen },
     gutter(state, n, address, isHere ? "▶" : "", number),
     hasAddress ? h("td.address", { "data-place": `M ${two(n)} ${four(address)}` }, four(address)) : h("td"),
-    h("td.text", { "data-line": words.length ? number : null, title: title.filter(Boolean).join("\n") },
-      h("span", textOfLine(text))),
-    h("td.nowis", wrong ? [mark.text, " ", numberAt(film, marks, wrong)] : mark.text || note));
+    h("td.text", { "data-line": words.length ? number : null, title: title.filter(Boolean).join("\n"), colspan: said ? 1 : 2 },
+      h("span", textOfLine(text))), said ? h("td.nowis", said) : null);
 }
 
 // How often the line that was clicked was performed, and which time is shown.
@@ -67,6 +67,7 @@ export function sourcePane(state, marks) {
   return pane(state, "source", `Source of PP ${two(source.n)}`,
     [h("span.name", source.name), lost ? h("b.wrong", `${lost} ${lost === 1 ? "line" : "lines"} lost`) : null,
       timesOf(state, source), edit],
-    h("div.box", { "data-box": "", tabindex: 0, "aria-label": "lines" },
+    h("div.box", { id: "lines", "data-box": "", tabindex: 0, role: "listbox",
+      "aria-label": "lines: arrows choose one, Enter goes to its next time", "aria-activedescendant": state.line ? `line-${state.line}` : null },
       h("table", h("tbody", source.lines.map((line, at) => row(state, source, line, all[at], about))))));
 }

@@ -1,28 +1,18 @@
 // ---- the run: a lane for each processor that does something and for each channel that is used
 
 import { h, keeper } from "../page/dom.js";
+import { scaleOf } from "../page/room.js";
 import { nameOf, octal, range, two } from "../machine/places.js";
 import { JUMP, SKIP, WAITING, firstNot } from "../machine/moments.js";
 import { isQuiet } from "../machine/film.js";
 import { isOfDevice } from "../machine/origins.js";
 import { namesOf, select } from "./parts.js";
 
-const LABEL = 62, LEAST = 80, STRIPE = 4; // the width of names, in letters of 14 pixels, and of lanes; from stripe to stripe
+const STRIPE = 4; // from stripe to stripe
+const KNOB = 11; // pixels below the lanes for what shows the moment
 const MOST_LANES = { debug: 10, class: 10, projector: 5, phone: 4, all: 24 };
 const PARTS_OF_RUN = [0o10000, 0o1000, 0o100]; // how many moments can be seen at once, if not all
 const keptStills = keeper(), columnsOf = new WeakMap();
-
-// Moments and pixels.
-function scaleOf({ room, span: { from, to } }) {
-  const unit = room.unit || 1, left = Math.round(LABEL * unit), width = Math.max(LEAST, (room.timeline || 1200) - left - 8);
-  const pixel = (moment) => left + ((moment - from) / (to - from)) * width, has = (moment) => moment >= from && moment < to;
-  return { unit, left, width, from, to, pixel, has };
-}
-
-export function momentAt(state, x) {
-  const { left, from, to, width } = scaleOf(state);
-  return from + Math.floor(((x - left) / width) * (to - from));
-}
 
 function lanesOf(film) {
   const processors = film.processorLanes.map((lane, n) =>
@@ -138,7 +128,7 @@ export function timeline(state) {
   const left = shown.slice(lanes.length).map((one) => ({ ...one, quiet: "no room" }));
   const step = Math.max(allLanes ? 9 : 11, Math.min(17, Math.round(120 / (lanes.length + 2)))) * unit, high = step - 4 * unit;
   const top = 20 * unit;
-  const own = top + lanes.length * step, height = Math.ceil(own + (chosen ? step : 0) + 2), choice = chosen && chosen.name;
+  const own = top + lanes.length * step, height = Math.ceil(own + (chosen ? step : 0) + KNOB), choice = chosen && chosen.name;
   const yOf = (n) => Math.round(n < 0 ? 10 * unit : top + n * step + high / 2);
   const name = (text, y, className = "name") => h("text", { class: className, x: 0, y }, text);
   const still = () => h("g", name("script", 13 * unit), scriptMarks(film, s, height), skipMarks(film, s, height),
@@ -153,8 +143,8 @@ export function timeline(state) {
       "aria-valuemax": film.last,
       "aria-valuenow": film.at, "aria-valuetext": `turn ${octal(film.turn[film.at])}`, height, style: `height:${height}px` },
     keptStills(film, key, still), origin ? originMarks(state, s, lanes, yOf) : null,
-    s.has(film.at) ? h("g.head", h("path", { d: `M${x} 0V${height}` }),
-      h("path.knob", { d: `M${x - 5} 0h10v6l-5 5l-5-5z` })) : null),
+    s.has(film.at) ? h("g.head", h("path", { d: `M${x} ${16 * unit}V${height}` }),
+      h("path.knob", { d: `M${x - 5} ${height}h10v-5l-5 -5l-5 5z` })) : null),
     isPhone ? null : foot(state, quietText([...left, ...quiet])));
 }
 

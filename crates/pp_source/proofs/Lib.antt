@@ -1,0 +1,5 @@
+pub mod Columns
+pub mod Digits
+pub mod Filling
+pub mod Kept
+pub mod Walks
