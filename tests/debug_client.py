@@ -3,23 +3,20 @@
 import contextlib
 import functools
 import glob
-import io
 import json
 import os
 import queue
 import shutil
 import signal
 import subprocess
-import sys
 import tempfile
 import threading
 
 from tests.fixtures import DECK
 from tests.support import PATIENCE, PYTHON, TOP, Case, lasting_room, program, read
 
-from pp6600.failure import Failure
 from pp6600.front.debug.adapter import Adapter
-from pp6600.front.debug.protocol import Wire
+from pp6600.front.debug.protocol import Wire, opened
 
 ADAPTER = os.path.join(TOP, "tools", "debug-adapter")
 
@@ -39,63 +36,21 @@ def heed_signals():
         signal.signal(number, signal.SIG_DFL)
 
 
-class Here:
-    """An adapter in a thread of this process, with what a client needs of a process. The folder is that of the whole process."""
-
-    def __init__(self, log, folder):
-        os.environ["PP6600"] = program()
-        self.before, self.returncode, self.stderr = os.getcwd(), None, io.BytesIO()
-        os.chdir(folder)
-        streams, ends = (sys.stdin, sys.stdout), (*os.pipe(), *os.pipe())
-        sys.stdin, self.stdin, self.stdout, sys.stdout = (os.fdopen(end, mode) for end, mode in zip(ends, ("rb", "wb", "rb", "wb")))
-        own = sys.stdin, sys.stdout
-        self.wire = Wire(log)
-        sys.stdin, sys.stdout = streams
-        for stream in own:  # the adapter has copies
-            stream.close()
-        self.thread = threading.Thread(target=self.serve, daemon=True)
-        self.thread.start()
-
-    def serve(self):
-        status = 1  # after a fault of the adapter itself, which Python shows
-        try:
-            with contextlib.closing(Adapter(self.wire)) as adapter:
-                adapter.serve()
-            status = 0
-        except Failure as failure:
-            self.stderr, status = io.BytesIO(f"debug-adapter: {failure}\n".encode()), 2
-        finally:
-            os.close(self.wire.output)
-            for stream in filter(None, (self.wire.input, self.wire.log)):
-                stream.close()
-            self.returncode = status
-
-    def poll(self):
-        return self.returncode
-
-    def wait(self, timeout):
-        self.thread.join(timeout)
-        os.chdir(self.before)
-        return self.returncode
-
-
 class Client:
     """An adapter at the other end of pipes."""
 
     def __init__(self, *words, environment=None, before=(), folder=TOP):
         """Starts an adapter; other words may come before its name."""
-        self.begin(subprocess.Popen([*PYTHON, *before, ADAPTER, *words], stdin=subprocess.PIPE, cwd=folder,
-                                    stdout=subprocess.PIPE, stderr=subprocess.PIPE, preexec_fn=heed_signals,
-                                    env={**os.environ, "PP6600": program(), **(environment or {})}))
-
-    def begin(self, process):
-        self.process, self.held = process, b""
-        self.seq = 0
-        self.ended = None
-        self.messages, self.events = queue.Queue(), []
-        self.shown = []  # to the user, so far
+        self.begin()
+        self.process, self.held = subprocess.Popen(
+            [*PYTHON, *before, ADAPTER, *words], stdin=subprocess.PIPE, cwd=folder, stdout=subprocess.PIPE, stderr=subprocess.PIPE,
+            preexec_fn=heed_signals, env={**os.environ, "PP6600": program(), **(environment or {})}), b""
         self.listener = threading.Thread(target=self.listen, daemon=True)
         self.listener.start()
+
+    def begin(self):
+        self.seq, self.ended, self.messages, self.events = 0, None, queue.Queue(), []
+        self.shown = []  # to the user, so far
 
     def listen(self):
         while header := self.process.stdout.readline():
@@ -199,11 +154,47 @@ class Client:
         return self.ended
 
 
+class OwnWire(Wire):
+    """What an adapter of this process writes, for its client."""
+
+    def __init__(self, log, messages):
+        self.seq, self.is_gone, self.requests, self.messages = 0, False, queue.Queue(), messages
+        self.log, self.lock = opened(log) if log else None, threading.Lock()
+
+    def write(self, **message):
+        self.seq += 1
+        made = json.loads(json.dumps({"seq": self.seq, **message}))
+        self.note("<", made)
+        self.messages.put(made)
+
+
 class OwnClient(Client):
-    """An adapter in this process."""
+    """An adapter in this process, which does what is asked at once. The folder is that of the whole process."""
 
     def __init__(self, log=None, folder=TOP):
-        self.begin(Here(log, folder))
+        self.begin()
+        os.environ["PP6600"] = program()
+        self.before, self.adapter = os.getcwd(), Adapter(OwnWire(log, self.messages))
+        os.chdir(folder)
+
+    def write(self, data, is_held=False):
+        request = json.loads(data)
+        self.adapter.wire.note(">", request)
+        self.adapter.take(request)
+
+    def message(self):
+        if self.messages.empty():
+            raise EOFError("nothing more has come")
+        return super().message()
+
+    def end(self):
+        if not self.ended:
+            self.send("disconnect")
+            self.adapter.close()
+            self.adapter.wire.log and self.adapter.wire.log.close()
+            os.chdir(self.before)
+            self.ended = 0, ""
+        return self.ended
 
 
 class DebugCase(Case):

@@ -20,17 +20,9 @@ import tempfile
 # More than the requests of a whole run.
 CASES = 450
 
-REFUSALS = {
-    "Memory12::new": "NoMemory",
-    "Central::new": "NoMemory",
-    "Printer::new": "NoMemory",
-    "load_deck": "NoMemory",
-    "words": "AllocError",
-    "read_arguments": "NoMemory",
-    "the room for sessions": "AllocError",
-    "Rig::new": "NoMemory",
-    "Session::new": "Unmade",
-}
+REFUSALS = {"Memory12::new": "NoMemory", "Central::new": "NoMemory", "Printer::new": "NoMemory", "load_deck": "NoMemory",
+            "words": "AllocError", "read_arguments": "NoMemory", "the room for sessions": "AllocError", "Rig::new": "NoMemory",
+            "Session::new": "Unmade"}
 LAST = "the request after all scripts"
 
 

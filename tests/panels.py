@@ -70,10 +70,6 @@ class PanelCase(Case):
         for dump in dumps:
             self.assertEqual(wanted.session.simulator.ask(dump), panel.session.simulator.ask(dump), dump)
 
-    def wide_panel(self, script, *options, **how):
-        """Returns a panel with room for a whole message."""
-        return self.panel(script, *options, size=(160, 24), **how)
-
 
 FILES, BLOCKS = stored_blocks("panel.txt")
 FILES, BLOCKS = files_in(marked(LINE, FILES), {}), [(title, marked(LINE, lines)) for title, lines in BLOCKS]

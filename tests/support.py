@@ -150,6 +150,13 @@ def lasting_room():
     return folder
 
 
+def kept_room(name):
+    """Returns a folder of this user that stays, for what is not done again on this machine until it changes."""
+    folder = os.path.join(os.environ.get("XDG_CACHE_HOME") or os.path.expanduser("~/.cache"), name)
+    os.makedirs(folder, exist_ok=True)
+    return folder
+
+
 @functools.lru_cache(maxsize=None)
 def quick_path():
     """Returns a path of commands on which python3 starts sooner: without what is installed beside the standard library."""

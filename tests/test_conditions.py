@@ -95,6 +95,5 @@ class Conditions(Case):
         labels, texts = of_symbols(self.symbols)["labels"], [text for text, _ in self.rows]
         lines = in_node("condition_texts.js", self.file(json.dumps(labels).encode()), self.file(json.dumps(texts).encode()))
         found = [json.loads(line) for line in lines]
-        self.check([f"! {one['said']}" if "said"
-                    in one else " / ".join(" & ".join(shown_by_page(*test) for test in tests) for tests in one["tests"])
-                    for one in found])
+        self.check([f"! {one['said']}" if "said" in one else " / ".join(" & ".join(shown_by_page(*test) for test in tests)
+                                                                        for tests in one["tests"]) for one in found])

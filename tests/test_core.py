@@ -10,7 +10,7 @@ import shutil
 import subprocess
 import unittest
 
-from tests.support import TOP, Case, read, run
+from tests.support import TOP, Case, kept_room, read, run
 
 from pp6600.__main__ import MODULES
 from pp6600.shell import completions
@@ -45,7 +45,8 @@ with Session(history=5) as own:
 console.registers("0")
 """
         examples = glob.glob(os.path.join(TOP, "docs", "library", "*.py"))
-        done = run("mypy", "--cache-dir", self.path("cache"), "tools/pp6600", *examples, self.file(script.encode(), "script.py"))
+        words = "mypy", "--cache-dir", kept_room("pp6600-mypy"), "tools/pp6600"
+        done = run(*words, *examples, self.file(script.encode(), "script.py"))
         found = [line.partition("script.py:")[2] or line for line in done.out.splitlines()
                  if not line.startswith("Found 1 error in 1 file ")]
         self.assertEqual(['14: error: Argument 1 to "registers" of "Console" has incompatible type "str"; expected "int"  '

@@ -8,7 +8,6 @@ import unittest
 
 from tests.debug_client import HAS_GO, LOADER, DebugCase, Refusal
 from tests.debug_dialogue import FOLDER, Dialogue, cases, files, text_of
-from tests.fixtures import DECK
 from tests.steps import StepCase
 from tests.support import PATIENCE, add_tests, read
 
@@ -99,8 +98,7 @@ class BadHands(DebugCase):
                            (b"Content-Length: 1\r\n\r\n{", "is not JSON"),
                            (b'Content-Length: 13\r\n\r\n{"command":1}', "is not a request")):
             with self.subTest(data):
-                client = self.own_client()
-                client.launch(script=self.script(LOADER), deck=DECK)
+                client = self.loader()
                 folder = os.path.dirname(client.listing())
                 client.process.stdin.write(data)
                 client.process.stdin.close()

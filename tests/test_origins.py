@@ -62,12 +62,11 @@ FIELDS = [lambda n: n, lambda n: n & 0o7777, *[lambda n, part=part: n >> 12 * (4
           lambda n: n >> 36 & 0o777777, lambda n: n >> 6, lambda n: n & 0o77, lambda n: n, lambda n: n & 0o77, lambda n: n]
 MADE = [operand, lambda ns: sum(n << 12 * (4 - at) for at, n in enumerate(ns)), lambda ns: add(ns[0], operand(ns[1:])),
         lambda ns: subtract(ns[0], operand(ns[1:])), lambda ns: ns[0] ^ operand(ns[1:]), lambda ns: ns[0] & operand(ns[1:]),
-        lambda ns: ns[0] & ~ns[1], lambda ns: shifted(*ns), lambda ns: 0o777777 - ns[0], lambda ns: add(
-    ns[0], 1), lambda ns: subtract(ns[0], 1),
-        lambda ns: add(*ns) & 0o7777, lambda ns: add(ns[0], 1) & 0o7777, lambda ns: subtract(ns[0], 1) & 0o7777,
-        *[lambda ns, more=more: (ns[0] + more) & 0o7777 for more in (1, 2, 5)], lambda ns: relative(*ns), lambda ns: indexed(*ns),
-        lambda ns: (indexed(*ns) + 1) & 0o7777, lambda ns: (ns[0] + 1) & 0o777777, lambda ns: ns[0] - 1, lambda ns: ns[0]
-        + 1, lambda ns: ns[0] + 2,
+        lambda ns: ns[0] & ~ns[1], lambda ns: shifted(*ns), lambda ns: 0o777777 - ns[0], lambda ns: add(ns[0], 1),
+        lambda ns: subtract(ns[0], 1), lambda ns: add(*ns) & 0o7777, lambda ns: add(ns[0], 1) & 0o7777,
+        lambda ns: subtract(ns[0], 1) & 0o7777, *[lambda ns, more=more: (ns[0] + more) & 0o7777 for more in (1, 2, 5)],
+        lambda ns: relative(*ns), lambda ns: indexed(*ns), lambda ns: (indexed(*ns) + 1) & 0o7777,
+        lambda ns: (ns[0] + 1) & 0o777777, lambda ns: ns[0] - 1, lambda ns: ns[0] + 1, lambda ns: ns[0] + 2,
         lambda ns: (ns[0] + 1) % 10, NO_NUMBER, *[lambda ns, constant=constant: constant for constant in (0, 0, 1, 2, 3, 0o100)]]
 
 
