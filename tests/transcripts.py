@@ -28,15 +28,27 @@ MARK = "====\n"
 OUTPUT = "bin/output"  # of a tool, for what reads it
 # A tool with words that need no shell, on what some commands write, a file, the lines that follow or nothing; where its output
 # goes, or what reads it, and with it what it says; and whether its status is shown. Such a tool runs in the tests' own process.
-ALONE = re.compile(r"""(?:(printf\ '[^']*'(?:\ "[^"$`]*")*|echo\ [^|&;<>`$]*|\([^|&<>()]*\))\ \|\ )?
-                       tools/(?!panel|debug|talk\ .*--save)([\w-]+)((?:\ (?:[\w./:=,+@%-]+|'[^']*'))*)
+ALONE = re.compile(r"""(?:(printf\ '[^']*'(?:\ "[^"$`]*")*|echo\ [^|&;<>`$]*|\([^|&<>()]*\)|sed(?:\ '[^']*'|\ [\w-]+)+)\ \|\ )?
+                       tools/(?!panel|debug|talk\ .*--save)([\w-]+)((?:\ (?:[\w./:=,+@%\#-]+|'[^']*'))*)
                        (?:\ <([\w./-]+)|\ <<END\n((?:.*\n)*)END)?
-                       (?:\ >([\w.-]+)|(\ 2>&1)?\ \|\ ((?!.*tools/|.*PIPESTATUS).*))?(;\ echo\ \$\?)?""", re.X)
-ONE_BY_ONE = re.compile(r"; (?!echo \$\?)")  # between tools
+                       (?:(\ 2>&1)?\ >(/dev/null|[\w.-]+)|(\ 2>&1)?\ \|\ ((?!.*tools/|.*PIPESTATUS).*))?(;\ echo\ \$\?)?""", re.X)
+# Where a line is cut into commands: not in a text, in parentheses, or before a status.
+PARTS = re.compile(r"""((?:'[^']*'|"[^"]*"|\([^()'"]*\)|[^'"();]|;(?! )|; (?=echo \$\?))+)(?:; )?""")
+WHOLE = re.compile(r"\n|<<|&&|[\w ]\(\)|PIPESTATUS|\b(?:if|while|case|for|wait|trap)\b")  # what is not cut
+LOOP = re.compile(r"for (\w+) in ([\w.+ -]+); do (.*); done")
 DEFINED = re.compile(r"([a-z]+)\(\) \{ (.*); \}")  # a function of the shell
 GIVEN = re.compile(r"\$(\d)|\$\{(\d):-(\w+)\}")  # what it is given, or what it takes in its place
-OUTSIDE = re.compile(r"\.py|/dev/(?!null)")  # code or files of the tests' own process, and files without end
+OUTSIDE = re.compile(r"/dev/(?!null)")  # files without end
 LEAVES = re.compile(r"(?<!\()\b(?:cd|export) ")  # changes what a tool of this process would not see
+
+
+def parts_of(command):
+    """Returns the commands of a line, a loop over words as one for each; the line itself if it can't be cut."""
+    if loop := LOOP.fullmatch(command):
+        return [one for word in loop[2].split() for one in parts_of(loop[3].replace(f"${loop[1]}", word))]
+    found = list(PARTS.finditer(command))
+    is_cut = found and found[-1].end() == len(command) and not WHOLE.search(command)
+    return [one[1] for one in found] if is_cut and "".join(one[0] for one in found) == command else [command]
 
 
 class Shell:
@@ -53,11 +65,11 @@ class Shell:
         self.functions.update(DEFINED.findall(command))
         self.is_here &= not LEAVES.search(command)
         called = self.as_called(command)
-        found = [ALONE.fullmatch(called)]
-        found = found if found[0] else list(map(ALONE.fullmatch, ONE_BY_ONE.split(called)))
-        if all(found) and self.is_here and not OUTSIDE.search(command):
-            return "".join(self.performed_here(*one.groups()) for one in found)
-        return self.written(command).decode("utf-8", "replace")
+        parts = [called] if ALONE.fullmatch(called) else parts_of(called)
+        if not self.is_here or OUTSIDE.search(command) or not any(map(ALONE.fullmatch, parts)):
+            return self.written(command).decode("utf-8", "replace")
+        return "".join(self.performed_here(*found.groups()) if (found := ALONE.fullmatch(one))
+                       else self.written(one).decode("utf-8", "replace") for one in parts)
 
     def as_called(self, command):
         """Returns the command of a function that is called with these words, or else the command."""
@@ -67,14 +79,15 @@ class Shell:
         given = ["", *shlex.split(words), *[""] * 9]
         return GIVEN.sub(lambda mark: given[int(mark[1] or mark[2])] or mark[3] or "", self.functions[name])
 
-    def performed_here(self, source, name, words, path, typed, into, all_is_read, reader, shows_status):
+    def performed_here(self, source, name, words, path, typed, _, into, all_is_read, reader, shows_status):
         """Returns what a tool writes that runs in this process."""
         script = typed.encode() if typed else part(self.folder, path) if path else self.written(source) if source else b""
         done = tool_here(name, *shlex.split(words), script=script.decode("latin-1"), folder=self.folder,
                          is_one=bool(all_is_read) or not (into or reader))
         shown = done.out
         if into or reader:
-            write(os.path.join(self.folder, into or OUTPUT), done.out)
+            if into != os.devnull:
+                write(os.path.join(self.folder, into or OUTPUT), done.out)
             shown = done.err * (not all_is_read) + (self.written(f"{{ {reader}\n}} <{OUTPUT}").decode() if reader else "")
         return shown + (f"{done.status}\n" if shows_status else "")
 
