@@ -132,14 +132,21 @@ class Programs(Artefacts):
         self.check_ways(runner, artefact("pp6600-aarch64"))
 
     def test_node_command(self):
-        """The program of the package for Node, by the module. Node opens a closed stream to nowhere, so that no write to it
-        fails."""
+        """The program of the package for Node, by the module: all sessions in one process, and one in eight in a process of its own,
+        as are those in other ways. Node opens a closed stream to nowhere, so that no write to it fails."""
         node, folder = self.tool("node", "nodejs"), self.room()
         for path in (*glob.glob(os.path.join(TOP, "share", "nodejs", "*.mjs")), os.path.join(WEB, "engine", "library.mjs"),
-                     artefact("pp6600.wasm")):
+                     artefact("pp6600.wasm"), os.path.join(CLIENTS, "commands.mjs")):
             shutil.copy(path, folder)
         command, (sessions, wanted) = os.path.join(folder, "command.mjs"), all_sessions()
-        self.check_all("the package for Node", sessions, wanted, run_all(sessions, node, command))
+        paths = [write(self.path("sessions", f"{number}", name), data) for number, one in enumerate(sessions)
+                 for name, data in {**one.files, "its input": one.script}.items()]
+        given = [{"folder": os.path.dirname(path), "script": path, "words": one.words}
+                 for path, one in zip((path for path in paths if path.endswith("its input")), sessions)]
+        shown = run_tool(node, os.path.join(folder, "commands.mjs"), command, self.file(json.dumps(given)))
+        found = [(out.encode("latin-1"), err.encode("latin-1"), status) for out, err, status in json.loads(shown)]
+        self.check_all("the package for Node", sessions, wanted, found)
+        self.check_all("the package for Node", sessions[::8], wanted[::8], run_all(sessions[::8], node, command))
         self.check_ways(node, command, leaves_out=["closed-output"])
         words = [os.fsencode(word) for word in (node, command, "--deck")] + [b"\xff"]
         self.assertEqual(2, subprocess.run(words, stdin=subprocess.DEVNULL, capture_output=True, check=False).returncode)
