@@ -1,7 +1,7 @@
 //! Whether the rows are those of the lines of the source, in their order, up to the first line that may make, repeat, choose or move
 //! lines.
 ghost use Rattle.std.specs.Prelude.{◌≡◌, IsTrue, true};
-ghost use Rattle.pp_assembler.specs.Order.{begins_in_order, has_mark, is_begun, is_turn, turns};
+ghost use Rattle.pp_assembler.specs.Order.{begins_in_order, has_mark, is_begun, is_turn, may_be_else, turns};
 
 use crate::naming::{CALL, is_macro, is_one_of, is_synonym, operation_in};
 use crate::readings::read_line;
@@ -43,11 +43,20 @@ fn is_turn(words: &Vocabulary, line: &[u8]) -> bool
     }
 }
 
-/// Returns whether a row is of the line with an index, or of a line made from others, and has been performed.
-fn is_begun(lines: &Lines, index: usize, row: &Row) -> bool
-    ensures { result ≡ is_begun lines.now index row.now }
+/// Returns whether an operation may be an ELSE.
+fn may_be_else(words: &Vocabulary, word: &[u8]) -> bool
+    ensures { result ≡ may_be_else words.now word.now }
 {
-    row.is_performed && (row.statement == index || lines.own <= row.statement)
+    word == b"ELSE".as_slice() || is_synonym(words, word)
+}
+
+/// Returns whether a row is of the line with an index, or of a line made from others, and has been performed or may be an ELSE.
+fn is_begun(lines: &Lines, words: &Vocabulary, index: usize, row: &Row) -> bool
+    ensures { result ≡ is_begun lines.now words.now index row.now }
+{
+    let is_begun = row.is_performed
+        || may_be_else(words, operation_in(read_line(lines, row.statement)));
+    is_begun && (row.statement == index || lines.own <= row.statement)
 }
 
 /// Returns whether rows are those of the lines of the source, in their order, up to the first line that may make, repeat, choose or move
@@ -64,7 +73,7 @@ pub fn are_in_order(lines: &Lines, words: &Vocabulary, rows: &[Row]) -> bool
             return false;
         }
         if is_turn(words, read_line(lines, next)) {
-            return is_begun(lines, next, row);
+            return is_begun(lines, words, next, row);
         }
         if !row.is_performed || row.statement != next {
             return false;
