@@ -132,8 +132,8 @@ class Programs(Artefacts):
         self.check_ways(runner, artefact("pp6600-aarch64"))
 
     def test_node_command(self):
-        """The program of the package for Node, by the module: all sessions in one process, and one in eight in a process of its own,
-        as are those in other ways. Node opens a closed stream to nowhere, so that no write to it fails."""
+        """The program of the package for Node, by the module: all sessions in one process, and one in eight in its own, as those in
+        other ways. Node opens a closed stream to nowhere, so that no write to it fails."""
         node, folder = self.tool("node", "nodejs"), self.room()
         for path in (*glob.glob(os.path.join(TOP, "share", "nodejs", "*.mjs")), os.path.join(WEB, "engine", "library.mjs"),
                      artefact("pp6600.wasm"), os.path.join(CLIENTS, "commands.mjs")):

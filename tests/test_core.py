@@ -7,7 +7,6 @@ import os
 import re
 import runpy
 import shutil
-import subprocess
 import unittest
 
 from tests.support import TOP, Case, kept_room, read, run
@@ -54,9 +53,8 @@ console.registers("0")
 
     @unittest.skipUnless(shutil.which("ruff"), "ruff is not installed")
     def test_style(self):
-        done = subprocess.run(["ruff", "check", "--no-cache", "tools/pp6600/run"], cwd=TOP, capture_output=True, text=True,
-                              check=False)
-        self.assertEqual(0, done.returncode, done.stdout)
+        done = run("ruff", "check", "--no-cache", "tools/pp6600/run")
+        self.assertEqual(0, done.status, done.out)
 
     def test_launchers(self):
         """Each tool is a copy of the launcher, is a script of the package, and has a module. What makes is a link to it, and what

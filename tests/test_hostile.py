@@ -61,10 +61,12 @@ class Hostile(Case):
     @classmethod
     def infest(cls, folder, names):
         """Puts a module with each of these names into a folder, unless one is there."""
+        hostile = write(f"{cls.performed}.py", f"open({cls.performed!r}, 'a').write(__file__ + '\\n')\n")
+        os.makedirs(folder, exist_ok=True)
         for name in names:
             path = os.path.join(folder, f"{name}.py")
             if not os.path.lexists(path) and not os.path.isdir(path[:-len(".py")]):
-                write(path, f"open({cls.performed!r}, 'a').write(__file__ + '\\n')\n")
+                os.link(hostile, path)
 
     def tried(self, path, words, folder, script=""):
         """Runs a program in a folder. No hostile module may be performed. Returns what it did."""

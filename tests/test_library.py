@@ -2,6 +2,7 @@
 does, tests/test_artefacts.py tries; wrong options are in tests/test_engine.py."""
 
 import concurrent.futures
+import ctypes
 import functools
 import json
 import os
@@ -15,7 +16,7 @@ import unittest.mock
 from tests import library_calls, wrong_calls
 from tests.built import artefact
 from tests.generator import BUSY, Maker
-from tests.support import PATIENCE, PROVED, TOP, Case, blocks, program, read
+from tests.support import PATIENCE, PROVED, TOP, Case, blocks, program, read, run
 
 import pp6600
 from pp6600.engine import library
@@ -47,6 +48,11 @@ except library.Refused as refused:
     sessions.append(library.LibrarySession(history=200, central=32768))
     print(refused, len(sessions) > 2, list(map(numbers, sessions))[:-1] == before[1:])
 """
+
+
+def in_python(*words):
+    """Runs Python with the library and the package of the tools."""
+    return run(sys.executable, *words, env={"PYTHONPATH": os.path.join(TOP, "tools"), "PP6600_LIBRARY": os.path.abspath(PROVED)})
 
 
 @unittest.skipUnless(PROVED, "dist/libpp6600.so was not built")
@@ -99,7 +105,6 @@ class WrongHands(LibraryCase):
 
     def one_call(self, session, typed, room):
         """Returns the status of a call of answer, the bytes that it took, and those that it wrote."""
-        import ctypes  # pylint: disable=import-outside-toplevel
         into = ctypes.create_string_buffer(max(room, 1))
         found = [ctypes.c_size_t(), ctypes.c_size_t(), ctypes.c_uint32(), ctypes.c_uint32()]
         status = session.calls["answer"](typed, ctypes.c_size_t(len(typed)), into, ctypes.c_size_t(room), *map(ctypes.byref, found))
@@ -165,10 +170,7 @@ class WrongHands(LibraryCase):
 
     def test_little_memory(self):
         """When memory runs out, the other sessions are as they were, and one that is closed makes room for another."""
-        environment = {**os.environ, "PYTHONPATH": os.path.join(TOP, "tools"), "PP6600_LIBRARY": os.path.abspath(PROVED)}
-        done = subprocess.run([sys.executable, "-c", LITTLE_MEMORY], capture_output=True, text=True, check=False, timeout=PATIENCE,
-                              env=environment)
-        self.assertEqual(("pp6600: NO MEMORY True True\n", ""), (done.stdout, done.stderr))
+        self.assertEqual(("pp6600: NO MEMORY True True\n", "", 0), in_python("-c", LITTLE_MEMORY))
 
     def test_a_closed_session(self):
         session = self.open()
@@ -217,9 +219,8 @@ class RandomCalls(LibraryCase):
         """The module for browsers and Node does in each call what the library does."""
         node = shutil.which("node") or shutil.which("nodejs") or self.skipTest("node is missing")
         path = self.file("".join(f"{json.dumps(one)}\n" for one in traces()))
-        words = (node, os.path.join(TOP, "tests", "artefacts", "calls.js"), artefact("pp6600.wasm"), path)
-        done = subprocess.run(words, capture_output=True, text=True, check=True, timeout=PATIENCE)
-        self.assertGreater(int(done.stdout), 30 * SEQUENCES)
+        done = run(node, os.path.join(TOP, "tests", "artefacts", "calls.js"), artefact("pp6600.wasm"), path)
+        self.assertGreater(int(done.out), 30 * SEQUENCES, done.err)
 
     def test_slips_are_seen(self):
         for name in library_calls.SLIPS:
@@ -259,22 +260,17 @@ class InC(LibraryCase):
                         shared, "-o", target, f"-Wl,-rpath,{os.path.dirname(shared)}"], check=True, timeout=PATIENCE)
         return target
 
-    def run_under(self, *words):
-        return subprocess.run(words, capture_output=True, text=True, check=False, timeout=PATIENCE)
-
     def test_examples_run_and_leak_nothing(self):
         folder = os.path.join(TOP, "docs", "library")
         for name in ("assembler", "searches", "session", "statuses"):
             target = self.compiled(os.path.join(folder, f"{name}.c"))
-            done = self.run_under(target)
-            self.assertEqual((done.returncode, done.stderr), (0, ""))
-            self.assertEqual(done.stdout, read("docs", "library", f"{name}.txt"))
+            self.assertEqual((read("docs", "library", f"{name}.txt"), "", 0), run(target))
             if shutil.which("valgrind"):
-                checked = self.run_under("valgrind", "--error-exitcode=9", "--leak-check=full", target)
-                self.assertEqual(checked.returncode, 0, checked.stderr)
+                checked = run("valgrind", "--error-exitcode=9", "--leak-check=full", target)
+                self.assertEqual(0, checked.status, checked.err)
 
     def test_the_stack(self):
-        shown = self.run_under(self.compiled(os.path.join(TOP, "tests", "artefacts", "stack.c"))).stdout
+        shown = run(self.compiled(os.path.join(TOP, "tests", "artefacts", "stack.c"))).out
         self.assertEqual(len(STACKS), len(shown.split()))
         for used, most in zip(map(int, shown.split()), STACKS):
             self.assertTrue(0 < used <= most, shown)
@@ -285,14 +281,8 @@ class InC(LibraryCase):
         folder = os.path.join(TOP, "docs", "library")
         for name in ("last-writer.c", "hottest.py", "channel-log.mjs"):
             self.assertLessEqual(read("docs", "library", name).count("\n"), 30)
-        self.assertEqual(read("docs", "library", "last-writer.txt"),
-                         self.run_under(self.compiled(os.path.join(folder, "last-writer.c"))).stdout)
-        shown = self.in_python(os.path.join(folder, "hottest.py"))
-        self.assertEqual((read("docs", "library", "hottest.txt"), ""), (shown.stdout, shown.stderr))
-
-    def in_python(self, *words):
-        environment = {**os.environ, "PYTHONPATH": os.path.join(TOP, "tools"), "PP6600_LIBRARY": PROVED}
-        return subprocess.run(["python3", *words], capture_output=True, text=True, check=False, timeout=PATIENCE, env=environment)
+        self.assertEqual(read("docs", "library", "last-writer.txt"), run(self.compiled(os.path.join(folder, "last-writer.c"))).out)
+        self.assertEqual((read("docs", "library", "hottest.txt"), "", 0), in_python(os.path.join(folder, "hottest.py")))
 
     def test_searches_of_the_page(self):
         """Each row of the table is one condition, in C as in Python."""
@@ -308,11 +298,9 @@ class InC(LibraryCase):
         self.assertEqual(3, len(rows))
 
     def test_the_sessions_of_the_page(self):
-        (in_c,), (in_python,) = blocks("docs/LIBRARY.md", "c"), blocks("docs/LIBRARY.md", "python")
-        done = self.run_under(self.compiled(self.file(in_c.text, "page.c")))
-        script = "SET M 0 100 3410 0376\nSET P 0 100\nSTEP 50\nDUMP PP 0\n"
-        answers = subprocess.run([program()], input=script, capture_output=True, text=True, check=False, timeout=PATIENCE).stdout
-        self.assertEqual((done.returncode, done.stdout), (0, answers))
-        shown = self.in_python("-c", in_python.text)
-        self.assertEqual((shown.returncode, shown.stderr), (0, ""))
-        self.assertIn("TURNS 50 SLOT 00", shown.stdout)
+        (in_c,), (python,) = blocks("docs/LIBRARY.md", "c"), blocks("docs/LIBRARY.md", "python")
+        answers = run(program(), script="SET M 0 100 3410 0376\nSET P 0 100\nSTEP 50\nDUMP PP 0\n").out
+        self.assertEqual((answers, 0), run(self.compiled(self.file(in_c.text, "page.c")))[::2])
+        shown = in_python("-c", python.text)
+        self.assertEqual(("", 0), shown[1:])
+        self.assertIn("TURNS 50 SLOT 00", shown.out)

@@ -10,10 +10,9 @@ import glob
 import os
 import re
 import runpy
-import subprocess
 import sys
 
-from tests.support import TOP, Case, blocks, read
+from tests.support import TOP, Case, blocks, read, run
 
 PLACES = ("*.md", "docs/*.md", "crates/*/README.md", "targets/*.md", "examples/*.md", "exercises/*.md", "bench/*.md", "share/*.md")
 PAGES = sorted(os.path.relpath(path, TOP) for place in PLACES for path in glob.glob(os.path.join(TOP, place)))
@@ -185,9 +184,7 @@ class Pages(Case):
         for script in ("docs/proofs.py", "docs/card.py", "docs/definitions.py", "docs/drawings/draw.py", "docs/drawings/panel.py",
                        "share/colours"):
             with self.subTest(script):
-                done = subprocess.run([sys.executable, os.path.join(TOP, script), "--check"], capture_output=True, text=True,
-                                      check=False)
-                self.assertEqual(("", 0), (done.stdout + done.stderr, done.returncode))
+                self.assertEqual(("", "", 0), run(sys.executable, os.path.join(TOP, script), "--check"))
 
     def test_numbers_of_drawings(self):
         """The numbers of session.svg and turn.svg, which are kept as they are, are those of the program in tests/cases.txt."""
