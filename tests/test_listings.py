@@ -10,8 +10,8 @@ import os
 import random
 import re
 
-from .assembler_sources import listing
-from .support import TOP, Case, needs_library, read
+from .assembler_sources import listing, sections
+from .support import TOP, Case, add_tests, needs_library, read
 
 from pp6600.failure import Failure
 from pp6600.language.listing import Listing, ListingSymbols
@@ -186,23 +186,14 @@ class Errors(Case):
                                "          LJM    LAB", "          LDM    =5",
                                "          LDC    =H*ABCD*", "          CON    =7", "          END    START"], 0, 20)
 
-    def test_name_without_a_table(self):
-        """A name that the listing does not have, as one of the system's, is one number in all lines."""
-        lines = ["0100  5000 7501   START LDM  PPFW", "0102  5400 7501   STM  PPFW", "0104  7013        IAN  CH",
-                 "0105  7213        OAN  CH"]
-        self.assertEqual(6, len(self.words(lines)))
-        for number, wrong in ((1, "0102  5400 7502   STM  PPFW"), (3, "0105  7212        OAN  CH")):
-            with self.assertRaisesRegex(Failure, "the line has .*, and .* makes .*; .* is .*, as line . .decimal. says"):
-                self.words([*lines[:number], wrong, *lines[number + 1:]])
-
-
-    def test_without_names(self):
-        """A listing without any name is what the operands say."""
-        lines = ["0100 ORG 100", "0100 1405 LDN 5", "0101 3420 STD 20", "0102 0300 UJN *"]
-        self.assertEqual({0o100: 0o1405, 0o101: 0o3420, 0o102: 0o300}, self.words([" " * 5 + lines[0], *lines[1:]]))
-        for number, wrong in ((1, "0100 1406 LDN 5"), (2, "0101 3421 STD 20"), (3, "0102 0307 UJN *")):
-            with self.assertRaisesRegex(Failure, "the line has .*, and .* makes"):
-                self.words([*lines[:number], wrong, *lines[number + 1:]])
+    def check(self, cases):
+        """Checks the words of a listing, and what is said of it with each wrong line in its place."""
+        (lines, (words, *wrong)), = cases
+        self.assertEqual(words, " ".join(f"{word:04o}" for word in self.words(lines).values()))
+        for line, said in (one.split(" : ") for one in wrong):
+            number = int(said.split()[1])
+            with self.subTest(line), self.assertRaisesRegex(Failure, f"^{re.escape(said)}$"):
+                self.words([*lines[:number - 1], line, *lines[number:]])
 
     def test_literal_with_a_blank(self):
         self.check_each_digit(["          BASE   OCTAL", "          ORG    100", " START    LDC    =C*A B*",
@@ -217,14 +208,8 @@ class Errors(Case):
             with self.assertRaises(Failure):
                 self.words([line.replace("0100 0100", wrong) for line in lines])
 
-    def test_other_assemblers_begin_a_word_with_each_vfd(self):
-        lines = ["0100  0500      A  VFD  6/5", "0101  0600         VFD  6/6", "0102  0700         VFD  6/7",
-                 "0103  0300      B  UJN  *"]
-        self.assertEqual([0o500, 0o600, 0o700, 0o300], list(self.words(lines).values()))
-        for number, wrong in enumerate(
-            ("0100  0501      A  VFD  6/5", "0101  0601         VFD  6/6", "0102  0600         VFD  6/7")):
-            with self.assertRaises(Failure):
-                self.words([*lines[:number], wrong, *lines[number + 1:]])
+
+add_tests(Errors, Errors.check, sections("read-wrongly.txt").items())
 
 
 class Own(Case):
