@@ -58,8 +58,7 @@ class EditorCase(Case):
     def run_editor(self, *words, **how):
         """Runs an editor without a display in the folder of the test. Returns what it wrote into its file `out`."""
         run(*words, cwd=self.folder, env={"HOME": self.folder, "TERM": "dumb", "LC_ALL": "C.UTF-8", **how})
-        with open(self.path("out"), encoding="utf-8") as file:
-            return file.read().splitlines()
+        return read(self.path("out")).splitlines()
 
 
 @unittest.skipUnless(shutil.which("vim"), "vim is not there")

@@ -7,6 +7,7 @@ import unittest
 import zipfile
 from xml.etree import ElementTree
 
+from tests.cases import part
 from tests.debug_client import LOADER
 from tests.fixtures import DECK
 from tests.support import TOP, Case, program, read, run, write
@@ -127,8 +128,7 @@ class Extension(Case):
             done = run(os.path.join(TOP, "share", "vsix"), folder)
             path = os.path.join(folder, f"pp6600-debug-{PACKAGE['version']}.vsix")
             self.assertEqual((f"vsix: {path}\n", "", 0), done)
-            with open(path, "rb") as file:
-                made.append(file.read())
+            made.append(part(folder, os.path.basename(path)))
         self.assertEqual(*made)
         with zipfile.ZipFile(path) as archive:
             names = archive.namelist()

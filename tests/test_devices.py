@@ -4,7 +4,7 @@ import os
 import random
 import re
 
-from tests.cases import stored_blocks
+from tests.cases import part, stored_blocks
 from tests.support import EXAMPLES, PYTHON, Case, add_tests, program, read, run, write
 
 from pp6600 import Attached, Failure
@@ -98,8 +98,8 @@ class Blocks(DeviceCase):
         """Returns a device."""
         ring = "ring" if records.endswith("ring") else ""
         records, _, busy = records.partition(", busy ")
-        return {"card_reader": lambda: CardReader(records_of(records), channel=0o5, busy=busy
-                                                  or 0), "line_printer": lambda: LinePrinter(channel=0o5),
+        return {"card_reader": lambda: CardReader(records_of(records), channel=0o5, busy=busy or 0),
+                "line_printer": lambda: LinePrinter(channel=0o5),
                 "magnetic_tape": lambda: MagneticTape(records_of(records.removesuffix("ring").strip()), ring),
                 "console_display": lambda: ConsoleDisplay(*records.split()),
                 "paper_tape": lambda: PaperTape(records.encode(), 0o5)}[kind]()
@@ -179,8 +179,7 @@ class TapeFiles(Case):
     def test_read_and_written(self):
         path = self.path("tape")
         write_tape(path, self.BLOCKS)
-        with open(path, "rb") as file:
-            self.assertEqual(self.BYTES, file.read())
+        self.assertEqual(self.BYTES, part(self.folder, "tape"))
         self.assertEqual(self.BLOCKS, read_tape(path))
 
     def test_gaps_and_an_end_before_that_of_the_file(self):
@@ -314,8 +313,7 @@ class Examples(Case):
         done = run(*PYTHON, os.path.join(folder, script), program(), *words, self.path(name), script=read(folder, "stdin"),
                    cwd=folder)
         self.assertEqual((read(folder, "stdout"), "", 0), done)
-        with open(self.path(name), "rb") as file:
-            return file.read()
+        return part(self.folder, name)
 
     def test_picture(self):
         """The picture is that of the end: CDC 6600, PERIPHERAL PROCESSORS, KEY, three small lines, eight names and PP."""

@@ -8,7 +8,7 @@ import sys
 import sysconfig
 
 from tests.fixtures import GIVEN, WITH_SIMULATOR
-from tests.support import TOP, Case, add_tests, lasting_room, program, run, write
+from tests.support import TOP, Case, add_tests, lasting_room, program, read, run, write
 
 SCRIPT = write(os.path.join(lasting_room(), "script"), "STEP\n")
 SOLUTION = os.path.join(TOP, "exercises", "exchange", "solution")
@@ -79,8 +79,7 @@ class Hostile(Case):
     def performed_ones(self):
         if not os.path.exists(self.performed):
             return []
-        with open(self.performed, encoding="utf-8") as file:
-            found = file.read().splitlines()
+        found = read(self.performed).splitlines()
         os.remove(self.performed)
         return sorted(set(found))
 

@@ -5,7 +5,7 @@ import re
 import shutil
 import subprocess
 
-from tests.cases import examples, named
+from tests.cases import examples, named, part
 from tests.generator import Maker
 from tests.support import PATIENCE, Case, add_tests, program, read, write
 from tests.ways import CaseTests
@@ -44,8 +44,7 @@ add_tests(Listed, Listed.check, [(case.name, case) for case in examples() if cas
 class Compiled(Case):
     def test_the_compiler_has_put_a_turn_into_the_loops(self):
         """It drops inline(always) from a function that would grow very large, and says nothing; then STEP is 1.5 times as slow."""
-        with open(program(), "rb") as file:
-            names = file.read()
+        names = part("/", program())
         self.assertEqual([], [name for name in LOOPS if b"\0" + name + b"::" not in names])
         self.assertEqual([], [name for name in OF_A_TURN if b"\0" + name + b"\0" in names])
 

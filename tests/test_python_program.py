@@ -109,8 +109,7 @@ class Compared(Case):
 
     def test_words(self):
         """Words of the command line that random sessions have seldom."""
-        with open("script", "wb") as file:
-            file.write(b"SET A 0 1\nDUMP PP 0\n")
+        write(os.path.abspath("script"), b"SET A 0 1\nDUMP PP 0\n")
         for words in (["--", "script"], ["--", "--help"], ["--", "--"], ["--deck", "--", "script"], ["--deck=", "script"],
                       ["--help", b"\xff"], ["-help"], ["-hx"], ["-h="], ["-xh"], ["--help="], ["--history", "-h"],
                       [b"\xff", "--help"], ["script", "--", "script"], ["--history", "0" * 5000 + "7", "script"],
@@ -172,8 +171,7 @@ class Compared(Case):
     def test_lines_without_end(self):
         """A byte too many, and a line of a million bytes."""
         for size in (255, 256, 4095, 4096, 65535, 65536, 1000000):
-            with open("script", "wb") as file:
-                file.write(b"*" * size + b"\r\nSTEP\n" + b"*" * size + b"\r")
+            write(os.path.abspath("script"), b"*" * size + b"\r\nSTEP\n" + b"*" * size + b"\r")
             with self.subTest(size):
                 self.compare(size, [], "script")
 

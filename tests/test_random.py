@@ -15,7 +15,7 @@ import sys
 import unittest
 
 from tests.generator import WORDS, Maker, Session, kept, word_line
-from tests.support import Case, program
+from tests.support import Case, program, write
 
 from pp6600.engine.plain.lines import FORMS, PlainConsole
 from pp6600.engine.plain.instructions import INSTRUCTIONS
@@ -123,8 +123,7 @@ class RandomSessions(Case):
     def outcomes(self, session):
         """Returns of the program and of pp6600-python: the exit status, and the texts on standard error and output."""
         for name, data in session.all_files().items():
-            with open(name, 'wb') as file:
-                file.write(data)
+            write(os.path.abspath(name), data)
         with open('/dev/full', 'wb') as full:
             standard_input = os.open(session.standard_input, os.O_RDONLY)
             run = subprocess.run(
@@ -133,12 +132,12 @@ class RandomSessions(Case):
             os.close(standard_input)
         answers = []
 
-        def write(text):
+        def output(text):
             if session.output_fails and text:
                 raise OSError
             answers.append(text)
         try:
-            status, fault = run_python(session.words, session.standard_input, write, counted)
+            status, fault = run_python(session.words, session.standard_input, output, counted)
         except Exception as error:  # a fault of pp6600-python is a difference like any other
             status, fault = type(error).__name__, str(error)
         return (run.returncode, run.stderr.decode(), (run.stdout or b'').decode()), (status, fault, ''.join(answers))
