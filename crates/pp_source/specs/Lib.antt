@@ -1,3 +1,4 @@
+pub mod Index
 pub mod Names
 pub mod Numbers
 pub mod Scan

@@ -1,14 +1,12 @@
 -- Names, and what they stand for.
-use Rattle.std.specs.Prelude.{ℕ, zero, suc, ℤ, pos, ◌+◌, ◌*◌, ◌-◌, ◌%◌, ◌^◌, ◌==◌, ◌&&◌, ◌||◌, nat_le, not, Bool, true, false}
-use Rattle.std.specs.Prelude.{Option, Some, None, Result, Ok, Err, List, [], ◌∷◌, bit_xor, bytes_eq, codes, drop, fold, is_some, length, slice_get, take, if◌then◌else◌}
-use Rattle.std.specs.BTreeMap.{get_by}
+use Rattle.std.specs.Prelude.{ℕ, ℤ, pos, ◌+◌, ◌-◌, ◌==◌, ◌&&◌, ◌||◌, nat_le, not, Bool, false}
+use Rattle.std.specs.Prelude.{Option, Some, None, Result, Ok, Err, List, [], ◌∷◌, bytes_eq, codes, drop, is_some, length, option_and_then, slice_get, take, if◌then◌else◌}
 use Rattle.std.specs.List.{prefix_len}
-use Rattle.std.specs.Ordering.{nat_cmp}
 use Rattle.pp_decks.specs.Blanks.{is_among}
 use Rattle.pp_decks.specs.declared.spans.Span.{Span}
 use Rattle.pp_notation.specs.Columns.{between}
+use Rattle.pp_source.specs.Index.{last_where}
 use Rattle.pp_source.specs.declared.message.Stop.{Stop}
-use Rattle.pp_source.specs.declared.index.Index.{Index}
 use Rattle.pp_source.specs.declared.symbols.Definition.{Definition}
 use Rattle.pp_source.specs.declared.symbols.Symbol.{Symbol}
 use Rattle.pp_source.specs.declared.symbols.Symbols.{Symbols}
@@ -30,33 +28,6 @@ name_size (c ∷ text) = if begins_name c then Some (1 + prefix_len (λ d. not (
 
 -- ---- how symbols are found
 
--- The number of a name that is a prefix and what follows it.
-abbrev pub with_byte : ℕ → ℕ → ℕ
-with_byte number byte = bit_xor number byte * 1099511628211 % 2 ^ 64
-
-abbrev pub with_bytes : ℕ → List ℕ → ℕ
-with_bytes number bytes = fold with_byte number bytes
-
-unfoldable pub number_of_name : List ℕ → List ℕ → ℕ
-number_of_name prefix name = with_bytes (with_bytes 14695981039346656037 prefix) name
-
--- The last name with a number, and the one before another with its number.
-abbrev pub last_with : Index → ℕ → Option ℕ
-last_with index number = get_by (nat_cmp number) index.last
-
-abbrev pub flat : {A : Type 0} → Option (Option A) → Option A
-flat None = None
-flat (Some x) = x
-
-abbrev pub before : List (Option ℕ) → ℕ → Option ℕ
-before names at = flat (slice_get names at)
-
--- The first that passes a test, from a name on to those before it, of at most so many.
-unfoldable pub first_back : (ℕ → Bool) → List (Option ℕ) → ℕ → Option ℕ → Option ℕ
-first_back test names zero next = None
-first_back test names (suc n) None = None
-first_back test names (suc n) (Some at) = if test at then Some at else first_back test names n (before names at)
-
 -- A text that is kept.
 abbrev pub kept_text : Symbols → Span → List ℕ
 kept_text symbols span = between symbols.text.items span.first span.end
@@ -72,10 +43,9 @@ has_key symbols prefix name (Some symbol) = is_joined (kept_text symbols symbol.
 abbrev pub has_key_at : Symbols → List ℕ → List ℕ → ℕ → Bool
 has_key_at symbols prefix name at = has_key symbols prefix name (slice_get symbols.all.items at)
 
+-- Where the symbol is whose key is a prefix and a name: the last one of all.
 unfoldable pub index_of : Symbols → List ℕ → List ℕ → Option ℕ
-index_of symbols prefix name =
-    first_back (has_key_at symbols prefix name) symbols.index.before.items (length symbols.index.before.items)
-    (last_with symbols.index (number_of_name prefix name))
+index_of symbols prefix name = last_where (has_key_at symbols prefix name) (length symbols.all.items)
 
 abbrev pub symbol_at : Symbols → Option ℕ → Option Symbol
 symbol_at symbols None = None
@@ -115,6 +85,13 @@ meant_by symbols name (Some full) = symbol_of symbols [] full
 -- The symbol that a name means: with its qualifier, or else with the present one, or else without.
 unfoldable pub meant : Symbols → List ℕ → Option Symbol
 meant symbols name = meant_by symbols name (full_name name)
+
+-- What a name stands for by a line above, and whether that or the pass before has defined it.
+abbrev pub seen : Symbols → List ℕ → Option Definition
+seen symbols name = option_and_then (λ symbol. symbol.seen) (meant symbols name)
+
+abbrev pub is_named : Symbols → List ℕ → Bool
+is_named symbols name = is_some (seen symbols name) || is_some (option_and_then (λ symbol. symbol.before) (symbol_of symbols [] name))
 
 -- By lines above; by the pass before, if that may be and the name is not of SET; in passes before the last one a name may be 0.
 abbrev pub later_value : Bool → Bool → Option Definition → Option ℤ

@@ -1,5 +1,5 @@
 -- Letters, digits and blanks of a line.
-use Rattle.std.specs.Prelude.{ℕ, ◌+◌, ◌==◌, ◌&&◌, ◌||◌, nat_le, Bool, false, Option, Some, None, List, [], ◌∷◌, drop, take}
+use Rattle.std.specs.Prelude.{ℕ, ◌+◌, ◌==◌, ◌&&◌, ◌||◌, nat_le, Bool, false, Option, Some, None, List, [], ◌∷◌, drop, option_map, take}
 use Rattle.std.specs.List.{position, prefix_len}
 use Rattle.pp_decks.specs.Blanks.{is_among}
 
@@ -26,6 +26,10 @@ is_blank c = c == 32 || c == 9
 -- Where a symbol is in a text.
 abbrev pub index_of : ℕ → List ℕ → Option ℕ
 index_of symbol text = position (λ one. one == symbol) text
+
+-- The column of a symbol at or after a column.
+abbrev pub column_of : ℕ → List ℕ → ℕ → Option ℕ
+column_of symbol line from = option_map (λ distance. from + distance) (index_of symbol (drop from line))
 
 -- A text before an index, and behind it.
 abbrev pub cut_at : List ℕ → Option ℕ → List ℕ × Option (List ℕ)

@@ -1,6 +1,8 @@
 //! An index of names, by a number that is made of their bytes.
-ghost use Rattle.std.specs.Prelude.{◌≡◌, length};
-ghost use Rattle.pp_source.specs.Names.{before, last_with, number_of_name, with_bytes};
+ghost use Rattle.std.specs.Prelude.{◌≡◌, ℕ, ◌∷◌, ◌++◌, List, [], None, fold, is_ok, length, slice_index_or, if◌then◌else◌};
+ghost use Rattle.std.specs.BTreeMap.{get};
+ghost use Rattle.std.specs.Ordering.{nat_cmp};
+ghost use Rattle.pp_source.specs.Index.{IsIndex, number_of, with_byte};
 
 use std::alloc::{AllocError, Global};
 use std::collections::BTreeMap;
@@ -20,15 +22,15 @@ pub struct Index {
 }
 
 /// Returns the number of a name that is a prefix and what follows it.
-#[tactic(auto, unfolding(crate::specs::Names::number_of_name))]
+#[tactic(auto, unfolding(crate::specs::Index::number_of))]
 pub fn number_of_name(prefix: &[u8], rest: &[u8]) -> u64
-    ensures { result ≡ number_of_name prefix.now rest.now }
+    ensures { result ≡ number_of (prefix.now ++ rest.now) }
 {
     with_bytes(with_bytes(OFFSET, prefix), rest)
 }
 
 fn with_bytes(first: u64, bytes: &[u8]) -> u64
-    ensures { result ≡ with_bytes first bytes.now }
+    ensures { result ≡ fold with_byte first bytes.now }
 {
     let mut number = first;
     for byte in bytes {
@@ -38,7 +40,9 @@ fn with_bytes(first: u64, bytes: &[u8]) -> u64
 }
 
 impl Index {
-    pub fn new(alloc: Global) -> Self {
+    pub fn new(alloc: Global) -> Self
+        ensures { IsIndex [] result.last result.before.items }
+    {
         Index {
             last: BTreeMap::new(alloc),
             before: Vec::new(alloc),
@@ -46,13 +50,26 @@ impl Index {
     }
 
     /// Adds the next name, which has a number.
-    pub fn add(&mut self, number: u64) -> Result<(), AllocError> {
-        let before = self.last.insert(number, self.before.len())?;
-        Ok(self.before.push(before)?)
+    pub fn add(&mut self, number: u64) -> Result<(), AllocError>
+        ensures { (numbers : List ℕ) → IsIndex numbers self.old.last self.old.before.items →
+            IsIndex (if is_ok result then numbers ++ number ∷ [] else numbers) self.new.last self.new.before.items }
+    {
+        let at = self.before.len();
+        let before = self.last(number);
+        self.before.push(before)?;
+        match self.last.insert(number, at) {
+            Ok(_) => Ok(()),
+            Err(failed) => {
+                let _ = self.before.pop();
+                Err(failed.into())
+            }
+        }
     }
 
     /// Forgets all names.
-    pub fn clear(&mut self) {
+    pub fn clear(&mut self)
+        ensures { IsIndex [] self.new.last self.new.before.items }
+    {
         self.last.clear();
         self.before.clear();
     }
@@ -66,14 +83,14 @@ impl Index {
 
     /// Returns the last name with a number.
     pub fn last(&self, number: u64) -> Option<usize>
-        ensures { result ≡ last_with self.now number }
+        ensures { result ≡ get nat_cmp self.now.last number }
     {
         self.last.get(&number).copied()
     }
 
     /// Returns the name before another one that has the same number.
     pub fn before(&self, name: usize) -> Option<usize>
-        ensures { result ≡ before self.now.before.items name }
+        ensures { result ≡ slice_index_or self.now.before.items name None }
     {
         match self.before.get(name) {
             Some(before) => *before,

@@ -1,7 +1,7 @@
 //! Parts of a line: its blanks, words and digits.
 ghost use Rattle.std.specs.Prelude.{◌≡◌, ◌-◌, ◌<◌, ◌≤◌, ◌^◌, IfSome, length, min, option_map, take};
 ghost use Rattle.pp_notation.specs.Digits.{number_in};
-ghost use Rattle.pp_source.specs.Scan.{cut_at, digits_size, index_of, is_alphanumeric, is_blank};
+ghost use Rattle.pp_source.specs.Scan.{column_of, cut_at, digits_size, index_of, is_alphanumeric, is_blank};
 
 use pp_decks::tail;
 
@@ -53,9 +53,13 @@ pub fn after_blanks(line: &[u8], from: usize) -> usize {
 }
 
 /// Returns the column of a symbol at or after a column.
-pub fn find(line: &[u8], from: usize, symbol: u8) -> Option<usize> {
-    let distance = index_of(tail(line, from), symbol)?;
-    distance.checked_add(from)
+pub fn find(line: &[u8], from: usize, symbol: u8) -> Option<usize>
+    ensures { result ≡ column_of symbol line.now from }
+{
+    match index_of(tail(line, from), symbol) {
+        Some(distance) => Some(from + distance),
+        None => None,
+    }
 }
 
 /// Returns the index of the first one of a symbol.

@@ -1,17 +1,13 @@
 //! The names of a source: labels, and names of numbers.
-ghost use Rattle.std.specs.Prelude.{◌≡◌, ◌≤◌, IfSome, Some, length, not, option_map};
-ghost use Rattle.std.specs.List.{prefix_len};
-ghost use Rattle.pp_source.specs.Names.{begins_name, ends_name, full_name, has_key_at, index_of, is_joined, is_known, kept_text};
-ghost use Rattle.pp_source.specs.Names.{meant, name_size, name_value, prefix, symbol_of, value_in};
+ghost use Rattle.std.specs.Prelude.{◌≡◌, ◌<◌, IfSome, Some, length};
+ghost use Rattle.pp_source.specs.Index.{IsTable};
 
 use crate::index::{Index, number_of_name};
 use crate::message::{Argument, Fault, Field, Outcome, Stop};
+use crate::names::{full_name, is_joined, wrong_symbol};
 use crate::wordings::Wording;
-use pp_decks::{Span, tail};
+use pp_decks::Span;
 use std::alloc::{AllocError, Global};
-
-/// How many characters a symbol has.
-const LONGEST: usize = 8;
 
 /// What a name stands for. It has no value if its definition is wrong.
 #[derive(Clone, Copy, PartialEq, Eq, Default)]
@@ -61,6 +57,7 @@ pub struct Symbols {
     /// The qualifiers that QUAL names, the present one last, and their text: each between slashes.
     qualifiers: Vec<Span>,
     qualifier_text: Vec<u8>,
+    ghost indexed: { IsTable text.items all.items index.last index.before.items },
 }
 
 /// Where a name is looked up, the column of a message about it, and whether only names of the lines above count.
@@ -71,58 +68,9 @@ pub struct Place {
     pub is_from_above: bool,
 }
 
-/// Returns whether a name may begin with a symbol.
-fn begins_name(symbol: u8) -> bool
-    ensures { result ≡ begins_name symbol }
-{
-    symbol.is_ascii_uppercase() || b".#%@&!?<>[];\\':".contains(&symbol)
-}
-
-/// Returns whether a symbol ends a name.
-fn ends_name(symbol: u8) -> bool
-    ensures { result ≡ ends_name symbol }
-{
-    symbol.is_ascii_lowercase() || b"\t\n\x0b\x0c\r +-*/,^\"()_".contains(&symbol)
-}
-
-/// Returns how many symbols of a text are before one that ends a name.
-fn size_before_end(text: &[u8]) -> usize
-    ensures at_most { result ≤ length text.now }
-    ensures found { result ≡ prefix_len (λ d. not (ends_name d)) text.now }
-{
-    text.iter()
-        .take_while(|symbol| !ends_name(**symbol))
-        .count()
-}
-
-/// Returns how many symbols the name has that a text begins with, if it does.
-pub fn name_size(text: &[u8]) -> Option<usize>
-    ensures at_most { IfSome result (λ size. size ≤ length text.now) }
-    ensures found { result ≡ name_size text.now }
-{
-    match text {
-        [first, rest @ ..] if begins_name(*first) => Some(1 + size_before_end(rest)),
-        _ => None,
-    }
-}
-
-/// Returns the column after the name that begins at a column, if one does.
-pub fn end_of_name(text: &[u8], at: usize) -> Option<usize> {
-    name_size(tail(text, at))?.checked_add(at)
-}
-
-/// Returns what is wrong with a name as a symbol, if something is.
-fn wrong_symbol(name: &[u8]) -> Option<Wording> {
-    if end_of_name(name, 0) == Some(name.len()) {
-        return (name.len() > LONGEST).then_some(Wording::LongSymbol);
-    }
-    match name {
-        [b'$' | b'=' | b'0'..=b'9', ..] => Some(Wording::WrongFirstSymbol),
-        _ => Some(Wording::WrongSymbol),
-    }
-}
-
 impl Symbols {
+    ghost use Rattle.pp_source.specs.Names.{has_key_at, index_of, is_named, kept_text, meant, name_value, prefix, seen, symbol_of, value_in};
+
     pub fn new(alloc: Global) -> Self {
         Symbols {
             text: Vec::new(alloc),
@@ -148,32 +96,51 @@ impl Symbols {
         text.of(&self.text)
     }
 
+    /// Gives each name what it stands for in the pass before and in this one.
+    fn renew<F: FnMut(Symbol) -> (Option<Definition>, Option<Definition>)>(
+        &mut self,
+        mut meanings: F,
+    )
+        requires { F.IsAlwaysCallable meanings }
+    {
+        for at in 0..self.all.len() {
+            let Some(symbol) = self.all.get(at).copied() else {
+                return;
+            };
+            let (before, seen) = meanings(symbol);
+            self.all[at] = Symbol {
+                before,
+                seen,
+                ..symbol
+            };
+        }
+    }
+
     /// Begins the next pass.
     pub fn begin_pass(&mut self) {
-        for symbol in &mut self.all {
-            symbol.before = symbol.seen.take();
-        }
+        self.renew(|symbol| (symbol.seen, None));
         self.qualifiers.clear();
     }
 
     /// Ends a system text: the names that are known are those of a system.
     pub fn end_system(&mut self) {
-        for symbol in &mut self.all {
-            if let Some(seen) = &mut symbol.seen {
-                seen.is_system = true;
-            }
-        }
+        self.renew(|symbol| {
+            let seen = symbol.seen.map(|seen| Definition {
+                is_system: true,
+                ..seen
+            });
+            (symbol.before, seen)
+        });
         self.qualifiers.clear();
     }
 
     /// Begins the source. A name that it has itself, as the pass before has found, is no longer that of a system; but one of SET
     /// is, up to the first SET of the source.
     pub fn begin_source(&mut self) {
-        for symbol in &mut self.all {
-            if matches!(symbol.before, Some(own) if !own.is_system && !own.is_set) {
-                symbol.seen = None;
-            }
-        }
+        self.renew(|symbol| match symbol.before {
+            Some(own) if !own.is_system && !own.is_set => (symbol.before, None),
+            _ => (symbol.before, symbol.seen),
+        });
     }
 
     /// Returns whether each name stands for the same as in the pass before.
@@ -252,9 +219,10 @@ impl Symbols {
     }
 
     /// Returns the index of the symbol whose key is a name after a prefix.
-    #[tactic(auto, unfolding(crate::specs::Names::index_of), using(crate::proofs::Walks::walks))]
+    #[tactic(auto, unfolding(crate::specs::Names::index_of))]
     fn index_of(&self, prefix: &[u8], name: &[u8]) -> Option<usize>
-        ensures { result ≡ index_of self.now prefix.now name.now }
+        ensures found { result ≡ index_of self.now prefix.now name.now }
+        ensures within { IfSome result (λ at. at < length self.now.all.items) }
     {
         let mut next = self.index.last(number_of_name(prefix, name));
         for _turn in 0..self.index.len() {
@@ -292,7 +260,9 @@ impl Symbols {
     }
 
     /// Returns whether a line above or the pass before has defined a name.
-    pub fn is_named(&self, name: &[u8]) -> bool {
+    pub fn is_named(&self, name: &[u8]) -> bool
+        ensures { result ≡ is_named self.now name.now }
+    {
         self.seen(name).is_some()
             || matches!(self.symbol(b"", name), Some(symbol) if symbol.before.is_some())
     }
@@ -303,19 +273,20 @@ impl Symbols {
         if let Some(text) = wrong_symbol(name) {
             return Err(Stop::of(text, field));
         }
-        let Some(index) = self.index_of(self.prefix(), name) else {
+        let Some(at) = self.index_of(self.prefix(), name) else {
             return self.add(name, definition);
         };
-        let Some(symbol) = self.all.get_mut(index) else {
-            return Ok(());
-        };
+        let symbol = self.all[at];
         if let Some(old) = symbol.seen
             && !(definition.is_set && old.is_set || old.is_system)
         {
             let fault = Fault::new(Wording::DefinedTwice);
             return Err(fault.part(field).decimal(old.line).at(field.first));
         }
-        symbol.seen = Some(definition);
+        self.all[at] = Symbol {
+            seen: Some(definition),
+            ..symbol
+        };
         Ok(())
     }
 
@@ -324,18 +295,31 @@ impl Symbols {
         let first = self.text.len();
         let qualifier = self.qualifiers.last().copied().unwrap_or_default();
         let prefix = qualifier.of(&self.qualifier_text);
-        self.index.add(number_of_name(prefix, name))?;
+        let number = number_of_name(prefix, name);
         self.text.extend_from_slice(prefix)?;
+        self.text.extend_from_slice(name)?;
         let symbol = Symbol {
-            key: Span::new(first, self.keep(name)?.end),
+            key: Span {
+                first,
+                end: self.text.len(),
+            },
             before: None,
             seen: Some(definition),
         };
-        Ok(self.all.push(symbol)?)
+        self.all.push(symbol)?;
+        match self.index.add(number) {
+            Ok(()) => Ok(()),
+            Err(failed) => {
+                let _ = self.all.pop();
+                Err(failed.into())
+            }
+        }
     }
 
     /// Returns what a name stands for by a line above.
-    pub fn seen(&self, name: &[u8]) -> Option<Definition> {
+    pub fn seen(&self, name: &[u8]) -> Option<Definition>
+        ensures { result ≡ seen self.now name.now }
+    {
         self.meant(name)?.seen
     }
 
@@ -367,31 +351,12 @@ impl Symbols {
 }
 
 impl Symbol {
+    ghost use Rattle.pp_source.specs.Names.{is_known};
+
     /// Returns whether this pass or the one before has met the name.
     pub fn is_known(&self) -> bool
         ensures { result ≡ is_known self.now }
     {
         self.seen.is_some() || self.before.is_some()
-    }
-}
-
-/// Returns whether a text is a name after a prefix.
-fn is_joined(text: &[u8], prefix: &[u8], name: &[u8]) -> bool
-    ensures { result ≡ is_joined text.now prefix.now name.now }
-{
-    match text.split_at_checked(prefix.len()) {
-        Some((first, rest)) => first == prefix && rest == name,
-        None => false,
-    }
-}
-
-/// Returns the key of a name that is written in full, with its qualifier, or // before it if it has none.
-fn full_name(name: &[u8]) -> Option<&[u8]>
-    ensures { option_map (λ x. x.now) result ≡ full_name name.now }
-{
-    match name {
-        [b'/', b'/', rest @ ..] => Some(rest),
-        [b'/', ..] => Some(name),
-        _ => None,
     }
 }
