@@ -10,9 +10,11 @@ ghost use Rattle.std.specs.List.{range_with_len};
 ghost use Rattle.std.specs.Prelude.{◌≡◌, ◌+◌, ◌%◌, ◌<◌, ◌≤◌, ◌++◌, ◌∷◌, [], if◌then◌else◌, length, nat_lt, take};
 
 use crate::links::{put, put_constant, whole};
-use crate::origin::{Field, Link, Operation, Read, constant};
+use crate::origin::Operation::{self, *};
+use crate::origin::{Field, Link, Read, constant};
 use crate::situation::Situation;
-use pp_machine::{CHANNELS, ChannelState, Place};
+use pp_machine::ChannelState::{self, *};
+use pp_machine::{CHANNELS, Place};
 use pp_step::Code::{self, *};
 
 /// The most links of a step: those of an exchange (decimal).
@@ -188,9 +190,9 @@ fn branch(taken: bool, c: &Situation, links: &mut [Link], used: usize) -> usize
 {
     if taken {
         let place = Place::RegP { pp: c.pp };
-        put(place, Operation::Relative, &[p(c), d(c)], links, used)
+        put(place, Relative, &[p(c), d(c)], links, used)
     } else {
-        advance(Operation::After1, c, links, used)
+        advance(After1, c, links, used)
     }
 }
 
@@ -201,15 +203,9 @@ fn test(taken: bool, c: &Situation, links: &mut [Link], used: usize) -> usize
     ensures at_most { result ≤ used + 2 }
 {
     if taken {
-        put(
-            Place::RegP { pp: c.pp },
-            Operation::Moved,
-            &[m(c)],
-            links,
-            used,
-        )
+        put(Place::RegP { pp: c.pp }, Moved, &[m(c)], links, used)
     } else {
-        advance(Operation::After2, c, links, used)
+        advance(After2, c, links, used)
     }
 }
 
@@ -278,7 +274,7 @@ fn output(
     let used = advance(next, c, links, used);
     let used = put_state(state, c, links, used);
     let place = Place::ChannelWord { c: c.d };
-    put(place, Operation::Moved, &[read], links, used)
+    put(place, Moved, &[read], links, used)
 }
 
 /// Writes how a channel gets its state, or nothing of a wait.
@@ -296,7 +292,7 @@ fn activity(
     if !ready {
         return used;
     }
-    let used = advance(Operation::After1, c, links, used);
+    let used = advance(After1, c, links, used);
     put_state(state, c, links, used)
 }
 
@@ -306,19 +302,11 @@ fn input(c: &Situation, links: &mut [Link], used: usize) -> usize
     ensures items { take result links.new ≡ take used links.old ++ links_of (spec.input c.now) }
     ensures at_most { result ≤ used + 5 }
 {
-    let next = Operation::After1;
     if c.d == CHANNELS {
-        load(
-            next,
-            Operation::Moved,
-            &[whole(Place::Clock)],
-            c,
-            links,
-            used,
-        )
-    } else if is_in(ChannelState::Full, c) {
-        let used = load(next, Operation::Moved, &[register(c)], c, links, used);
-        put_state(ChannelState::Empty, c, links, used)
+        load(After1, Moved, &[whole(Place::Clock)], c, links, used)
+    } else if is_in(Full, c) {
+        let used = load(After1, Moved, &[register(c)], c, links, used);
+        put_state(Empty, c, links, used)
     } else {
         used
     }
@@ -332,16 +320,15 @@ fn issue(is_counted: bool, c: &Situation, links: &mut [Link], used: usize) -> us
     ensures at_most { result ≤ used + 4 }
 {
     let pp = c.pp;
-    let moved = Operation::Moved;
-    let used = put(Place::RegP { pp }, moved, &[m(c)], links, used);
+    let used = put(Place::RegP { pp }, Moved, &[m(c)], links, used);
     let used = if is_counted {
-        put(Place::RegQ { pp }, moved, &[cell_d(c)], links, used)
+        put(Place::RegQ { pp }, Moved, &[cell_d(c)], links, used)
     } else {
         used
     };
-    let used = put(Place::Phase { pp }, moved, &[word(c)], links, used);
+    let used = put(Place::Phase { pp }, Moved, &[word(c)], links, used);
     let place = Place::Cell { pp, a: 0 };
-    put(place, Operation::After1, &[p(c)], links, used)
+    put(place, After1, &[p(c)], links, used)
 }
 
 // ---- central memory
@@ -365,9 +352,9 @@ fn put_part(
             place: Place::Central { a: address },
             field,
         };
-        put(place, Operation::Moved, &[read], links, used)
+        put(place, Moved, &[read], links, used)
     } else {
-        put_constant(place, Operation::NoWord, links, used)
+        put_constant(place, NoWord, links, used)
     }
 }
 
@@ -408,13 +395,7 @@ pub fn put_joined(address: u16, c: &Situation, links: &mut [Link], used: usize) 
         whole(nth_cell(address, 3, c)),
         whole(nth_cell(address, 4, c)),
     ];
-    put(
-        Place::Central { a: c.a },
-        Operation::Joined,
-        &reads,
-        links,
-        used,
-    )
+    put(Place::Central { a: c.a }, Joined, &reads, links, used)
 }
 
 /// Writes how the frame words get those of central memory.
@@ -455,13 +436,7 @@ fn put_words(c: &Situation, links: &mut [Link], used: usize) -> usize
         let address = central_after(c.a, i);
         if address < c.size {
             let frame = whole(Place::FrameWord { i });
-            end = put(
-                Place::Central { a: address },
-                Operation::Moved,
-                &[frame],
-                links,
-                end,
-            );
+            end = put(Place::Central { a: address }, Moved, &[frame], links, end);
         }
     }
     end
@@ -473,7 +448,7 @@ fn exchange(c: &Situation, links: &mut [Link], used: usize) -> usize
     ensures items { take result links.new ≡ take used links.old ++ links_of (spec.exchange c.now) }
     ensures at_most { result ≤ used + MOST_LINKS }
 {
-    let used = advance(Operation::After1, c, links, used);
+    let used = advance(After1, c, links, used);
     let used = put_frame(c, links, used);
     put_words(c, links, used)
 }
@@ -490,130 +465,17 @@ fn with_cell(code: Code, next: Operation, c: &Situation, links: &mut [Link], use
     ensures at_most { result ≤ used + 5 }
 {
     match code {
-        Ldd | Ldi | Ldm => load(next, Operation::Moved, &[x(c)], c, links, used),
-        Add | Adi | Adm => load(next, Operation::Sum, &[a(c), x(c)], c, links, used),
-        Sbd | Sbi | Sbm => load(next, Operation::Difference, &[a(c), x(c)], c, links, used),
-        Lmd | Lmi | Lmm => {
-            load(
-                next,
-                Operation::LogicalDifference,
-                &[a(c), x(c)],
-                c,
-                links,
-                used,
-            )
-        }
+        Ldd | Ldi | Ldm => load(next, Moved, &[x(c)], c, links, used),
+        Add | Adi | Adm => load(next, Sum, &[a(c), x(c)], c, links, used),
+        Sbd | Sbi | Sbm => load(next, Difference, &[a(c), x(c)], c, links, used),
+        Lmd | Lmi | Lmm => load(next, LogicalDifference, &[a(c), x(c)], c, links, used),
         Std | Sti | Stm => {
             let used = advance(next, c, links, used);
-            put(operand_cell(c), Operation::Moved, &[low_a(c)], links, used)
+            put(operand_cell(c), Moved, &[low_a(c)], links, used)
         }
-        Rad | Rai | Ram => {
-            let reads = [a(c), x(c)];
-            replace(
-                next,
-                Operation::Sum,
-                Operation::LowSum,
-                &reads,
-                c,
-                links,
-                used,
-            )
-        }
-        Aod | Aoi | Aom => {
-            let low = Operation::LowOneMore;
-            replace(next, Operation::OneMore, low, &[x(c)], c, links, used)
-        }
-        Sod | Soi | Som => {
-            let low = Operation::LowOneLess;
-            replace(next, Operation::OneLess, low, &[x(c)], c, links, used)
-        }
-        _ => unreachable!(),
-    }
-}
-
-/// Writes the links of an instruction with a channel, 64 to 77.
-fn with_channel(code: Code, c: &Situation, links: &mut [Link], used: usize) -> usize
-    requires from_64 { 0o64 ≤ number_of code }
-    requires room { used + 5 ≤ length links.old }
-    ensures items { take result links.new ≡ take used links.old ++ links_of ((spec.row_of (number_of code)).origins c.now) }
-    ensures at_most { result ≤ used + 5 }
-{
-    let next = Operation::After1;
-    match code {
-        Ajm => test(is_active(c), c, links, used),
-        Ijm => test(!is_active(c), c, links, used),
-        Fjm => test(is_full(c), c, links, used),
-        Ejm => test(!is_full(c), c, links, used),
-        Ian => input(c, links, used),
-        Iam | Oam => issue(false, c, links, used),
-        Oan => output(
-            ChannelState::Empty,
-            next,
-            ChannelState::Full,
-            low_a(c),
-            c,
-            links,
-            used,
-        ),
-        Acn => {
-            let ready = is_in(ChannelState::Inactive, c);
-            activity(ready, ChannelState::Empty, c, links, used)
-        }
-        Dcn if c.d == CHANNELS => advance(next, c, links, used),
-        Dcn => activity(is_active(c), ChannelState::Inactive, c, links, used),
-        Fan => {
-            let state = ChannelState::Function;
-            output(
-                ChannelState::Inactive,
-                next,
-                state,
-                low_a(c),
-                c,
-                links,
-                used,
-            )
-        }
-        Fnc => {
-            let state = ChannelState::Function;
-            output(
-                ChannelState::Inactive,
-                Operation::After2,
-                state,
-                m(c),
-                c,
-                links,
-                used,
-            )
-        }
-        _ => unreachable!(),
-    }
-}
-
-/// Writes the links of an instruction without an operand in a cell that combines A with d, or with d and m, 10 to 23.
-fn with_constant(code: Code, c: &Situation, links: &mut [Link], used: usize) -> usize
-    requires from_10 { 0o10 ≤ number_of code }
-    requires to_23 { number_of code ≤ 0o23 }
-    requires room { used + 4 ≤ length links.old }
-    ensures items { take result links.new ≡ take used links.old ++ links_of ((spec.row_of (number_of code)).origins c.now) }
-    ensures at_most { result ≤ used + 4 }
-{
-    let one = Operation::After1;
-    let two = Operation::After2;
-    let a_and_d = [a(c), d(c)];
-    let a_and_dm = [a(c), d(c), m(c)];
-    match code {
-        Shn => load(one, Operation::Shifted, &a_and_d, c, links, used),
-        Lmn => load(one, Operation::LogicalDifference, &a_and_d, c, links, used),
-        Lpn => load(one, Operation::LogicalProduct, &a_and_d, c, links, used),
-        Scn => load(one, Operation::Cleared, &a_and_d, c, links, used),
-        Ldn => load(one, Operation::Moved, &[d(c)], c, links, used),
-        Lcn => load(one, Operation::Complement, &[d(c)], c, links, used),
-        Adn => load(one, Operation::Sum, &a_and_d, c, links, used),
-        Sbn => load(one, Operation::Difference, &a_and_d, c, links, used),
-        Ldc => load(two, Operation::Moved, &[d(c), m(c)], c, links, used),
-        Adc => load(two, Operation::Sum, &a_and_dm, c, links, used),
-        Lpc => load(two, Operation::LogicalProduct, &a_and_dm, c, links, used),
-        Lmc => load(two, Operation::LogicalDifference, &a_and_dm, c, links, used),
+        Rad | Rai | Ram => replace(next, Sum, LowSum, &[a(c), x(c)], c, links, used),
+        Aod | Aoi | Aom => replace(next, OneMore, LowOneMore, &[x(c)], c, links, used),
+        Sod | Soi | Som => replace(next, OneLess, LowOneLess, &[x(c)], c, links, used),
         _ => unreachable!(),
     }
 }
@@ -625,7 +487,7 @@ fn cells_to_word(c: &Situation, links: &mut [Link], used: usize) -> usize
         ++ links_of ((Place.RegP c.now.pp, spec.next1 c.now) ∷ (Place.Central c.now.a, spec.joined c.now.d c.now) ∷ []) }
     ensures at_most { result ≤ used + 6 }
 {
-    let used = advance(Operation::After1, c, links, used);
+    let used = advance(After1, c, links, used);
     put_joined(u16::from(c.d), c, links, used)
 }
 
@@ -640,26 +502,7 @@ fn cells_to_central(c: &Situation, links: &mut [Link], used: usize) -> usize
     if c.a < c.size {
         cells_to_word(c, links, used)
     } else {
-        advance(Operation::After1, c, links, used)
-    }
-}
-
-/// Writes the links of an instruction that moves central words, 60 to 63.
-fn with_central(code: Code, c: &Situation, links: &mut [Link], used: usize) -> usize
-    requires from_60 { 0o60 ≤ number_of code }
-    requires to_63 { number_of code ≤ 0o63 }
-    requires room { used + 6 ≤ length links.old }
-    ensures items { take result links.new ≡ take used links.old ++ links_of ((spec.row_of (number_of code)).origins c.now) }
-    ensures at_most { result ≤ used + 6 }
-{
-    match code {
-        Crd => {
-            let used = advance(Operation::After1, c, links, used);
-            put_five(u16::from(c.d), c, links, used)
-        }
-        Cwd => cells_to_central(c, links, used),
-        Crm | Cwm => issue(true, c, links, used),
-        _ => unreachable!(),
+        advance(After1, c, links, used)
     }
 }
 
@@ -672,20 +515,8 @@ fn return_jump(c: &Situation, links: &mut [Link], used: usize) -> usize
     ) ∷ (Place.Cell c.now.pp c.now.address, spec.next2 c.now) ∷ []) }
     ensures at_most { result ≤ used + 3 }
 {
-    let place = Place::RegP { pp: c.pp };
-    if c.d == 0 {
-        let used = put(place, Operation::After1, &[m(c)], links, used);
-        put(operand_cell(c), Operation::After2, &[p(c)], links, used)
-    } else {
-        let used = put(
-            place,
-            Operation::AfterIndexed,
-            &[m(c), cell_d(c)],
-            links,
-            used,
-        );
-        put(operand_cell(c), Operation::After2, &[p(c)], links, used)
-    }
+    let used = indexed(After1, AfterIndexed, c, links, used);
+    put(operand_cell(c), After2, &[p(c)], links, used)
 }
 
 /// Writes the links of an instruction into a slice, behind the first `used` that are there. Returns how many are there then.
@@ -695,16 +526,28 @@ pub fn put_row(code: Code, c: &Situation, links: &mut [Link], used: usize) -> us
     ensures at_most { result ≤ used + MOST_LINKS }
 {
     match code {
-        Psn | Psn24 | Psn25 => advance(Operation::After1, c, links, used),
-        Ljm => indexed(Operation::Moved, Operation::Indexed, c, links, used),
+        Psn | Psn24 | Psn25 => advance(After1, c, links, used),
+        Ljm => indexed(Moved, Indexed, c, links, used),
         Rjm => return_jump(c, links, used),
         Ujn => branch(true, c, links, used),
         Zjn => branch(c.a == 0, c, links, used),
         Njn => branch(c.a != 0, c, links, used),
         Pjn => branch(c.a < SIGN, c, links, used),
         Mjn => branch(c.a >= SIGN, c, links, used),
-        Shn | Lmn | Lpn | Scn | Ldn | Lcn | Adn | Sbn | Ldc | Adc | Lpc | Lmc => {
-            with_constant(code, c, links, used)
+        Shn => load(After1, Shifted, &[a(c), d(c)], c, links, used),
+        Lmn => load(After1, LogicalDifference, &[a(c), d(c)], c, links, used),
+        Lpn => load(After1, LogicalProduct, &[a(c), d(c)], c, links, used),
+        Scn => load(After1, Cleared, &[a(c), d(c)], c, links, used),
+        Ldn => load(After1, Moved, &[d(c)], c, links, used),
+        Lcn => load(After1, Complement, &[d(c)], c, links, used),
+        Adn => load(After1, Sum, &[a(c), d(c)], c, links, used),
+        Sbn => load(After1, Difference, &[a(c), d(c)], c, links, used),
+        Ldc => load(After2, Moved, &[d(c), m(c)], c, links, used),
+        Adc => load(After2, Sum, &[a(c), d(c), m(c)], c, links, used),
+        Lpc => load(After2, LogicalProduct, &[a(c), d(c), m(c)], c, links, used),
+        Lmc => {
+            let reads = [a(c), d(c), m(c)];
+            load(After2, LogicalDifference, &reads, c, links, used)
         }
         Exn => exchange(c, links, used),
         Rpn => {
@@ -712,30 +555,28 @@ pub fn put_row(code: Code, c: &Situation, links: &mut [Link], used: usize) -> us
                 place: Place::FrameWord { i: 0 },
                 field: Field::ProgramAddress,
             };
-            load(Operation::After1, Operation::Moved, &[read], c, links, used)
+            load(After1, Moved, &[read], c, links, used)
         }
-        Ldd
-        | Add
-        | Sbd
-        | Lmd
-        | Std
-        | Rad
-        | Aod
-        | Sod
-        | Ldi
-        | Adi
-        | Sbi
-        | Lmi
-        | Sti
-        | Rai
-        | Aoi
-        | Soi => with_cell(code, Operation::After1, c, links, used),
-        Ldm | Adm | Sbm | Lmm | Stm | Ram | Aom | Som => {
-            with_cell(code, Operation::After2, c, links, used)
+        Ldd | Add | Sbd | Lmd | Std | Rad | Aod | Sod => with_cell(code, After1, c, links, used),
+        Ldi | Adi | Sbi | Lmi | Sti | Rai | Aoi | Soi => with_cell(code, After1, c, links, used),
+        Ldm | Adm | Sbm | Lmm | Stm | Ram | Aom | Som => with_cell(code, After2, c, links, used),
+        Crd => {
+            let used = advance(After1, c, links, used);
+            put_five(u16::from(c.d), c, links, used)
         }
-        Crd | Crm | Cwd | Cwm => with_central(code, c, links, used),
-        Ajm | Ijm | Fjm | Ejm | Ian | Iam | Oan | Oam | Acn | Dcn | Fan | Fnc => {
-            with_channel(code, c, links, used)
-        }
+        Crm | Cwm => issue(true, c, links, used),
+        Cwd => cells_to_central(c, links, used),
+        Ajm => test(is_active(c), c, links, used),
+        Ijm => test(!is_active(c), c, links, used),
+        Fjm => test(is_full(c), c, links, used),
+        Ejm => test(!is_full(c), c, links, used),
+        Ian => input(c, links, used),
+        Iam | Oam => issue(false, c, links, used),
+        Oan => output(Empty, After1, Full, low_a(c), c, links, used),
+        Acn => activity(is_in(Inactive, c), Empty, c, links, used),
+        Dcn if c.d == CHANNELS => advance(After1, c, links, used),
+        Dcn => activity(is_active(c), Inactive, c, links, used),
+        Fan => output(Inactive, After1, Function, low_a(c), c, links, used),
+        Fnc => output(Inactive, After2, Function, m(c), c, links, used),
     }
 }
