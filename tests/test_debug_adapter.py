@@ -6,7 +6,7 @@ import signal
 import stat
 import unittest
 
-from tests.debug_client import HAS_GO, LOADER, DebugCase, Refusal
+from tests.debug_client import HAS_GO, DebugCase, Refusal
 from tests.debug_dialogue import FOLDER, Dialogue, cases, files, text_of
 from tests.steps import StepCase
 from tests.support import PATIENCE, add_tests, read

@@ -11,7 +11,7 @@ from tests.device_law import (
     DUMPS, PANEL, Definition, FewStates, OfCentralMemory, RandomDevice, Session, TwoOnAChannel, first_difference, random_program)
 from tests.support import Case, program
 
-from pp6600 import INACTIVE, NOTHING, Attached, CentralDevice, Device, Failure, full, store
+from pp6600 import INACTIVE, NOTHING, Attached, CentralDevice, Device, Failure, full
 from pp6600.language.cells import set_lines
 from pp6600.front.debug.debugged import MachineWithDevices
 from pp6600.front.debug.running import Runner

@@ -40,6 +40,16 @@ class TerminalCase(PanelCase):
         terminal.wait_until(lambda one: seen.append(one.text()) or seen[-1] == wanted)
         self.assertEqual(wanted, seen[-1])
 
+    def walk(self, terminal, *steps):
+        """Types each text, and waits until what is beside it is shown: a text in a row, or a whole screen."""
+        for typed, shown in steps:
+            terminal.type(typed)
+            (self.assert_shows if isinstance(shown, str) else self.assert_same_screen)(terminal, shown)
+
+    def check_end(self, terminal, typed="qq"):
+        terminal.type(typed)
+        self.assertEqual(0, terminal.status())
+
 
 class Screens(TerminalCase):
     def test_same_screens(self):
@@ -55,13 +65,11 @@ class Screens(TerminalCase):
                 terminal = self.started("--deck", DECK, script, kind=kind, columns=columns, rows=rows, environment=environment)
                 panel = self.panel(OVERWRITTEN, "--deck", DECK, size=(columns, rows))
                 for text, keys in typed.items():
-                    terminal.type(text)
-                    self.assert_same_screen(terminal, [line.replace("\u2026", mark) for line in press(panel, keys)])
+                    self.walk(terminal, (text, [line.replace("\u2026", mark) for line in press(panel, keys)]))
                 if columns == 120:
                     self.assert_shows(terminal, f"7112 6{mark}")
                 self.assertEqual(kind != "vt100", terminal.colours() != set())
-                terminal.type("qq")
-                self.assertEqual(0, terminal.status())
+                self.check_end(terminal)
 
     def test_source(self):
         """A source, with colours: its present line and what has overwritten it; and steps by lines."""
@@ -70,9 +78,8 @@ class Screens(TerminalCase):
             terminal = self.started(*words, self.file("STEP 1300\n"), columns=columns, rows=rows, kind=kind)
             panel, colours = self.panel("STEP 1300\n", "--deck", DECK, size=(columns, rows), sources=pairs), set()
             for text, keys in {"C": "C", "CG405\r": "CG405<Enter>", "PN": "PN", "mi": "mi", "m1G": "m1G"}.items():
-                terminal.type(text)
                 with self.subTest(text, columns=columns):
-                    self.assert_same_screen(terminal, press(panel, keys))
+                    self.walk(terminal, (text, press(panel, keys)))
                 colours |= terminal.colours()
             self.assertEqual(set(), {32, 33, 36} - colours)
 
@@ -81,28 +88,20 @@ class Screens(TerminalCase):
         for environment, begin in (UTF8, "\u2846"), (ASCII, "."):
             words = "--device", "console_display@10", self.file(DISPLAYS)
             terminal = self.started(*words, columns=160, rows=50, environment=environment)
-            terminal.type("200sv")
-            self.assert_shows(terminal, "closes this page")  # the last line, which is written last
+            self.walk(terminal, ("200sv", "closes this page"))  # the last line, which is written last
             self.assertEqual(begin, terminal.lines()[2].strip()[:1])
-            terminal.type("\x1b")
-            self.assert_shows(terminal, "q quit")
+            self.walk(terminal, ("\x1b", "q quit"))
 
     def test_device(self):
         terminal = self.started("--device", f"paper_tape:{self.file('AB')}@11", self.file(READS))
-        for typed, shown in ("", "TURN 200"), ("63G", "TURN 63"), ("q", "q again quits"):
-            terminal.type(typed)
-            self.assert_shows(terminal, shown)
-        terminal.type("q")
-        self.assertEqual(0, terminal.status())
+        self.walk(terminal, ("", "TURN 200"), ("63G", "TURN 63"), ("q", "q again quits"))
+        self.check_end(terminal, "q")
 
     def test_search_of_lines(self):
         """A processor that counts in one line: a search that has no end soon. Ctrl-C stops it."""
         source = self.file("COUNT MACRO\nMORE AOD 20B\n  UJN MORE\n  ENDM\n  ORG 100B\nSTART COUNT\n  END START\n")
         terminal = self.started("--source", "0", source, self.file("STEP 1000\n"))
-        terminal.type("N")
-        self.assert_shows(terminal, "Ctrl-C stops")
-        terminal.type("\x03")
-        self.assert_shows(terminal, "the search was stopped")
+        self.walk(terminal, ("N", "Ctrl-C stops"), ("\x03", "the search was stopped"))
 
     def test_resize(self):
         """A terminal that is made larger, too small, and large again."""
@@ -120,25 +119,10 @@ class Screens(TerminalCase):
         terminal = self.terminal(["bash", "--norc", "-i"], folder=TOP, environment={"PS1": "ready$ ", "HISTFILE": ""})
         terminal.shows("ready$")
         words = [sys.executable, "tools/panel", "--program", PROGRAM, "--deck", DECK, self.file(OVERWRITTEN)]
-        terminal.type(f"{shlex.join(words)}\r")
-        self.assert_shows(terminal, "q quit")
-        terminal.type("12\x03")
-        self.assert_shows(terminal, "s step")
-        panel = self.panel(OVERWRITTEN, "--deck", DECK)
-        terminal.type("s")
-        self.assert_same_screen(terminal, press(panel, "s"))
-        terminal.type("\x1a")
-        self.assert_shows(terminal, "ready$")
-        terminal.type("echo $((6 * 7))\r")
-        self.assert_shows(terminal, "42")
-        terminal.type("fg\r")
-        self.assert_same_screen(terminal, press(panel))
-        terminal.type("b")
-        self.assert_shows(terminal, "> BACK  ")
-        terminal.type("qq")
-        self.assert_shows(terminal, "ready$")
-        terminal.type("echo status $?\r")
-        self.assert_shows(terminal, "status 0")
+        stepped = press(self.panel(OVERWRITTEN, "--deck", DECK), "s")
+        self.walk(terminal, (f"{shlex.join(words)}\r", "q quit"), ("12\x03", "s step"), ("s", stepped), ("\x1a", "ready$"),
+                  ("echo $((6 * 7))\r", "42"), ("fg\r", stepped), ("b", "> BACK  "), ("qq", "ready$"),
+                  ("echo status $?\r", "status 0"))
         terminal.type("exit\r")
         terminal.status()
 
@@ -146,10 +130,7 @@ class Screens(TerminalCase):
         """LANG=C and NO_COLOR: ASCII alone, and no colours. A hang-up ends it."""
         terminal = self.started("--deck", DECK, self.file(OVERWRITTEN), kind="xterm-256color",
                                 environment={**ASCII, "LANG": "C", "NO_COLOR": "1"})
-        terminal.type("?")
-        terminal.shows("The keys")
-        terminal.type("q:na\xefve\r")
-        self.assert_shows(terminal, "ERR 06 NOT ASCII")
+        self.walk(terminal, ("?", "The keys"), ("q:na\xefve\r", "ERR 06 NOT ASCII"))
         self.assertTrue("".join(terminal.text()).isascii())
         self.assertEqual(set(), terminal.colours())
         self.assertTrue(terminal.hang_up(), "it goes on in a terminal that was closed")
@@ -157,10 +138,8 @@ class Screens(TerminalCase):
     def test_fast_typing(self):
         """Keys that come faster than they are performed are not lost."""
         terminal = self.started()
-        terminal.type("1000000s" + "b" * 200)
-        self.assert_shows(terminal, "AHEAD 310 ")
-        terminal.type("qq")
-        self.assertEqual(0, terminal.status())
+        self.walk(terminal, ("1000000s" + "b" * 200, "AHEAD 310 "))
+        self.check_end(terminal)
 
 
 class Talk(TerminalCase):
