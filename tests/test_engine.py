@@ -27,6 +27,12 @@ PLACES = [*REGISTERS, *CELLS[::7], flat.SLOT, flat.CENTRAL, flat.CENTRAL + 1]
 MOST, SEARCHES, SAMPLES = 150, 5, 4  # turns of a search; searches of a condition; looks at a run for numbers that it has
 
 
+def columns_of(engine, most):
+    """Makes turns. Returns what their processors were about to do, and whether the last one changed a watched number."""
+    columns, is_watched = engine.columns(most)
+    return [list(column) for column in columns], is_watched
+
+
 def numbers_of(engine):
     return {place: engine.numbers(place, 1)[0] for place in NUMBERED}
 
@@ -150,6 +156,7 @@ class Searches(Case):
             self.same(engines, *results)
             found += results[0][1]
             self.same(engines, *(engine.numbers_after(20, PLACES[:3]) for engine in engines))
+            self.same(engines, *(columns_of(engine, 20) for engine in engines))
             self.same(engines, *(turns_made(engine, 20) for engine in engines))
         undone = 1
         while undone:

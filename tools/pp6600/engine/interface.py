@@ -69,13 +69,13 @@ class Records(NamedTuple):
 class Columns(NamedTuple):
     """Turns, by what their processors were about to do: of each number a column, with one of each turn."""
 
-    processor: Sequence[int]
-    p: Sequence[int]
-    a: Sequence[int]
-    q: Sequence[int]
-    phase: Sequence[int]
-    word: Sequence[int]  # in the cell P
-    m: Sequence[int]  # in the cell after that
+    processor: array[int]
+    p: array[int]
+    a: array[int]
+    q: array[int]
+    phase: array[int]
+    word: array[int]  # in the cell P
+    m: array[int]  # in the cell after that
 
 
 class Engine(Protocol):
@@ -105,6 +105,9 @@ class Engine(Protocol):
     def numbers_after(self, most: int, places: Sequence[int]) -> Tuple[List[int], bool]:
         """Makes turns as `records` does. Returns the numbers at some places (1 to 16) after each, in turn, and whether a watched
         one changed."""
+
+    def columns(self, most: int) -> Tuple[Columns, bool]:
+        """Makes turns as `records` does. Returns what their processors were about to do, and whether a watched number changed."""
 
     def until(self, condition: Sequence[Form], most: int) -> Tuple[int, bool]:
         """Makes turns, at most so many, up to the first in which a condition comes to hold, whatever is watched. Returns how many

@@ -9,7 +9,7 @@ from typing import Callable, Iterator, List, Optional, Sequence, Sized, Tuple
 from ..failure import Failure
 from . import interface as flat
 from . import plain_origins as origins
-from .interface import Counts, Form, Records, Rejection
+from .interface import Columns, Counts, Form, Records, Rejection
 from .origins import Origin, Origins, Reading
 from .plain import places
 from .plain.lines import Rejected
@@ -96,6 +96,18 @@ class PlainEngine:
     def numbers_after(self, most: int, places: Sequence[int]) -> Tuple[List[int], bool]:
         own, numbers = [own_place(place) for place in places], self.machine.numbers
         return [numbers[place] for _ in self._made(most) for place in own], self.is_watched
+
+    def columns(self, most: int) -> Tuple[Columns, bool]:
+        machine, rows = self.machine, []
+
+        def turn() -> Record:
+            s = machine.processors[machine.numbers[places.SLOT]]
+            s.look()
+            rows.append((s.n, s.p, s.a, s.q, s.phase, s.cell(s.p), s.m))
+            return machine.turn()
+
+        list(self._made(most, turn))
+        return Columns(*[array(kind, column) for kind, column in zip("HHIHHHH", zip(*rows))]), self.is_watched
 
     def until(self, condition: Sequence[Form], most: int) -> Tuple[int, bool]:
         alternatives = alternatives_of(condition)

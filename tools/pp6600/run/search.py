@@ -11,7 +11,7 @@ import heapq
 import itertools
 from collections import deque
 from itertools import chain
-from typing import Any, Callable, Dict, Iterable, Iterator, List, NamedTuple, Optional, Protocol, Sequence, Tuple
+from typing import Any, Callable, Container, Dict, Iterable, Iterator, List, NamedTuple, Optional, Protocol, Sequence, Tuple
 
 from ..engine import interface as flat
 from ..engine import plain_conditions
@@ -26,6 +26,7 @@ FIRST_SPAN = 0o10000  # of turns at the end that are searched first
 WIDER = 8  # times as many in each span before
 PARTS = 64  # of a run that are searched one by one
 MOST_AT_ONCE = 0o200000  # turns between two calls of `progress`
+ROWS_AT_ONCE = 0o4000  # turns that are read by one call
 
 Progress = Callable[[int], object]
 Found = Tuple[Position, int]  # the position before a turn, or before the replies to it, and its number from 1
@@ -280,6 +281,28 @@ def turn_at(run: Session, position: Position, columns: Sequence[Column] = ()) ->
     shown = {column.place.number for column in columns}
     by = [reply for reply in replies if not shown.isdisjoint(numbers_of_reply(reply.line))] or replies  # the last one counts
     return Turn(turn, position, slot, processor, after, differ, len(was) > 1, by[-1].setter if by else "")
+
+
+def turns_in_row(run: Session, begin: Position, end: Position, processors: Container[int] = range(PROCESSORS)) -> Iterator[Turn]:
+    """Yields the turns of some processors between two positions with turns alone, without numbers. Of a processor after its turn
+    the registers alone count. The run is after the turn, or some turns later."""
+    for first in range(begin, end, ROWS_AT_ONCE):
+        run.goto(Position(first))
+        turn, made = run.turn + 1, min(end - first, ROWS_AT_ONCE)
+        rows: List[Sequence[int]] = [*zip(*run.engine.columns(made)[0])]
+        run.performed(made)
+        a, p, q, phase = (run.engine.numbers(place, PROCESSORS) for place in (flat.A, flat.P, flat.Q, flat.PHASE))
+        slot = run.slot()
+        rows += [(number, p[number], a[number], q[number], phase[number], 0, 0)
+                 for number in (*range(slot, PROCESSORS), *range(slot))]
+        for at, row in enumerate(rows[:made]):
+            if row[0] in processors:
+                yield Turn(turn + at, Position(first + at), row[0], of_row(*row), of_row(*rows[at + PROCESSORS]), [], False)
+
+
+def of_row(_: int, p: int, a: int, q: int, phase: int, word: int, m: int) -> Processor:
+    """Returns the processor of a row of the engine's columns."""
+    return Processor(p, a, q, phase, (word, m))
 
 
 class Search(NamedTuple):

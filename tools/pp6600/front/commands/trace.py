@@ -1,23 +1,22 @@
 """A run turn by turn."""
 
+from __future__ import annotations
+
 import re
-from argparse import Namespace
 from array import array
 from itertools import takewhile
-from typing import Any, Iterable, Iterator, List, Optional, Set
+from typing import Any, Callable, Container, Iterable, Iterator, List, Optional
 
 from ...devices.options import DEVICE_OPTIONS, replayed
 from ...engine import interface as flat
-from ...engine.interface import INSIDE, OUTSIDE, Form
 from ...language.symbol_options import SYMBOL_OPTIONS, symbols_of
 from ...run.conditions import is_written
-from ...run.forms import CELLS, CLOCK, PROCESSORS, ranges_of
+from ...run.forms import CLOCK, PROCESSORS
 from ...run.names import AllSymbols
-from ...run.recording import overwritten
-from ...run.search import Progress, TurnFinder, spans, turn_at
+from ...run.search import Progress, Search, Turn, TurnFinder, spans, turns_in_row
 from ...run.session import Session
-from ...run.tape import REJECT, STEP, Position, ReplyLine, Tape
-from ...run.turn import BLOCK_GOES_ON, CHANNEL_CODES, CHANNEL_JUMPS, Processor, places_of_setting
+from ...run.tape import REJECT, Position, ReplyLine, Tape
+from ...run.turn import CHANNEL_CODES, CHANNEL_JUMPS, Processor
 from ...shell.command_line import SCRIPT_WORD, Failure, arguments, channel, count, processor, write_lines
 from ...shell.progress import Progress as ShownProgress
 
@@ -29,49 +28,56 @@ completed an instruction on it, or in which it changed, by a processor, a device
 state and register are shown in place of Q and the phase, and WORD LOST if the turn disconnected a full channel, or WORD LEFT if
 a block of input has ended and the channel is still full. With --symbols an address has its label after it, and the listing's own
 text is at the end of the line."""
-ALL_CELLS = CELLS * PROCESSORS
 
 
 class Tracer:
     """Shows turns of a run."""
 
-    def __init__(self, run: Session, channel: Optional[int] = None, symbols: Any = AllSymbols()) -> None:
-        self.run, self.channel, self.symbols = run, channel, symbols
+    def __init__(self, run: Session, symbols: Any = AllSymbols()) -> None:
+        self.run, self.symbols = run, symbols
 
-    def line(self, position: Position) -> Optional[str]:
-        """Returns the line of the turn after a position; None if it did not touch the channel, if one is asked for."""
-        was = self.shown_at(position)
-        made = turn_at(self.run, position)
-        before, after = made.processor, made.after
-        waited = before.waited(after)
-        text = f"TURN {made.turn:o} PP {made.slot:02o} {self.instruction(made.slot, before)}"
-        wait, listed = " WAITS" if waited else "", self.listed(made.slot, before)
-        wait += reject_after(self.run.tape, Position(position + 1))
-        if self.channel is None:
-            return f"{text} Q {before.q:04o} PHASE {before.phase:04o}{wait}{listed}"
-        now = self.shown_at(Position(position + 1))
-        touched = before.uses(self.channel) and not waited or was != now
-        step = f"H {self.channel:02o} {was if was == now else f'{was} -> {now}'}"
-        fate = fate_of_word(before, after, was, now) if before.channel == self.channel else ""
-        return f"{text}{wait} {step}{fate}{listed}" if touched else None
+    def lines(self, first: int, last: int, processors: Container[int]) -> Iterator[str]:
+        """Yields the lines of the turns of some processors after turn `first`, up to turn `last`."""
+        tape = self.run.tape
+        for begin, end in tape.rows_of_turns(tape.after_turn(first), tape.at_turn(last)):
+            for turn in turns_in_row(self.run, begin, end, processors):
+                before, is_last = turn.processor, turn.position + 1 == end  # before another action, as a device's reply
+                wait = self.wait(turn) if is_last else waits(turn)
+                yield f"{self.begin(turn)} Q {before.q:04o} PHASE {before.phase:04o}{wait}{self.listed(turn)}"
 
-    def shown_at(self, position: Position) -> str:
-        """Returns the state and the register of the channel at a position, if one is asked for."""
-        if self.channel is None:
-            return ""
+    def touch(self, channel: int, position: Position) -> Optional[str]:
+        """Returns the line of the turn after a position; None if it did not touch the channel."""
         self.run.goto(position)
-        return self.run.channel(self.channel)
+        was = self.run.channel(channel)
+        turn, = turns_in_row(self.run, position, Position(position + 1))
+        before, now = turn.processor, self.run.channel(channel)
+        if was == now and (before.waited(turn.after) or not before.uses(channel)):
+            return None
+        step = f"H {channel:02o} {was if was == now else f'{was} -> {now}'}"
+        fate = fate_of_word(before, turn.after, was, now) if before.channel == channel else ""
+        return f"{self.begin(turn)}{self.wait(turn)} {step}{fate}{self.listed(turn)}"
 
-    def instruction(self, slot: int, processor: Processor) -> str:
-        """Returns the fields of a processor before its turn that say what it is about to do."""
-        second = "    " if processor.second is None else f"{processor.second:04o}"
-        return f"P {self.symbols.beside(slot, processor.p)} {processor.words[0]:04o} {second} {processor.name} A {processor.a:06o}"
+    def begin(self, turn: Turn) -> str:
+        """Returns the number of a turn, and what its processor was about to do."""
+        before = turn.processor
+        second = "    " if before.second is None else f"{before.second:04o}"
+        return (f"TURN {turn.turn:o} PP {turn.slot:02o} P {self.symbols.beside(turn.slot, before.p)} {before.words[0]:04o} {second} "
+                f"{before.name} A {before.a:06o}")
 
-    def listed(self, slot: int, processor: Processor) -> str:
+    def wait(self, turn: Turn) -> str:
+        """Returns whether a turn was a wait, and which device rejected its code."""
+        return f"{waits(turn)}{reject_after(self.run.tape, Position(turn.position + 1))}"
+
+    def listed(self, turn: Turn) -> str:
         """Returns the text of the listing beside the instruction, or the line of the source."""
-        line = self.symbols.line_at_p(slot, processor)
-        text = "" if line or processor.phase else self.symbols.text(slot, processor.p, processor.words[0])
+        slot, before = turn.slot, turn.processor
+        line = self.symbols.line_at_p(slot, before)
+        text = "" if line or before.phase else self.symbols.text(slot, before.p, before.words[0])
         return f"  {text}" if text else str(line)
+
+
+def waits(turn: Turn) -> str:
+    return " WAITS" if turn.processor.waited(turn.after) else ""
 
 
 def reject_after(tape: Tape, position: Position) -> str:
@@ -91,135 +97,54 @@ def fate_of_word(processor: Processor, after: Processor, was: str, now: str) -> 
 
 
 class Touches:
-    """The turns of a run that may have touched a channel; whether one did is seen there. They are those that wrote it; those that
-    begin or end a block transfer on it, or over the clock are in one; and those at a word that uses it and need not change it, as a
-    jump by its state. Such a word is in one of some cells: those that had one at first, or were written since."""
+    """The turns of a run that may have touched a channel; whether one did is seen there. They are those at a word that uses it, but
+    for waits, and those in which a device or the clock wrote it."""
 
-    def __init__(self, run: Session, channel: int, processors: Iterable[int], progress: Progress) -> None:
-        # which no instruction changes
-        self.run, self.progress, self.processors, self.is_clock = run, progress, [*processors], channel == CLOCK
-        self.words = {code << 6 | channel for code in (CHANNEL_CODES if self.is_clock else (*CHANNEL_JUMPS, *BLOCK_GOES_ON))}
-        self.phases = [code << 6 | channel for code in BLOCK_GOES_ON]
-        # written by a device perhaps as they were
-        self.places = {flat.REGISTERS + channel, *(() if self.is_clock else (flat.STATES + channel,))}
-        self.cells: Set[int] = set()
-        self.in_blocks: Set[int] = set()  # processors that are in a block on it, were, or are about to begin one
-        self.due: List[int] = []  # positions that are found and come later
+    def __init__(self, run: Session, channel: int, processors: Container[int], progress: Progress) -> None:
+        self.run, self.channel, self.processors, self.progress = run, channel, processors, progress
+        self.uses = re.compile(f"[{''.join(chr(code << 6 | channel) for code in CHANNEL_CODES)}]")
+        self.jumps = {code << 6 | channel for code in CHANNEL_JUMPS}
+        self.has_device = channel in (run.reader_channel, run.printer_channel)
+        self.writes = TurnFinder([[is_written(first + channel)] for first in (flat.STATES, flat.REGISTERS)])
 
     def positions(self, first: int, last: int) -> Iterator[Position]:
         """Yields the positions before those after turn `first`, up to turn `last`, in their order."""
-        run, tape = self.run, self.run.tape
-        here, last = tape.after_turn(first), tape.at_turn(last)
-        run.goto(here)
-        self.see(cell for cell, word in enumerate(run.engine.numbers(flat.CELLS, ALL_CELLS)) if word in self.words)
-        for action in tape.actions(here, Position(last)):
-            end = Position(here + action.times)
-            if action.line == STEP:
-                run.goto(here)
-                self.due = sorted(self.next_turns(self.at_words()))
-                while here < end:
-                    self.progress(tape.turn(here))
-                    yield from self.part(here, min(end, Position(here + run.room)))
-                    here = min(end, Position(here + run.room))
-            else:
-                self.see(place.number for place in places_of_setting(action.line) if place.kind == "M")
-            here = end
+        tape, room = self.run.tape, self.run.room  # as many as the engine goes back
+        for begin, end in tape.rows_of_turns(tape.after_turn(first), tape.at_turn(last)):
+            for at in range(begin, end, room):
+                self.progress(tape.turn(Position(at)))
+                yield from self.part(Position(at), Position(min(at + room, end)))
 
-    def part(self, begin: Position, end: Position) -> Iterator[Position]:
-        """Yields those of as many turns as the engine keeps, without another action between."""
-        run = self.run
+    def part(self, begin: Position, end: Position) -> List[Position]:
+        """Returns those of some turns without another action between."""
+        run, size = self.run, end - begin
         run.goto(begin)
-        # a character each
-        places = array("I", run.engine.records(end - begin).olds)[::4].tobytes().decode("utf-32-le", "surrogatepass")
-        run.performed(end - begin)
-        self.see(map(ord, self.others.findall(places)))
-        run.goto(begin)
-        while run.position < end:
-            is_found = self.finder.next(run, end - run.position)
-            here = run.position
-            self.due = sorted({*self.due, *(self.look_at_latest() if is_found else ())})
-            while self.due and self.due[0] < here:
-                yield Position(self.due.pop(0))
-            run.goto(here)
-
-    def look_at_latest(self) -> List[int]:
-        """Looks at the latest turn, which was found. Returns the position before it, if it may have touched the channel, and that
-        before the next turn of its processor, if this is at a word that uses it."""
-        run, here = self.run, self.run.position
-        before, number = Position(here - 1), run.tape.slot(Position(here - 1))
-        if number not in self.processors:
-            return []
-        run.goto(before)
-        was = run.number_of(flat.PHASE + number)
-        written = overwritten(run.engine.records(1)).keys()
-        run.performed(1)
-        now = run.number_of(flat.PHASE + number)
-        is_of_block = (was in self.phases or now in self.phases) and (was != now or self.is_clock)
-        touches = is_of_block or not self.places.isdisjoint(written)
-        return [*([before] if touches else []), *self.next_turns({number}.intersection(self.at_words()))]
-
-    def next_turns(self, numbers: Iterable[int]) -> List[int]:
-        """Returns the positions before the next turns of processors."""
-        here, slot = self.run.position, self.run.slot()
-        return [here + (number - slot) % PROCESSORS for number in numbers]
-
-    def at_words(self) -> List[int]:
-        """Returns the processors that are about to perform a word that uses the channel."""
-        numbers = self.run.engine.numbers(flat.P, flat.STATES - flat.P)
-        phases = {number: numbers[flat.PHASE - flat.P + number] for number in self.processors}
-        cells = {number: CELLS * number + numbers[number] for number, phase in phases.items() if not phase}
-        words = {number: self.run.number_of(cell) for number, cell in cells.items() if cell in self.cells}
-        self.see_blocks(number for number, word in {**phases, **words}.items() if word in self.phases)
-        return [number for number, word in words.items() if word in self.words]
-
-    def see_blocks(self, numbers: Iterable[int]) -> None:
-        """Adds processors to those whose blocks on the channel may end."""
-        new = set(numbers) - self.in_blocks
-        if new:
-            self.in_blocks |= new
-            self.search()
-
-    def see(self, cells: Iterable[int]) -> None:
-        """Adds cells to those in which a word that uses the channel may be."""
-        new = set(cells) - self.cells
-        if new or not self.cells:
-            self.cells |= new
-            edges = [-1, *sorted(self.cells), ALL_CELLS]
-            ranges = [(first + 1, last - 1) for first, last in zip(edges, edges[1:]) if last - first > 1]
-            self.others = re.compile(f"[{''.join(f'{chr(first)}-{chr(last)}' for first, last in ranges)}]")
-            self.search()
-
-    def search(self) -> None:
-        """Searches from now on where a processor comes to one of the cells, where the channel is written, and where a block on it
-        ends, or over the clock goes on."""
-        alternatives = [[is_written(place)] for place in self.places]
-        for number in self.processors:
-            moved, p, phase = is_written(flat.P + number), flat.P + number, flat.PHASE + number
-            own = ranges_of(cell % CELLS for cell in self.cells if cell // CELLS == number)
-            alternatives += [[moved, Form(INSIDE, phase), Form(INSIDE, p, first, first + size - 1)] for first, size in own]
-            alternatives += [[Form(OUTSIDE, phase, one, one)] for one in self.phases if number in self.in_blocks]
-            alternatives += [[moved, Form(INSIDE, phase, *self.phases)]] if self.is_clock else []
-        self.finder = TurnFinder(alternatives)
+        columns, _ = run.engine.columns(size)
+        run.performed(size)
+        p, phase, word, last = columns.p, columns.phase, columns.word, size - PROCESSORS
+        used = (match.start() for column in (word, phase) for match in self.uses.finditer(text_of(column)))
+        found = {at for at in used if at >= last or p[at] != p[at + PROCESSORS] or phase[at] != phase[at + PROCESSORS]
+                 or word[at] in self.jumps}
+        if self.has_device:
+            found.update(position - begin for position, _ in Search(run, [self.writes]).in_row(self.writes, begin, end))
+        elif self.channel == CLOCK:  # which goes on with the last processor's turn
+            found.update(range((PROCESSORS - 1 - columns.processor[0]) % PROCESSORS, size, PROCESSORS))
+        return [Position(begin + at) for at in sorted(found) if columns.processor[at] in self.processors]
 
 
-def positions_of(asked: Namespace, run: Session, progress: Progress, first: int, last: int) -> Iterator[Position]:
-    """Yields the positions before the turns after one, and up to another, that a command line asks for; of a channel all that may
-    touch it."""
-    tape, processors = run.tape, asked.processor or range(PROCESSORS)
-    if asked.channel is not None:
-        return Touches(run, asked.channel, processors, progress).positions(first, last)
-    end = tape.at_turn(last)
-    return (position for position, line in takewhile(lambda stop: stop[0] < end, tape.stops(first, processors)) if line == STEP)
+def text_of(column: array[int]) -> str:
+    """Returns a text with a character for each number of a column, in which patterns are found fast."""
+    return column.tobytes().decode("utf-16-le")
 
 
-def last_lines(asked: Namespace, run: Session, progress: Progress, tracer: Tracer, first: int, last: int) -> List[str]:
-    """Returns the last lines of turns, as many as the command line asks for."""
+def last_lines(lines: Callable[[int, int], Iterable[str]], count: int, first: int, last: int) -> List[str]:
+    """Returns the last lines of the turns after `first`, up to `last`, so many."""
     found: List[str] = []
-    for start, end in spans(last, first, PROCESSORS * asked.last):
-        found[:0] = filter(None, map(tracer.line, list(positions_of(asked, run, progress, start, end))))
-        if len(found) >= asked.last:
+    for start, end in spans(last, first, PROCESSORS * count):
+        found[:0] = lines(start, end)
+        if len(found) >= count:
             break
-    return found[-asked.last:]
+    return found[-count:]
 
 
 def main() -> int:
@@ -236,11 +161,15 @@ def main() -> int:
     symbols = symbols_of(asked)
     run, refusals = replayed(asked, symbols, asked.script)
     last = run.tape.turns if asked.to is None else min(asked.to, run.tape.turns)
-    first, tracer = min(asked.first - 1, last), Tracer(run, asked.channel, symbols)
-    shown = ShownProgress(run.tape.turns)
-    if asked.last is None:
-        write_lines(shown.passed(filter(None, map(tracer.line, positions_of(asked, run, shown.show, first, last)))))
-    else:
-        write_lines(shown.passed(last_lines(asked, run, shown.show, tracer, first, last)))
+    first, tracer = min(asked.first - 1, last), Tracer(run, symbols)
+    shown, processors = ShownProgress(run.tape.turns), asked.processor or range(PROCESSORS)
+
+    def lines(start: int, end: int) -> Iterator[str]:
+        if asked.channel is None:
+            return tracer.lines(start, end, processors)
+        positions = Touches(run, asked.channel, processors, shown.show).positions(start, end)
+        return filter(None, (tracer.touch(asked.channel, position) for position in positions))
+
+    write_lines(shown.passed(lines(first, last) if asked.last is None else last_lines(lines, asked.last, first, last)))
     run.close()
     return refusals.status()
