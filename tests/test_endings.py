@@ -99,8 +99,8 @@ class Plainly:
     def touches(self, channel, case, got):
         """Compares the turns that touched a channel with what each turn of the run says of it."""
         with performed([program(), *self.words], self.lines)[0].search() as run:
-            tracer, stops = Tracer(run), list(run.tape.stops())
-            wanted = [line for position, kind in stops if kind == "STEP" and (line := tracer.touch(channel, position))]
+            tracer, turns = Tracer(run), [position for row in run.tape.rows_of_turns() for position in range(*row)]
+            wanted = [line for position in turns if (line := tracer.touch(channel, position))]
         case.assertEqual(wanted, got.out.splitlines())
 
     def until(self, condition, case, got):

@@ -16,7 +16,7 @@ import functools
 import re
 from array import array
 from itertools import repeat
-from typing import (Any, Container, Dict, Iterable, Iterator, List, MutableSequence, NamedTuple, NewType, Optional, Sequence,
+from typing import (Any, Dict, Iterable, Iterator, List, MutableSequence, NamedTuple, NewType, Optional, Sequence,
                     Tuple, Type, TypeVar)
 
 from ..failure import Failure
@@ -258,6 +258,14 @@ class Tape:
                 return Position(at)
         return None
 
+    def next_turn(self, number: int, position: Position) -> Optional[Position]:
+        """Returns the position before the next turn of a processor from a position on; None if there is none."""
+        for begin, end in self.rows_of_turns(position):
+            at = begin + (number - self.slot(begin)) % PROCESSORS
+            if at < end:
+                return Position(at)
+        return None
+
     def last_tick(self, position: Position) -> Position:
         """Returns the position after the last turn before this one in which the clock changed; 0 if there is none."""
         for first, end in self.rows_back(position):
@@ -300,17 +308,6 @@ class Tape:
                 yield from (f"{STEP} {min(times - made, MOST_TURNS):o}" for made in range(0, times, MOST_TURNS))
             elif with_watches or not WATCH.match(line):
                 yield from repeat(line, times)
-
-    def stops(self, first: int = 0, processors: Container[int] = range(PROCESSORS)) -> Iterator[Tuple[Position, str]]:
-        """Yields the position before each turn of some processors, with STEP, from turn number `first` on (from 0); and the
-        position after each other action from there on, with its line."""
-        for run, action in enumerate(self.runs):
-            begin, end = self.starts[run] + max(first - self.turns_before[run], 0), self.starts[run + 1]
-            if action.turns:
-                slot = self.slot(self.starts[run]) - self.starts[run]
-                yield from ((Position(at), STEP) for at in range(begin, end) if (at + slot) % PROCESSORS in processors)
-            elif begin == self.starts[run]:
-                yield end, action.line
 
 
 class History:

@@ -67,7 +67,8 @@ class Waiting(NamedTuple):
 
 def turn_after(tape: Tape, turns: int, number: int) -> int:
     """Returns the number of the first turn of a processor after so many turns; 0 if there is none."""
-    return next((tape.turn(position) + 1 for position, line in tape.stops(turns, [number]) if line == STEP), 0)
+    position = tape.next_turn(number, tape.after_turn(turns))
+    return 0 if position is None else tape.turn(position) + 1
 
 
 def last_set(run: Session, places: Set[Place]) -> int:

@@ -77,13 +77,9 @@ class Debugged(Base):
 
     def next_turn(self, number: int) -> Position:
         """Returns the position before the next turn of a processor. After the tape come turns."""
-        at = self.position
-        while True:
-            if at == self.tape.end:
-                self.add_turns(PROCESSORS)
-            if self.tape.slot(at) == number and is_turn(self.tape, at):
-                return at
-            at = Position(at + 1)
+        while (found := self.tape.next_turn(number, self.position)) is None:
+            self.add_turns(PROCESSORS)
+        return found
 
     def part(self, position: int, most: int) -> Position:
         """Returns the end of the next turns, at most so many, or of another action. After the tape come turns, which are added to
