@@ -16,7 +16,9 @@ from ...engine import interface as flat
 from ...engine.interface import CHANGES, Form
 from ...run.conditions import is_written
 from ...run.forms import CELLS, PROCESSORS, Place, ranges_of
-from ...run.search import Forms, TurnFinder, arrivals, holds
+from ...run.search import Forms, Search, TurnFinder, arrivals, holds
+from ...run.session import Session
+from ...run.tape import Position
 from .breakpoints import Point, ProcessorCell
 from .debugged import is_turn
 from .terms import Terms
@@ -51,8 +53,10 @@ class Stop(NamedTuple):
 
 
 class StopSearch:
-    """A search for the stops at breakpoints, and at the aim of a step. A run forward to changes of places alone goes no farther
-    than to the stop, so the machine itself searches there."""
+    """A search for the stops at breakpoints, and at the aim of a step, which finds the turns after which there may be one. A run
+    forward to changes of places alone goes no farther than to the stop, so the machine itself searches there."""
+
+    remembers = False
 
     def __init__(self, machine: Any, points: Iterable[Point], aim: Optional[Aim] = None, scout: str = "looks",
                  is_forward: bool = False) -> None:
@@ -82,24 +86,24 @@ class StopSearch:
         return self.judged(self.came(self.tape.slot(position), position))
 
     def by_turns(self, first: int, last: int) -> Iterator[List[Stop]]:
-        scout = self.scout
-        found = [stop for number in self.addresses for stop in self.came(number, first) if stop.position > first]
-        scout.goto(first)
-        while scout.position < last:
-            is_found = self.finder().next(scout, last - scout.position)
-            here = scout.position
-            found = sorted([*found, *(self.after_turn(here) if is_found else ())], key=lambda stop: (stop.position, not stop.place))
-            for _, some in groupby([stop for stop in found if stop.position <= here], lambda stop: stop.position):
+        due = [stop for number in self.addresses for stop in self.came(number, first) if stop.position > first]
+        found = (position + 1 for position, _ in Search(self.scout, [self]).in_row(self, Position(first), Position(last)))
+        at_end: List[Tuple[int, List[Stop]]] = [(last, [])]
+        for here, new in chain(((position, self.after_turn(position)) for position in found), at_end):
+            due = sorted([*due, *new], key=lambda stop: (stop.position, not stop.place))
+            for _, some in groupby([stop for stop in due if stop.position <= here], lambda stop: stop.position):
                 yield list(some)
-            found = [stop for stop in found if stop.position > here]
-            scout.goto(here)
+            due = [stop for stop in due if stop.position > here]
 
-    def finder(self) -> TurnFinder:
-        """Returns what finds the next turn after which there may be a stop. Where an entry leads may change, and is seen anew."""
+    def begin(self, run: Session) -> None:
+        """What came before the turns of a search is seen before it."""
+
+    def next(self, run: Session, most: int) -> bool:
+        """Finds the next turn after which there may be a stop. Where an entry leads may change, and is seen anew."""
         entries: List[Forms] = [[is_written(cell)] for cell in self.entries.values()]
         for number, cell in self.entries.items():
             entries += arrivals(number, {self.number(cell)})
-        return TurnFinder([*self.fixed, *entries])
+        return TurnFinder([*self.fixed, *entries]).next(run, most)
 
     def after_turn(self, position: int) -> List[Stop]:
         """Returns the stops that the turn before a position makes: after the change of a place, and before the processor's next
