@@ -8,7 +8,7 @@ use Rattle.pp_decks.specs.declared.spans.Span.{Span}
 use Rattle.pp_notation.specs.Columns.{between}
 use Rattle.pp_notation.specs.Digits.{number_in, number_of_codes}
 use Rattle.pp_source.specs.declared.here.Here.{Here}
-use Rattle.pp_statements.specs.Forms.{field_of_bits, is_minus_zero, jump}
+use Rattle.pp_statements.specs.Forms.{field_of_bits, is_minus_zero, jump, short_word}
 use Rattle.pp_meaning.specs.Expressions.{plus, times}
 use Rattle.pp_meaning.specs.declared.expressions.Base.{Base}
 use Rattle.pp_meaning.specs.declared.expressions.Base.TheVariants.{Octal, Decimal, Mixed}
@@ -238,3 +238,7 @@ number_field scope text bits = value_in scope false text >>= field_of_bits bits 
 -- d of a relative jump.
 abbrev pub distance : Scope → List ℕ → Option ℕ
 distance scope text = value_in scope false text >>= jump scope.counters.location
+
+-- LDK and ADK are one word, if their operand is a small number of names from the lines above.
+abbrev pub short_in : Scope → ℕ → ℕ → List ℕ → Option ℕ
+short_in scope small minus text = value_in scope true text >>= short_word small minus (is_minus_zero text)

@@ -1,4 +1,8 @@
 //! The directives that name numbers, move the counters or say how the rest is meant.
+ghost use Rattle.std.specs.Prelude.{◌≡◌, Some};
+ghost use Rattle.pp_statements.specs.Reading.{Gives, OnlySays};
+ghost use Rattle.pp_statements.specs.Values.{short_in, text_in};
+
 use crate::encoding::bits_of;
 use crate::forms::short_word;
 use crate::scope::{CELLS, Scope, is_minus_zero};
@@ -246,15 +250,24 @@ impl Scope {
             return Ok(());
         };
         let operand = the_only(here, statement)?;
-        let number = match self.number(here, operand, true) {
-            Ok(number) => number,
-            Err(Stop::At(..) | Stop::Follows) => CELLS as i64,
-            Err(stop) => return Err(stop),
-        };
-        let is_ones = is_minus_zero(operand.of(here.text));
-        match short_word(number, is_ones, small, minus) {
+        match self.short(here, operand, small, minus)? {
             Some(word) => self.put(here, &[word]),
             None => self.instruction(here, statement, other),
+        }
+    }
+
+    /// Returns the word of LDK or ADK, if its operand is known to be small.
+    fn short(&mut self, here: &Here, operand: Field, small: u8, minus: u8) -> Outcome<Option<u16>>
+        ensures word { Gives (λ word. word) result (Some (short_in self.old small minus (text_in here.now operand))) }
+        ensures unchanged { OnlySays self.old self.new }
+    {
+        match self.number(here, operand, true) {
+            Ok(number) => {
+                let is_ones = is_minus_zero(operand.of(here.text));
+                Ok(short_word(number, is_ones, small, minus))
+            }
+            Err(Stop::At(..) | Stop::Follows) => Ok(None),
+            Err(stop) => Err(stop),
         }
     }
 }

@@ -1,12 +1,14 @@
 //! What a pass knows at a line, and what it has made: its counters, its names, its cells, and the rows of the listing.
-ghost use Rattle.std.specs.Prelude.{◌≡◌};
+ghost use Rattle.std.specs.Prelude.{◌≡◌, IfErr, [], OnOk, false, option_map, true};
+ghost use Rattle.pp_source.specs.Texts.{text_in as text_of};
+ghost use Rattle.pp_statements.specs.Fields.{alone_in, is_literal, plain_field, text_field};
 ghost use Rattle.pp_statements.specs.Forms.{field_of_bits, is_minus_zero};
-ghost use Rattle.pp_statements.specs.Reading.{Gives};
+ghost use Rattle.pp_statements.specs.Reading.{Gives, GoesOn, Noted, OnlyNotes, OnlySays, is_fault};
 ghost use Rattle.pp_statements.specs.Values.{count_in, number_field, text_in, value_in};
 
 use crate::forms::field_of;
 use crate::units::{Blocks, Layout, Literals, Unit};
-use crate::values::{Base, Expression, Value};
+use crate::values::{Base, Expression, Value, beyond};
 use pp_decks::Span;
 use pp_notation::Slot;
 use pp_source::{
@@ -138,6 +140,8 @@ pub struct Programs {
 #[derive(Drop)]
 pub struct Scope {
     pub is_last: bool,
+    /// No fault has been noted.
+    pub is_right: bool,
     pub alloc: Global,
     pub symbols: Symbols,
     pub blocks: Blocks,
@@ -225,6 +229,7 @@ impl Scope {
     ) -> Result<Self, AllocError> {
         let mut scope = Scope {
             is_last,
+            is_right: true,
             alloc,
             symbols,
             blocks,
@@ -265,30 +270,46 @@ impl Scope {
         count_one(&mut self.output.performed)
     }
 
-    /// Keeps a fault of a line. Only the last pass does so.
-    pub fn report(&mut self, here: &Here, column: usize, fault: Fault) -> Outcome {
+    /// Notes a fault of a line. Only the last pass keeps what it is.
+    pub fn report(&mut self, here: &Here, column: usize, fault: Fault) -> Outcome
+        ensures noted { OnOk result (self.new.is_right ≡ false) }
+        ensures unchanged { OnlyNotes self.old self.new }
+    {
+        self.is_right = false;
         if !self.is_last {
             return Ok(());
         }
         Ok(self.output.messages.push(here.message(column, fault))?)
     }
 
-    /// Keeps why something has no value, if that is a fault of the line, and returns what stops the pass.
-    pub fn report_stop(&mut self, here: &Here, stop: Stop) -> Outcome {
+    /// Notes why something has no value, if that is a fault, and returns what stops the pass.
+    pub fn report_stop(&mut self, here: &Here, stop: Stop) -> Outcome
+        ensures noted { OnOk result (self.new.is_right ≡ false) }
+        ensures fault { OnOk result (is_fault stop ≡ true) }
+        ensures stop { IfErr result (λ other. is_fault other ≡ true → is_fault stop ≡ true) }
+        ensures unchanged { OnlyNotes self.old self.new }
+    {
         match stop {
             Stop::At(column, fault) => self.report(here, column, fault),
-            Stop::Follows => Ok(()),
+            Stop::Follows => {
+                self.is_right = false;
+                Ok(())
+            }
             Stop::Ends(..) | Stop::TooMuch(_) | Stop::NoMemory => Err(stop),
         }
     }
 
     /// Keeps a warning, of each kind the first one.
-    pub fn warn(&mut self, here: &Here, column: usize, fault: Fault) -> Outcome {
+    pub fn warn(&mut self, here: &Here, column: usize, fault: Fault) -> Outcome
+        ensures { OnlySays self.old self.new }
+    {
         self.warn_at(here.message(column, fault))
     }
 
     /// Keeps a warning at its place, of each kind the first one.
-    pub fn warn_at(&mut self, message: Message) -> Outcome {
+    pub fn warn_at(&mut self, message: Message) -> Outcome
+        ensures { OnlySays self.old self.new }
+    {
         for warning in &self.output.warnings {
             if warning.fault.text.text() == message.fault.text.text() {
                 return Ok(());
@@ -332,7 +353,8 @@ impl Scope {
 
     /// Returns the value of an expression. Names count only from the lines above if that is asked.
     pub fn value(&mut self, here: &Here, operand: Field, is_from_above: bool) -> Outcome<Value>
-        ensures { Gives (λ x. x.number) result (value_in self.old is_from_above (text_in here.now operand)) }
+        ensures number { Gives (λ x. x.number) result (value_in self.old is_from_above (text_in here.now operand)) }
+        ensures unchanged { OnlySays self.old self.new }
     {
         let mut decimal = None;
         let value = Expression::new(self, here.text, operand, is_from_above).value(&mut decimal);
@@ -347,7 +369,8 @@ impl Scope {
 
     /// Returns a number of an expression, which has at most 60 bits.
     pub fn number(&mut self, here: &Here, operand: Field, is_from_above: bool) -> Outcome<i64>
-        ensures { Gives (λ n. n) result (value_in self.old is_from_above (text_in here.now operand)) }
+        ensures number { Gives (λ n. n) result (value_in self.old is_from_above (text_in here.now operand)) }
+        ensures unchanged { OnlySays self.old self.new }
     {
         let value = self.value(here, operand, is_from_above)?;
         Ok(value.number)
@@ -355,7 +378,8 @@ impl Scope {
 
     /// Returns a number up to octal 7777 whose names are known from the lines above.
     pub fn count(&mut self, here: &Here, operand: Field, least: i64) -> Outcome<i64>
-        ensures { Gives (λ n. n) result (count_in self.old least (text_in here.now operand)) }
+        ensures number { Gives (λ n. n) result (count_in self.old least (text_in here.now operand)) }
+        ensures unchanged { OnlySays self.old self.new }
     {
         let number = self.number(here, operand, true)?;
         if number < least || number >= CELLS as i64 {
@@ -366,7 +390,10 @@ impl Scope {
     }
 
     /// Returns what is found, or something else if there is a fault, which is reported.
-    pub fn reported<T: Drop>(&mut self, here: &Here, found: Outcome<T>, or: T) -> Outcome<T> {
+    pub fn reported<T: Drop>(&mut self, here: &Here, found: Outcome<T>, or: T) -> Outcome<T>
+        ensures found { GoesOn self.old self.new found result }
+        ensures unchanged { OnlyNotes self.old self.new }
+    {
         match found {
             Ok(value) => Ok(value),
             Err(stop) => {
@@ -376,7 +403,7 @@ impl Scope {
         }
     }
 
-    /// Returns an operand as a number of so many bits, at most 60; 0 if it is wrong, which is reported. The code is that of the
+    /// Returns an operand as a number of so many bits, at most 60; 0 if it is wrong, which is noted. The code is that of the
     /// instruction whose d it is.
     pub fn field(
         &mut self,
@@ -384,7 +411,10 @@ impl Scope {
         operand: Field,
         bits: u32,
         code: Option<u8>,
-    ) -> Outcome<u64> {
+    ) -> Outcome<u64>
+        ensures { is_literal (text_in here.now operand) ≡ false →
+            Noted self.old.is_right self.new.is_right (λ d. d) result (plain_field self.old (text_in here.now operand) bits) }
+    {
         let number = self.checked_field(here, operand, bits, code);
         self.reported(here, number, 0)
     }
@@ -396,28 +426,60 @@ impl Scope {
         operand: Field,
         bits: u32,
         code: Option<u8>,
-    ) -> Outcome<u64> {
-        let text = operand.of(here.text);
-        if let Some(alone) = text_at(text, 0, false)?
-            && alone.end == text.len()
-            && alone.kind != b'R'
-        {
-            return text_field(operand, alone, bits);
-        }
-        let number = if text.first() == Some(&b'=') {
-            self.literal(here, operand)?
+    ) -> Outcome<u64>
+        ensures number { is_literal (text_in here.now operand) ≡ false →
+            Gives (λ d. d) result (plain_field self.old (text_in here.now operand) bits) }
+        ensures unchanged { is_literal (text_in here.now operand) ≡ false → OnlySays self.old self.new }
+    {
+        if is_literal(operand.of(here.text)) {
+            self.literal_field(here, operand, bits, code)
         } else {
-            self.number(here, operand, false)?
-        };
-        fitting(here, operand, number, bits, code)
+            self.plain_field(here, operand, bits, code)
+        }
+    }
+
+    /// Returns the number of a literal as one of so many bits.
+    fn literal_field(
+        &mut self,
+        here: &Here,
+        operand: Field,
+        bits: u32,
+        code: Option<u8>,
+    ) -> Outcome<u64> {
+        let number = self.literal(here, operand)?;
+        fitting(operand, number, false, bits, code)
+    }
+
+    /// Returns a text or an expression as a number of so many bits.
+    #[tactic(auto, unfolding(crate::specs::Fields::plain_field))]
+    fn plain_field(
+        &mut self,
+        here: &Here,
+        operand: Field,
+        bits: u32,
+        code: Option<u8>,
+    ) -> Outcome<u64>
+        ensures number { Gives (λ d. d) result (plain_field self.old (text_in here.now operand) bits) }
+        ensures unchanged { OnlySays self.old self.new }
+    {
+        match text_alone(operand.of(here.text))? {
+            Some(text) => text_field(operand, text, bits),
+            None => {
+                let number = self.number(here, operand, false)?;
+                let is_ones = is_minus_zero(operand.of(here.text));
+                fitting(operand, number, is_ones, bits, code)
+            }
+        }
     }
 
     /// Returns a number without a name as one of so many bits.
     pub fn number_field(&mut self, here: &Here, operand: Field, bits: u32) -> Outcome<u64>
-        ensures { Gives (λ d. d) result (number_field self.old (text_in here.now operand) bits) }
+        ensures number { Gives (λ d. d) result (number_field self.old (text_in here.now operand) bits) }
+        ensures unchanged { OnlySays self.old self.new }
     {
         let number = self.number(here, operand, false)?;
-        fitting(here, operand, number, bits, None)
+        let is_ones = is_minus_zero(operand.of(here.text));
+        fitting(operand, number, is_ones, bits, None)
     }
 
     /// Adds a line to the listing, in the last pass.
@@ -479,10 +541,10 @@ pub fn is_minus_zero(text: &[u8]) -> bool
 }
 
 /// Returns a number as one of so many bits: minus is the ones complement.
-fn fitting(here: &Here, operand: Field, number: i64, bits: u32, code: Option<u8>) -> Outcome<u64>
-    ensures { Gives (λ d. d) result (field_of_bits bits (is_minus_zero (text_in here.now operand)) number) }
+fn fitting(operand: Field, number: i64, is_ones: bool, bits: u32, code: Option<u8>) -> Outcome<u64>
+    ensures { Gives (λ d. d) result (field_of_bits bits is_ones number) }
 {
-    match field_of(number, bits, is_minus_zero(operand.of(here.text))) {
+    match field_of(number, bits, is_ones) {
         Some(field) => Ok(field),
         None => Err(unfitting(operand, number, bits, code)),
     }
@@ -498,14 +560,35 @@ fn unfitting(operand: Field, number: i64, bits: u32, code: Option<u8>) -> Stop {
     }
 }
 
+/// Returns whether a text is a literal.
+fn is_literal(text: &[u8]) -> bool
+    ensures { result ≡ is_literal text.now }
+{
+    matches!(text, [b'=', ..])
+}
+
+/// Returns the text that a whole operand is, but for one of R, which is a number.
+fn text_alone(operand: &[u8]) -> Outcome<Option<DisplayText<'_>>>
+    ensures { Gives (option_map (text_of operand.now)) result (alone_in operand.now) }
+{
+    match text_at(operand, 0, false)? {
+        Some(text) if text.end == operand.len() && text.kind != b'R' => Ok(Some(text)),
+        _ => Ok(None),
+    }
+}
+
 /// Returns a text as a number of so many bits.
-fn text_field(operand: Field, text: DisplayText, bits: u32) -> Outcome<u64> {
+fn text_field(operand: Field, text: DisplayText, bits: u32) -> Outcome<u64>
+    ensures { Gives (λ d. d) result (text_field bits (text_of [] text.entry)) }
+{
     let size = (bits / 6) as usize;
-    if matches!(text.kind, b'C' | b'Z') || bits % 6 != 0 || text.count > size {
+    if b"CZ".contains(&text.kind) || bits % 6 != 0 || text.count > size {
         let fault = Fault::new(Wording::TextDoesNotFit);
         return Err(fault.part(operand).decimal(bits).at(operand.first));
     }
     are_in_code(text.symbols, operand.first)?;
-    let number = text.number(size).unwrap_or(0);
-    Ok(u64::try_from(number).unwrap_or(0))
+    match text.number(size) {
+        Some(number) => Ok(number.unsigned_abs()),
+        None => Err(beyond(operand)),
+    }
 }

@@ -97,14 +97,6 @@ impl<'a> Expression<'a> {
         fault.at(self.part(rest, 0).first)
     }
 
-    /// Returns that a number is too great to be worked out here.
-    fn beyond(self) -> Stop
-        ensures { is_fault result ≡ false }
-    {
-        let fault = Fault::new(Wording::NotTakenYet).part(self.operand);
-        Stop::Ends(self.operand.first, fault)
-    }
-
     /// Returns the value of the whole text, and keeps the first number that is decimal only because the source is a deck.
     #[tactic(auto, unfolding(crate::specs::Values::value, crate::specs::Values::view))]
     pub fn value(self, decimal: &mut Option<Field>) -> Outcome<Value>
@@ -182,7 +174,7 @@ impl<'a> Expression<'a> {
         let (term, rest) = self.term(text, decimal)?;
         match total.with(term, sign) {
             Some(sum) => Ok((sum, rest)),
-            None => Err(self.beyond()),
+            None => Err(beyond(self.operand)),
         }
     }
 
@@ -231,7 +223,7 @@ impl<'a> Expression<'a> {
         let (other, after) = self.element(self.behind(rest)?, decimal)?;
         match product_of(value.number, other.number, is_quotient) {
             Some(number) => Ok((Value::new(number, 0), after)),
-            None => Err(self.beyond()),
+            None => Err(beyond(self.operand)),
         }
     }
 
@@ -293,7 +285,7 @@ impl<'a> Expression<'a> {
         let base = self.base_of(rest, number, decimal)?;
         match shifted_number(number.digits, base, number.shift) {
             Some(value) => Ok((Value::new(value, 0), number.rest)),
-            None => Err(self.beyond()),
+            None => Err(beyond(self.operand)),
         }
     }
 
@@ -364,9 +356,17 @@ impl<'a> Expression<'a> {
         are_in_code(text.symbols, self.part(rest, 0).first)?;
         match text.number(text.count) {
             Some(number) => Ok((Value::new(number, 0), tail(self.text, text.end))),
-            None => Err(self.beyond()),
+            None => Err(beyond(self.operand)),
         }
     }
+}
+
+/// Returns that a number is too great to be worked out here.
+pub fn beyond(operand: Field) -> Stop
+    ensures { is_fault result ≡ false }
+{
+    let fault = Fault::new(Wording::NotTakenYet).part(operand);
+    Stop::Ends(operand.first, fault)
 }
 
 /// Returns whether a text begins with an operator of products, and whether it is that of a quotient.
