@@ -176,14 +176,14 @@ class Searches(Case):
             choose = random.Random(seed)
             lines = [line for line in lines_of(seed) if re.match(r"(SET|STEP|DEADSTART)\b", line) and self.accepted(line)]
             conditions = [condition_of(choose) for _ in range(8)]
-            sessions.append({"lines": lines, "conditions": [text for text, _ in conditions]})
+            sessions.append({"lines": lines, "conditions": [text for text, _ in conditions], "most": 1})
             wanted.append([self.found(lines, forms) for _, forms in conditions])
         about = self.file(json.dumps({**page.tables(), **page.options(arguments("").parse_args([])), "labels": {}}))
         found = [json.loads(line) for line in in_node("film_searches.js", MODULE, about, self.file(json.dumps(sessions)))]
         for session, own, others in zip(sessions, wanted, found):
             for text, one, other in zip(session["conditions"], own, others):
                 self.assertEqual(one, other, (text, session["lines"]))
-        self.assertGreater(sum(one != [None, None] for own in wanted for one in own), count)
+        self.assertGreater(sum(one != [[None], None] for own in wanted for one in own), count)
 
     @staticmethod
     def accepted(line):
@@ -203,7 +203,7 @@ class Searches(Case):
                 engine.answers(f"{line}\n" if kind != "STEP" else f"STEP {count - made:o}\n")
             at += count
         undone = engine.back_until(forms)
-        return [first, at - undone if undone else None]
+        return [[first], at - undone if undone else None]
 
 
 # ---- the assembler

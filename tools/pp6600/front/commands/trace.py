@@ -60,9 +60,9 @@ class Tracer:
     def begin(self, turn: Turn) -> str:
         """Returns the number of a turn, and what its processor was about to do."""
         before = turn.processor
-        second = "    " if before.second is None else f"{before.second:04o}"
-        return (f"TURN {turn.turn:o} PP {turn.slot:02o} P {self.symbols.beside(turn.slot, before.p)} {before.words[0]:04o} {second} "
-                f"{before.name} A {before.a:06o}")
+        second, address = "    " if before.second is None else f"{before.second:04o}", self.symbols.beside(turn.slot, before.p)
+        return (f"TURN {turn.turn:o} PP {turn.slot:02o} P {address} {before.words[0]:04o} {second} {before.name} "
+                f"A {before.a:06o}")
 
     def wait(self, turn: Turn) -> str:
         """Returns whether a turn was a wait, and which device rejected its code."""

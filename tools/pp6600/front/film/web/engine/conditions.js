@@ -1,41 +1,14 @@
-// ---- conditions on the machine, as P 0 = 105 and PP 3 waits: how the library finds the turns in which they come to hold
+// ---- conditions on the machine, as P 0 = 105 and PP 3 waits: how the turns are found in which they come to hold
 
-import { CELLS, PROCESSORS, octal, register } from "../machine/places.js";
+import { CELLS, octal, register } from "../machine/places.js";
 import { testsIn } from "./condition_texts.js";
 import { FORM } from "./library.mjs";
 
 const { CHANGES, WRITES, WAITS, OR } = FORM;
 const MOST_ALTERNATIVES = 0o100;
-const FAR = 64; // actions among which is the latest turn of each processor
-const RJM = 2, IN_BLOCK = 3; // an instruction, and the kind of a turn
-
-// ---- what the library does not judge
-
-// The processors whose latest turn was a wait: it has not even written P.
-function waiting(session) {
-  const count = Math.min(session.counts().kept, FAR), found = new Set();
-  session.back(count);
-  const { made, olds } = session.turns(count, FAR, 128 * FAR, "again");
-  for (let at = 0, old = 0; at < made.length; at += 2) {
-    const n = made[at], places = olds.subarray(2 * old, 2 * (old += made[at + 1])).filter((_, index) => index % 2 === 0);
-    if (n < PROCESSORS) found[places.includes(BigInt(register(n, 0))) ? "delete" : "add"](n);
-  }
-  return found;
-}
-
-// Notes the calls of subroutines. Returns a function that says after each turn of a processor whether a subroutine has returned to
-// another address than was stored.
-function returnsOf({ n, entries }) {
-  const stored = new Map(); // the return addresses by the jumps back, each of which is two before the first instruction
-  return (session) => {
-    session.back(1);
-    const [, address, word, kind] = session.recorded(1).made;
-    const now = Number(session.numbers(register(n, 0), 1)[0]), jump = now - 2, wanted = stored.get(address);
-    if (kind === IN_BLOCK) return false;
-    if (word >> 6 === RJM && entries.includes(jump) && now !== address) stored.set(jump, (address + 2) % CELLS);
-    return stored.delete(address) && wanted !== now;
-  };
-}
+const LJM = 1, RJM = 2, WAITED = 1, IN_BLOCK = 3; // instructions, and kinds of turns
+const waitOf = (n) => ({ kind: WAITS, place: n }), moveOf = (n) => ({ kind: WRITES, place: register(n, 0), first: 1 });
+const isOther = ({ kind, entries }) => kind !== WAITS && !entries;
 
 // Whether forms come to hold in the latest turn, which is made again.
 function comesInLatest(session, forms) {
@@ -43,30 +16,127 @@ function comesInLatest(session, forms) {
   return session.until(forms, 1).found;
 }
 
-// An alternative is forms that the library judges, and perhaps what else must be so then. Several processors wait together if the
-// latest turn of each was a wait.
-function alternativesOf(tests) {
-  const [returns] = tests.filter((one) => one.entries), others = tests.filter(({ kind }) => kind !== undefined && kind !== WAITS);
-  const waits = tests.filter(({ kind }) => kind === WAITS).map(({ place }) => place);
-  const allWait = (session) => waits.every(Set.prototype.has, waiting(session));
-  if (!returns && waits.length < 2) return [{ forms: tests }];
-  if (!returns) return waits.map((n) => ({ forms: [{ kind: WAITS, place: n }, ...others], also: allWait }));
-  const forms = [{ kind: WRITES, place: register(returns.n, 0), first: 1 }], isWrong = returnsOf(returns);
-  return [{ forms, also: (session) => isWrong(session) && comesInLatest(session, [...forms, ...others]) && allWait(session) }];
+// The latest turn, which is made again: its processor, the code of its instruction, and its kind.
+function latestTurn(session) {
+  session.back(1);
+  const [n, , word, kind] = session.recorded(1).made;
+  return { n, code: word >> 6, kind };
+}
+
+// ---- the alternatives of a condition, as tools/pp6600/run judges them: by lists of forms the library finds the turns that one must
+// see, and of each it says whether it holds there
+
+// Tests that the library judges alone.
+class ByTurn {
+  most = 1;
+  constructor(tests) { this.lists = [tests]; }
+  begin() {}
+  see(session) { return comesInLatest(session, this.lists[0]); }
+}
+
+// Processors, and those of them that wait: the latest turn of each was a wait. A setting is no turn.
+class Waits {
+  waiting = new Set();
+  constructor(tests) { this.numbers = new Set(tests.filter(({ kind }) => kind === WAITS).map(({ place }) => place)); }
+  get areAll() { return this.waiting.size === this.numbers.size; }
+  get lists() { return [...this.numbers].map((n) => [this.waiting.has(n) ? moveOf(n) : waitOf(n)]); }
+  see({ n, kind }) { if (this.numbers.has(n)) this.waiting[kind === WAITED ? "add" : "delete"](n); }
+}
+
+// Processors that wait while other tests hold. A wait that goes on is found in each of its turns.
+class Together {
+  constructor(tests) {
+    Object.assign(this, { waits: new Waits(tests), others: tests.filter(isOther) });
+    this.most = 2 * this.waits.numbers.size + 1;
+  }
+
+  get lists() {
+    const { waits, others } = this, goOn = [...waits.numbers].map((n) => [waitOf(n), ...others]);
+    return [...waits.lists, ...(waits.areAll ? [...goOn, ...(others.length ? [others] : [])] : [])];
+  }
+
+  begin() {}
+
+  see(session, turn) {
+    const { waits, others } = this, forms = waits.numbers.has(turn.n) ? [waitOf(turn.n), ...others] : others;
+    waits.see(turn);
+    return waits.areAll && forms.length > 0 && comesInLatest(session, forms);
+  }
+}
+
+// A subroutine that returns wrongly while other tests hold. No turn has two returns.
+class Returns {
+  constructor(tests) {
+    const [first, ...more] = tests.filter(({ entries }) => entries);
+    Object.assign(this, { calls: new Calls(first), waits: new Waits(tests), isNever: more.length > 0 });
+    this.forms = [moveOf(first.n), ...tests.filter(isOther)];
+    this.most = 1 + this.waits.numbers.size;
+  }
+
+  get lists() { return [this.forms.slice(0, 1), ...this.waits.lists]; }
+  begin(session) { this.calls.begin(session); }
+
+  see(session, turn) {
+    this.waits.see(turn);
+    const isWrong = this.calls.see(session, turn);
+    return isWrong && !this.isNever && this.waits.areAll && comesInLatest(session, this.forms);
+  }
+}
+
+// The calls of a processor that have not returned, the innermost last. A jump back is two cells, of which the second is the return word;
+// entries has their addresses.
+class Calls {
+  calls = [];
+  constructor({ n, entries }) { Object.assign(this, { n, jumps: entries }); }
+
+  // Sees where P is, which a setting may have changed.
+  begin(session) {
+    const [p, phase] = [0, 3].map((index) => Number(session.numbers(register(this.n, index), 1)[0]));
+    Object.assign(this, { p, isAtJump: !phase && this.jumps.includes(p) });
+  }
+
+  // Sees a turn. Returns whether what was performed in the place of a jump back has led elsewhere than its call had stored.
+  see(session, { n, code, kind }) {
+    if (n !== this.n || kind === WAITED) return false;
+    const { p, isAtJump, calls } = this;
+    this.begin(session);
+    const jump = (this.p - 2 + CELLS) % CELLS;
+    if (code === RJM && kind !== IN_BLOCK && this.jumps.includes(jump)) calls.push({ jump, returns: (p + 2) % CELLS, isAstray: false });
+    return isAtJump && this.hasLeft(p, code === LJM);
+  }
+
+  // The jump back ends the innermost call of its subroutine, and those above it; another instruction there leads it astray, once.
+  hasLeft(jump, isBack) {
+    const at = this.calls.findLastIndex((call) => call.jump === jump), call = this.calls[at];
+    if (!call || (!isBack && call.isAstray)) return false;
+    if (isBack) this.calls.length = at;
+    call.isAstray = true;
+    return this.p !== call.returns;
+  }
+}
+
+function alternativeOf(tests) {
+  const Kind = tests.some(({ entries }) => entries) ? Returns : tests.length > 1 && !tests.every(isOther) ? Together : ByTurn;
+  return new Kind(tests);
 }
 
 // A condition is one of several lists of tests, which hold together.
 export class Condition {
   constructor(lists) {
-    this.alternatives = lists.flatMap(alternativesOf);
-    const isTooLong = this.alternatives.length > MOST_ALTERNATIVES;
+    this.alternatives = lists.map(alternativeOf);
+    const isTooLong = this.alternatives.reduce((sum, { most }) => sum + most, 0) > MOST_ALTERNATIVES;
     if (isTooLong) throw new Error(`at most ${octal(MOST_ALTERNATIVES)} conditions are joined by or`);
-    this.forms = this.alternatives.flatMap(({ forms }, at) => (at ? [{ kind: OR }, ...forms] : forms));
-    this.isOfLibrary = this.alternatives.every(({ also }) => !also);
+    this.isOfLibrary = this.alternatives.every((one) => one instanceof ByTurn);
+    this.remembers = this.alternatives.some((one) => one instanceof Returns); // what came before, so that it must see all turns
+  }
+
+  get forms() {
+    return this.alternatives.flatMap(({ lists }) => lists).flatMap((forms, at) => (at ? [{ kind: OR }, ...forms] : forms));
   }
 
   // Makes turns of a session, at most so many, up to the first in which it comes to hold. Returns how many, and whether it does.
   next(session, most) {
+    for (const one of this.alternatives) one.begin(session);
     for (let count = 0; ;) {
       const { turns, found } = session.until(this.forms, most - count);
       count += turns;
@@ -76,7 +146,8 @@ export class Condition {
   }
 
   isRight(session) {
-    return this.alternatives.filter(({ forms, also }) => comesInLatest(session, forms) && (!also || also(session))).length > 0;
+    const turn = latestTurn(session);
+    return this.alternatives.filter((one) => one.see(session, turn)).length > 0; // each sees it
   }
 }
 

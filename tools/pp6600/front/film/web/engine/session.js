@@ -1,9 +1,10 @@
 // ---- sessions of the simulator over the actions of a run: one in which lines are performed and recorded, and others in which one
 // searches
 
-import { layout, octal, two, watchesIn } from "../machine/places.js";
+import { PROCESSORS, layout, octal, two, watchesIn } from "../machine/places.js";
 import { JUMP, SKIP } from "../machine/moments.js";
-import { LONGEST_ANSWER, MOST_TURNS, actionsIn, linesIn, moveBy, partsBetween, turnsIn, wordsIn } from "../machine/lines.js";
+import { LONGEST_ANSWER, MOST_TURNS, actionsIn, linesIn, moveBy, partsBetween, turnsBefore, turnsIn,
+  wordsIn } from "../machine/lines.js";
 import { changes } from "./conditions.js";
 import { Recorder } from "./recorder.js";
 import { MOST_AT_ONCE, ask, sessionOf, stepped } from "./stepping.js";
@@ -47,9 +48,10 @@ export class Searcher {
   }
 
   // After how many actions a condition first comes to hold, in a turn from a position on, or null; and up to where one has looked.
-  // What the library does not judge depends on turns before: a return is wrong if its call stored another address.
+  // After a round it is known who waits. A return is wrong if its call stored another address, so all calls are seen.
   async firstOf(condition, from) {
-    const begin = condition.isOfLibrary ? from : 0, session = await this.sessionAt(begin);
+    const begin = condition.isOfLibrary ? from : condition.remembers ? 0 : turnsBefore(this.parts, from, PROCESSORS);
+    const session = await this.sessionAt(begin);
     let at = begin, found = null;
     const make = (left) => condition.next(session, Math.min(left, MOST_AT_ONCE));
     await this.replay(session, partsBetween(this.parts, begin, Infinity), make, ({ count, isFound }) => {

@@ -36,6 +36,17 @@ export function partsBetween(parts, from, to) {
   });
 }
 
+// The position so many turns before another one, or 0.
+export function turnsBefore(parts, position, turns) {
+  let at = position, left = turns;
+  for (const part of partsBetween(parts, 0, position).reverse()) {
+    const passed = isTurns(part) ? Math.min(part, left) : 1;
+    if (left) at -= passed;
+    left -= isTurns(part) ? passed : 0;
+  }
+  return at;
+}
+
 // The places that a SET or a DEADSTART writes, each with the number of its word in the line; at a dead start that of the panel's
 // word, or 0.
 export function placesOfSetting([command, kind, ...words]) {
