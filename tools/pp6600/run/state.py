@@ -160,5 +160,7 @@ def central_of(console: Console) -> Sequence[int]:
 
 def central_differences(one: Sequence[int], other: Sequence[int]) -> List[Difference]:
     """Returns the differences of the central words of two machines."""
+    if one == other:
+        return []
     differ = [at for at, (first, second) in enumerate(zip(one, other), flat.CENTRAL) if first != second]
     return differences(differ, *({at: words[at - flat.CENTRAL] for at in differ} for words in (one, other)))
