@@ -23,64 +23,15 @@ function latestTurn(session) {
   return { n, code: word >> 6, kind };
 }
 
-// ---- the alternatives of a condition, as tools/pp6600/run judges them: by lists of forms the library finds the turns that one must
-// see, and of each it says whether it holds there
+// ---- the alternatives of a condition, as tools/pp6600/run judges them
 
-// Tests that the library judges alone.
-class ByTurn {
-  most = 1;
-  constructor(tests) { this.lists = [tests]; }
-  begin() {}
-  see(session) { return comesInLatest(session, this.lists[0]); }
-}
-
-// Processors, and those of them that wait: the latest turn of each was a wait. A setting is no turn.
+// Of some tests the processors that are to wait, and those of them that do: the latest turn of each was a wait. A setting is no turn.
 class Waits {
   waiting = new Set();
   constructor(tests) { this.numbers = new Set(tests.filter(({ kind }) => kind === WAITS).map(({ place }) => place)); }
   get areAll() { return this.waiting.size === this.numbers.size; }
   get lists() { return [...this.numbers].map((n) => [this.waiting.has(n) ? moveOf(n) : waitOf(n)]); }
   see({ n, kind }) { if (this.numbers.has(n)) this.waiting[kind === WAITED ? "add" : "delete"](n); }
-}
-
-// Processors that wait while other tests hold. A wait that goes on is found in each of its turns.
-class Together {
-  constructor(tests) {
-    Object.assign(this, { waits: new Waits(tests), others: tests.filter(isOther) });
-    this.most = 2 * this.waits.numbers.size + 1;
-  }
-
-  get lists() {
-    const { waits, others } = this, goOn = [...waits.numbers].map((n) => [waitOf(n), ...others]);
-    return [...waits.lists, ...(waits.areAll ? [...goOn, ...(others.length ? [others] : [])] : [])];
-  }
-
-  begin() {}
-
-  see(session, turn) {
-    const { waits, others } = this, forms = waits.numbers.has(turn.n) ? [waitOf(turn.n), ...others] : others;
-    waits.see(turn);
-    return waits.areAll && forms.length > 0 && comesInLatest(session, forms);
-  }
-}
-
-// A subroutine that returns wrongly while other tests hold. No turn has two returns.
-class Returns {
-  constructor(tests) {
-    const [first, ...more] = tests.filter(({ entries }) => entries);
-    Object.assign(this, { calls: new Calls(first), waits: new Waits(tests), isNever: more.length > 0 });
-    this.forms = [moveOf(first.n), ...tests.filter(isOther)];
-    this.most = 1 + this.waits.numbers.size;
-  }
-
-  get lists() { return [this.forms.slice(0, 1), ...this.waits.lists]; }
-  begin(session) { this.calls.begin(session); }
-
-  see(session, turn) {
-    this.waits.see(turn);
-    const isWrong = this.calls.see(session, turn);
-    return isWrong && !this.isNever && this.waits.areAll && comesInLatest(session, this.forms);
-  }
 }
 
 // The calls of a processor that have not returned, the innermost last. A jump back is two cells, of which the second is the return word;
@@ -115,19 +66,38 @@ class Calls {
   }
 }
 
-function alternativeOf(tests) {
-  const Kind = tests.some(({ entries }) => entries) ? Returns : tests.length > 1 && !tests.every(isOther) ? Together : ByTurn;
-  return new Kind(tests);
+// Tests that hold together. By lists of forms the library finds the turns that it must see, and of each it says whether they hold there.
+class Alternative {
+  constructor(tests) {
+    const [returns, ...more] = tests.filter(({ entries }) => entries), others = tests.filter(isOther), waits = new Waits(tests);
+    Object.assign(this, { tests, others, waits, calls: returns ? new Calls(returns) : null, isNever: more.length > 0 }); // in one turn
+    this.isOfLibrary = !returns && (tests.length === 1 || others.length === tests.length);
+    this.most = this.isOfLibrary ? 1 : 2 * waits.numbers.size + 1;
+  }
+
+  // A wait that goes on is found in each of its turns.
+  get lists() {
+    const { tests, isOfLibrary, others, waits, calls } = this, goOn = [...waits.numbers].map((n) => [waitOf(n), ...others]);
+    if (isOfLibrary) return [tests];
+    return [...waits.lists, ...(calls ? [[moveOf(calls.n)]] : waits.areAll ? [...goOn, others].filter(({ length }) => length) : [])];
+  }
+
+  see(session, turn) {
+    const { others, waits, calls } = this, hasReturned = !calls || calls.see(session, turn);
+    waits.see(turn);
+    const own = calls ? [moveOf(calls.n)] : waits.numbers.has(turn.n) ? [waitOf(turn.n)] : [], forms = [...own, ...others];
+    return hasReturned && !this.isNever && waits.areAll && forms.length > 0 && comesInLatest(session, forms);
+  }
 }
 
 // A condition is one of several lists of tests, which hold together.
 export class Condition {
   constructor(lists) {
-    this.alternatives = lists.map(alternativeOf);
+    this.alternatives = lists.map((tests) => new Alternative(tests));
     const isTooLong = this.alternatives.reduce((sum, { most }) => sum + most, 0) > MOST_ALTERNATIVES;
     if (isTooLong) throw new Error(`at most ${octal(MOST_ALTERNATIVES)} conditions are joined by or`);
-    this.isOfLibrary = this.alternatives.every((one) => one instanceof ByTurn);
-    this.remembers = this.alternatives.some((one) => one instanceof Returns); // what came before, so that it must see all turns
+    this.isOfLibrary = this.alternatives.every(({ isOfLibrary }) => isOfLibrary);
+    this.remembers = this.alternatives.some(({ calls }) => calls); // what came before, so that it must see all turns
   }
 
   get forms() {
@@ -136,7 +106,7 @@ export class Condition {
 
   // Makes turns of a session, at most so many, up to the first in which it comes to hold. Returns how many, and whether it does.
   next(session, most) {
-    for (const one of this.alternatives) one.begin(session);
+    for (const { calls } of this.alternatives) calls?.begin(session);
     for (let count = 0; ;) {
       const { turns, found } = session.until(this.forms, most - count);
       count += turns;
