@@ -5,9 +5,8 @@ import { instructionsOf, openLibrary } from "../tools/pp6600/front/film/web/engi
 import { Session } from "../tools/pp6600/front/film/web/engine/session.js";
 import { Film } from "../tools/pp6600/front/film/web/machine/film.js";
 import { placesOfSetting, wordsIn } from "../tools/pp6600/front/film/web/machine/lines.js";
-import { LINE } from "../tools/pp6600/front/film/web/machine/moments.js";
 import { columnOf, constantText } from "../tools/pp6600/front/film/web/machine/origins.js";
-import { isUpper, isWord, layout, upperOf, wordOfUpper } from "../tools/pp6600/front/film/web/machine/places.js";
+import { LINE, isUpper, isWord, layout, upperOf, wordOfUpper } from "../tools/pp6600/front/film/web/machine/places.js";
 import { lineText } from "../tools/pp6600/front/film/web/machine/words.js";
 
 const fs = require("fs"), [, , module_, about, sessions] = process.argv, CONTROL = { pause: async () => {}, isStopped: () => false };

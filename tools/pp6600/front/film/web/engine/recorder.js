@@ -1,8 +1,8 @@
 // ---- a session with its numbers: what the page gets of each action is a moment with the places that it changed, and of a turn the
 // links by which its numbers come from others
 
-import { CELLS, HALF, REGISTERS, WATCHES, isWord, layout, setLayout, upperOf } from "../machine/places.js";
-import { BLOCK, BUSY, IDLE, LINE, ROWS, WAITING } from "../machine/moments.js";
+import { BLOCK, BUSY, CELLS, HALF, IDLE, LINE, REGISTERS, ROWS, WAITING, WATCHES, isWord, layout, setLayout,
+  upperOf } from "../machine/places.js";
 import { FORM } from "../machine/turns.js";
 import { AFTER, packed } from "../machine/written.js";
 import { STATUS } from "./library.mjs";

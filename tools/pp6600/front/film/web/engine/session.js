@@ -1,8 +1,7 @@
 // ---- sessions of the simulator over the actions of a run: one in which lines are performed and recorded, and others in which one
 // searches
 
-import { PROCESSORS, layout, octal, two, watchesIn } from "../machine/places.js";
-import { JUMP, SKIP } from "../machine/moments.js";
+import { JUMP, PROCESSORS, SKIP, layout, octal, two, watchesIn } from "../machine/places.js";
 import { LONGEST_ANSWER, MOST_TURNS, actionsIn, linesIn, moveBy, partsBetween, turnsBefore, turnsIn,
   wordsIn } from "../machine/lines.js";
 import { changes } from "./conditions.js";

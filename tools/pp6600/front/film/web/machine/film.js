@@ -1,9 +1,8 @@
 // ---- a film: the numbers of the machine are one row, and each moment has the places that it changed with their numbers before and
 // after. Going to and fro computes no turn. Moments come from the worker, at the end.
 
-import { CELLS, CHANNELS, CLOCK, KINDS, PROCESSORS, isCentral, isFrame, isUpper, layout, nameOf, octal, placeAt, placeIn,
-  placeOf, range, setLayout, watchesIn, wordOfUpper } from "./places.js";
-import { BLOCK, BUSY, IDLE, JUMP, LINE, ROWS, SKIP, WAITING, firstNot } from "./moments.js";
+import { BLOCK, BUSY, CELLS, CHANNELS, CLOCK, IDLE, JUMP, KINDS, LINE, PROCESSORS, ROWS, SKIP, WAITING, firstNot, isCentral,
+  isFrame, isUpper, layout, nameOf, octal, placeAt, placeIn, placeOf, range, setLayout, watchesIn, wordOfUpper } from "./places.js";
 import { growSources, sourcesOf } from "./sources.js";
 import { Turn } from "./turns.js";
 import { writesIn } from "./written.js";

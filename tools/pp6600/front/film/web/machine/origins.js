@@ -1,7 +1,6 @@
 // ---- where a number came from: the steps by which it came to be in its place, from the writes of the moments of a film
 
-import { four, isWord, layout, nameOf, octal, placeAt, range, two } from "./places.js";
-import { LINE, SKIP } from "./moments.js";
+import { LINE, SKIP, four, isWord, layout, nameOf, octal, placeAt, range, two } from "./places.js";
 import { placesOfSetting, wordsIn } from "./lines.js";
 import { placeIn } from "./written.js";
 import { NOT_RECORDED } from "./film.js";

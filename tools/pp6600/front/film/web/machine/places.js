@@ -94,3 +94,27 @@ export function watchesIn(numbers) {
     return kind === "M" ? rest : placeOf(kind, rest); // the rest of a cell's code is its place
   });
 }
+
+// ---- moments
+
+// The kinds of a moment: what a processor did in a turn; another action; a BACK or FORWARD; turns that were not recorded.
+export const IDLE = 0, WAITING = 1, BUSY = 2, BLOCK = 3, LINE = 4, JUMP = 5, SKIP = 6;
+
+// What the page gets of the moments: the kind, and how many actions and turns are in effect after it; of a turn its processor;
+// where its changes begin, each a place with the numbers before and after; and where its links begin, each two numbers. In what the
+// recorder delivers the starts are those of the next moment.
+export const ROWS = {
+  kinds: Uint8Array, position: Int32Array, turn: Int32Array, processor: Uint8Array, starts: Uint32Array, places: Int32Array,
+  was: Int32Array, now: Int32Array, linkStarts: Uint32Array, links: Int32Array,
+};
+
+// Returns the first of so many numbers from 0 on for which something no longer holds; it holds for all before.
+export function firstNot(count, holds) {
+  let low = 0, high = count;
+  while (low < high) {
+    const middle = (low + high) >> 1;
+    if (holds(middle)) low = middle + 1;
+    else high = middle;
+  }
+  return low;
+}

@@ -1,8 +1,7 @@
 // ---- the sources of processors: whose line a cell is, where the processor is, when each line was performed, and what has been
 // overwritten
 
-import { CELLS } from "./places.js";
-import { LINE, SKIP, WAITING } from "./moments.js";
+import { CELLS, LINE, SKIP, WAITING } from "./places.js";
 
 const NO_LINE = { number: 0, note: "" }, WHOLE = { text: "", address: null };
 

@@ -1,7 +1,6 @@
 // ---- what happened, in words
 
-import { CLOCK, layout, octal, placeAt, two, four } from "./places.js";
-import { JUMP, LINE, SKIP, WAITING } from "./moments.js";
+import { CLOCK, JUMP, LINE, SKIP, WAITING, four, layout, octal, placeAt, two } from "./places.js";
 import { wordsIn } from "./lines.js";
 import { NOT_RECORDED } from "./film.js";
 import { lineOfMoment } from "./sources.js";

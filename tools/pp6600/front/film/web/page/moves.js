@@ -1,8 +1,7 @@
 // ---- to and fro: what the keys of the table do. To go where the film has moments is a look; at its end turns are made
 
-import { PROCESSORS, SETTABLE, octal, octalIn } from "../machine/places.js";
+import { PROCESSORS, SETTABLE, SKIP, octal, octalIn } from "../machine/places.js";
 import { countUpTo } from "../machine/film.js";
-import { SKIP } from "../machine/moments.js";
 import { hasOrigin, originLines } from "../machine/origins.js";
 import { lineOfNext } from "../machine/sources.js";
 import { changesAround, choose, chooseNone, chooseProcessor, follow, formOf, placeBeside, showAs, sourceSeen,

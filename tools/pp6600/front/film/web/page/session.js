@@ -1,8 +1,7 @@
 // ---- the session of the page: its lines, what is only looked at, and the tree of branches
 
 import { LONGEST_ANSWER, UNTIL, moveBy, ofLines, scriptOf, stepsOf, wordsIn } from "../machine/lines.js";
-import { octal } from "../machine/places.js";
-import { JUMP, LINE } from "../machine/moments.js";
+import { JUMP, LINE, octal } from "../machine/places.js";
 import { Film, NOT_RECORDED } from "../machine/film.js";
 import { changeFound, foundBy, latestChange, nextText } from "../machine/words.js";
 import { NOTE, answerShown } from "./answer.js";

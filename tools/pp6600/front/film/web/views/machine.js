@@ -1,8 +1,7 @@
 // ---- the processors, the channels, central memory and the exchange package
 
 import { h, classes } from "../page/dom.js";
-import { CHANNELS, CLOCK, octal, range, two } from "../machine/places.js";
-import { WAITING } from "../machine/moments.js";
+import { CHANNELS, CLOCK, WAITING, octal, range, two } from "../machine/places.js";
 import { deviceOf, meaningOf } from "../machine/words.js";
 import { isQuiet } from "../machine/film.js";
 import { boxPane, namesOf, number } from "./parts.js";

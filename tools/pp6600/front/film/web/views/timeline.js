@@ -2,8 +2,7 @@
 
 import { h, keeper } from "../page/dom.js";
 import { scaleOf } from "../page/room.js";
-import { nameOf, octal, range, two } from "../machine/places.js";
-import { JUMP, SKIP, WAITING, firstNot } from "../machine/moments.js";
+import { JUMP, SKIP, WAITING, firstNot, nameOf, octal, range, two } from "../machine/places.js";
 import { isQuiet } from "../machine/film.js";
 import { isOfDevice } from "../machine/origins.js";
 import { namesOf, select } from "./parts.js";
