@@ -57,14 +57,15 @@ console.registers("0")
         self.assertEqual(0, done.status, done.out)
 
     def test_launchers(self):
-        """Each tool is a copy of the launcher, is a script of the package, and has a module. What makes is a link to it, and what
-        measures a copy."""
+        """Each tool is a copy of the launcher, is a script of the package, and has a module. What makes and what measures is a copy too,
+        and no link: the kit's gate takes none."""
         names = [name for name in os.listdir(TOOLS) if "." not in name and os.path.isfile(os.path.join(TOOLS, name))]
         for name in names:
             self.assertEqual(read("share", "launcher"), read(TOOLS, name), name)
         for path in glob.glob(os.path.join(TOP, "*", "scripts", "[!_]*.py")):
             folder, name = os.path.split(path)
-            self.assertEqual(read("share", "launcher"), read(os.path.dirname(folder), name[:-len(".py")]), name)
+            command = os.path.join(os.path.dirname(folder), name[:-len(".py")])
+            self.assertEqual((read("share", "launcher"), False), (read(command), os.path.islink(command)), name)
         scripts = re.findall(r'^pp6600-(\S+) = "pp6600_commands:launch"$', read("pyproject.toml"), re.M)
         self.assertEqual(sorted([*names, "python"]), sorted(scripts))
         self.assertEqual(sorted(names), sorted(MODULES))
