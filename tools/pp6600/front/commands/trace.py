@@ -5,7 +5,7 @@ from __future__ import annotations
 import re
 from array import array
 from itertools import takewhile
-from typing import Any, Callable, Container, Iterable, Iterator, List, Optional
+from typing import Any, Callable, Container, Iterable, Iterator, List, Optional, Set
 
 from ...devices.options import DEVICE_OPTIONS, replayed
 from ...engine import interface as flat
@@ -28,6 +28,8 @@ completed an instruction on it, or in which it changed, by a processor, a device
 state and register are shown in place of Q and the phase, and WORD LOST if the turn disconnected a full channel, or WORD LEFT if
 a block of input has ended and the channel is still full. With --symbols an address has its label after it, and the listing's own
 text is at the end of the line."""
+
+SAME = re.compile(r"(.)\1*", re.DOTALL)  # numbers in a row that are the same
 
 
 class Tracer:
@@ -102,8 +104,8 @@ class Touches:
 
     def __init__(self, run: Session, channel: int, processors: Container[int], progress: Progress) -> None:
         self.run, self.channel, self.processors, self.progress = run, channel, processors, progress
-        self.uses = re.compile(f"[{''.join(chr(code << 6 | channel) for code in CHANNEL_CODES)}]")
-        self.jumps = {code << 6 | channel for code in CHANNEL_JUMPS}
+        self.uses, self.jumps = (re.compile(f"[{''.join(chr(code << 6 | channel) for code in codes)}]")
+                                 for codes in (CHANNEL_CODES, CHANNEL_JUMPS))
         self.has_device = channel in (run.reader_channel, run.printer_channel)
         self.writes = TurnFinder([[is_written(first + channel)] for first in (flat.STATES, flat.REGISTERS)])
 
@@ -121,15 +123,23 @@ class Touches:
         run.goto(begin)
         columns, _ = run.engine.columns(size)
         run.performed(size)
-        p, phase, word, last = columns.p, columns.phase, columns.word, size - PROCESSORS
-        used = (match.start() for column in (word, phase) for match in self.uses.finditer(text_of(column)))
-        found = {at for at in used if at >= last or p[at] != p[at + PROCESSORS] or phase[at] != phase[at + PROCESSORS]
-                 or word[at] in self.jumps}
+        p, phase, word = map(text_of, (columns.p, columns.phase, columns.word))
+        found = {offset + PROCESSORS * at for offset in range(PROCESSORS)
+                 for at in self.completed(*(column[offset::PROCESSORS] for column in (p, phase, word)))}
         if self.has_device:
             found.update(position - begin for position, _ in Search(run, [self.writes]).in_row(self.writes, begin, end))
         elif self.channel == CLOCK:  # which goes on with the last processor's turn
             found.update(range((PROCESSORS - 1 - columns.processor[0]) % PROCESSORS, size, PROCESSORS))
         return [Position(begin + at) for at in sorted(found) if columns.processor[at] in self.processors]
+
+    def completed(self, p: str, phase: str, word: str) -> Set[int]:
+        """Returns which turns of one processor may have completed an instruction on the channel: the last ones of a row in which it
+        stays where it is, and jumps, which may lead to themselves."""
+        if not any(map(self.uses.search, (word, phase))):
+            return set()
+        ends = {row.end() - 1 for column in (p, phase) for row in SAME.finditer(column)}
+        return {at for at in ends if self.uses.match(word, at) or self.uses.match(phase, at)}.union(
+            jump.start() for jump in self.jumps.finditer(word))
 
 
 def text_of(column: array[int]) -> str:
